@@ -1,0 +1,13 @@
+pub mod Pattern
+pub mod Ticks
+pub mod Prefix
+pub mod Bound
+pub mod Walk
+pub mod Rows
+pub mod Gap
+pub mod Levels
+pub mod Round
+pub mod Depths
+pub mod First
+pub mod Literal
+pub mod Least

@@ -1,0 +1,103 @@
+-- Document 01, 'Device rows': the letters, the legal rows, their energy, the row of least energy, and the rule for gaps.
+-- The declared `Device` has the fields t, pw, ps and p0: the document's T, Pw, Ps and P0.
+-- Assumes nothing.
+use mathlib.Core.Path.{_≡_}
+use mathlib.Core.Bool.{Bool, true, false, cond}
+use mathlib.Core.List.{List, [], _∷_, _++_}
+use Prim.Native.Nat.{ℕ, zero, suc, _+_, _-_, _≤_, _<_}
+use lib.Dec.{leb}
+use lib.ListN.{replicate}
+use Rattle.base.specs.Sums.{total}
+use Rattle.device.specs.declared.Device.{Device}
+
+-- 'Quantities': T is at least 1, and Ps < P0 < Pw. (The upper ends of the ranges are those of the file's fields.)
+pub record Sound (d : Device) : Type 0 where
+  pub moves : 1 ≤ d .t
+  pub sleeps-cheaper : d .ps < d .p0
+  pub works-dearer : d .p0 < d .pw
+
+-- 'A row has one letter for each tick': working, going down, asleep, coming up.
+pub data Letter : Type 0 where
+  W D S U : Letter
+
+-- The byte that stands for a letter: its ASCII code.
+abbrev pub byteOf : Letter → ℕ
+byteOf W = 87
+byteOf D = 68
+byteOf S = 83
+byteOf U = 85
+
+-- Where a device is between two ticks. A number is the ticks left of a move.
+pub data State : Type 0 where
+  working : State
+  down : ℕ → State
+  asleep : State
+  up : ℕ → State
+
+-- `Step d s x s′`: from s, a tick of letter x leads to s′. 'D comes in blocks of exactly T ticks entered from working (shuts, falls) and followed by asleep
+-- or by U (rests, turns); S is entered only from D or S and followed by S or U (sleeps, wakes); U comes in blocks of exactly T ticks entered only from D or
+-- S (turns, wakes, rises) and followed by working (resumes).'
+pub data Step (d : Device) : State → Letter → State → Type 0 where
+  works : Step d working W working
+  shuts : {n : ℕ} → suc n ≡ d .t → Step d working D (down n)
+  falls : {n : ℕ} → Step d (down (suc n)) D (down n)
+  rests : Step d (down 0) S asleep
+  turns : {n : ℕ} → suc n ≡ d .t → Step d (down 0) U (up n)
+  sleeps : Step d asleep S asleep
+  wakes : {n : ℕ} → suc n ≡ d .t → Step d asleep U (up n)
+  rises : {n : ℕ} → Step d (up (suc n)) U (up n)
+  resumes : Step d (up 0) W working
+
+-- 'The device works just after the last tick': it did in the last tick, or has come up in it.
+pub data Ends : State → Type 0 where
+  at-work : Ends working
+  woken : Ends (up 0)
+
+-- The row of a pattern of use, `true` for each tick of a job that uses the device: tick by tick, and 'every tick of a job that uses the device is W'.
+pub data Legal (d : Device) : State → List Bool → List Letter → Type 0 where
+  end : {s : State} → Ends s → Legal d s [] []
+  used : {s t : State} {u : List Bool} {r : List Letter} → Step d s W t → Legal d t u r → Legal d s (true ∷ u) (W ∷ r)
+  free : {s t : State} {x : Letter} {u : List Bool} {r : List Letter} → Step d s x t → Legal d t u r → Legal d s (false ∷ u) (x ∷ r)
+
+-- 'The device works just before tick 0.'
+abbrev pub LegalRow : Device → List Bool → List Letter → Type 0
+LegalRow d u r = Legal d working u r
+
+-- 'Its energy is Pw, Ps or P0 (D and U alike) summed over ticks.'
+abbrev pub power : Device → Letter → ℕ
+power d W = d .pw
+power d D = d .p0
+power d S = d .ps
+power d U = d .p0
+
+abbrev pub energy : Device → List Letter → ℕ
+energy d r = total (power d) r
+
+-- 'The row given is the legal row of least energy.'
+pub record LeastRow (d : Device) (u : List Bool) (r : List Letter) : Type 0 where
+  pub legal : LegalRow d u r
+  pub least : (r′ : List Letter) → LegalRow d u r′ → energy d r ≤ energy d r′
+
+-- 'A gap of g ticks without use is slept exactly when g ≥ 2T, as T of D, g − 2T of S, T of U', and is else worked through.
+abbrev pub gapRow : ℕ → ℕ → List Letter
+gapRow T g = cond (leb (T + T) g) (replicate T D ++ (replicate (g - (T + T)) S ++ replicate T U)) (replicate g W)
+
+-- The row that fills each gap by `fill`, where g unused ticks have gone by: 'the gaps before the first use and after the last are gaps like any other'.
+module _ {L : Type 0} (work : L) (fill : ℕ → List L) where
+  abbrev pub rowFrom : ℕ → List Bool → List L
+  rowFrom g [] = fill g
+  rowFrom g (true ∷ u) = fill g ++ work ∷ rowFrom 0 u
+  rowFrom g (false ∷ u) = rowFrom (suc g) u
+
+-- The row by the rule for gaps. proofs/Least: it is the least row, and the only one.
+abbrev pub rowOf : Device → List Bool → List Letter
+rowOf d u = rowFrom W (gapRow (d .t)) 0 u
+
+-- The least energy of a pattern of use.
+abbrev pub energyOf : Device → List Bool → ℕ
+energyOf d u = energy d (rowOf d u)
+
+-- The pattern of n ticks from tick a on, by a test on ticks.
+abbrev pub pattern : (ℕ → Bool) → ℕ → ℕ → List Bool
+pattern f a zero = []
+pattern f a (suc n) = f a ∷ pattern f (suc a) n

@@ -1,0 +1,217 @@
+-- Document 01, 'The request file' and 'Refusal numbers' 1 to 13: from a list of bytes to the recorder or to the refusal. 'The file is read left to right and
+-- the first fault decides.' Each section takes the place where it begins, and goes on with the next.
+-- Assumes nothing.
+use Prim.Native.Nat.{ℕ, zero, suc, _+_, _-_, _*_, _/_, _%_, _^_}
+use mathlib.Core.List.{List, [], _∷_, _++_}
+use mathlib.Core.Bool.{Bool, true, false, cond, not, _&&_, _||_}
+use lib.ListN.{length}
+use lib.Dec.{ltb, leb, eqb}
+use Rattle.base.specs.Bytes.{byteAt, pairAt}
+use Rattle.base.specs.Lists.{upTo, padded}
+use Rattle.base.specs.Refusals.{Refusal, _⇒_, firstThat, orElse, firstOf}
+use Rattle.device.specs.declared.Device.{Device}
+use Rattle.schedule.specs.declared.Job.{Job}
+use Rattle.schedule.specs.declared.Jobs.{Jobs}
+use Rattle.schedule.specs.declared.Devices.{Devices}
+use Rattle.schedule.specs.declared.Recorder.{Recorder}
+use Rattle.schedule.specs.Quantities.{noJob, noDevice}
+use Rattle.request.specs.declared.Request.{Request}
+use Rattle.request.specs.declared.Task.{Task}
+use Rattle.request.specs.declared.Section.{Section}
+use Rattle.request.specs.declared.Section.the-variants.{DeviceRecords, TaskRecords, JobRecords}
+use Rattle.request.specs.Euclid.{lcmOf}
+
+-- What a file is read as.
+pub data Reading : Type 0 where
+  refused : ℕ → Reading
+  accepted : Recorder → Reading
+
+-- ---- the records at a place
+
+-- 'Bit k of a device set, counted from the lowest, stands for device k.'
+abbrev pub bit : ℕ → ℕ → Bool
+bit set k = eqb (set / 2 ^ k % 2) 1
+
+abbrev pub setOf : ℕ → List Bool
+setOf set = upTo (bit set) 8
+
+-- 'Per device 7 bytes: T (1), Pw (2), Ps (2), P0 (2).'
+abbrev pub deviceAt : List ℕ → ℕ → Device
+deviceAt s at = record { t = byteAt s at; pw = pairAt s (at + 1); ps = pairAt s (at + 3); p0 = pairAt s (at + 5) }
+
+-- 'Per task 5 bytes: p (2), c (2), device set (1).'
+abbrev pub taskAt : List ℕ → ℕ → Task
+taskAt s at = record { period = pairAt s at; run = pairAt s (at + 2); uses = setOf (byteAt s (at + 4)) }
+
+-- 'Per job 7 bytes: a (2), d (2), c (2), device set (1).'
+abbrev pub jobAt : List ℕ → ℕ → Job
+jobAt s at = record { release = pairAt s at; deadline = pairAt s (at + 2); run = pairAt s (at + 4); uses = setOf (byteAt s (at + 6)) }
+
+-- ---- what refuses a record that is there: 'its fields' numbers in rising order'
+
+unfoldable pub deviceTable : Device → List Refusal
+deviceTable d =
+    (eqb (d .t) 0 ⇒ 4)
+    ∷ (leb (d .p0) (d .ps) ⇒ 5)
+    ∷ (leb (d .pw) (d .p0) ⇒ 5)
+    ∷ []
+
+-- A device set names a device that a file with n devices lacks: it has a bit from n on.
+unfoldable pub lacks : ℕ → ℕ → Bool
+lacks n set = leb (2 ^ n) set
+
+unfoldable pub taskTable : ℕ → ℕ → Task → List Refusal
+taskTable n set k =
+    (eqb (k .period) 0 ⇒ 7)
+    ∷ (ltb 4096 (k .period) ⇒ 7)
+    ∷ (eqb (k .run) 0 ⇒ 8)
+    ∷ (ltb (k .period) (k .run) ⇒ 8)
+    ∷ (lacks n set ⇒ 9)
+    ∷ []
+
+unfoldable pub jobTable : ℕ → ℕ → ℕ → Job → List Refusal
+jobTable n h set j =
+    (lacks n set ⇒ 9)
+    ∷ (eqb (j .run) 0 ⇒ 13)
+    ∷ (ltb (j .deadline) (j .release + j .run) ⇒ 13)
+    ∷ (ltb h (j .deadline) ⇒ 13)
+    ∷ []
+
+-- The bytes of a section's record, and its table: the devices, the tasks of a file with n devices, the jobs of one with n devices and the horizon h.
+abbrev pub sizeOf : Section → ℕ
+sizeOf DeviceRecords = 7
+sizeOf (TaskRecords n) = 5
+sizeOf (JobRecords n h) = 7
+
+unfoldable pub recordTable : List ℕ → Section → ℕ → List Refusal
+recordTable s DeviceRecords at = deviceTable (deviceAt s at)
+recordTable s (TaskRecords n) at = taskTable n (byteAt s (at + 4)) (taskAt s at)
+recordTable s (JobRecords n h) at = jobTable n h (byteAt s (at + 6)) (jobAt s at)
+
+-- 'In one record: 1, then its fields' numbers'; and the records of a section in turn.
+unfoldable pub recordFault : List ℕ → Section → ℕ → ℕ
+recordFault s k at = cond (ltb (length s - at) (sizeOf k)) 1 (firstThat (recordTable s k at))
+
+abbrev pub recordsFault : List ℕ → Section → ℕ → ℕ → ℕ
+recordsFault s k n at = firstOf (recordFault s k) (sizeOf k) n at
+
+-- ---- the horizon: `from` is the place of the first task's record
+
+-- The least common multiple of h and the periods of n tasks.
+unfoldable pub lcmFrom : List ℕ → ℕ → ℕ → ℕ → ℕ
+lcmFrom s zero at h = h
+lcmFrom s (suc n) at h = lcmFrom s n (at + 5) (lcmOf h (pairAt s at))
+
+-- 'With tasks, H is the least common multiple of the periods'; else it is given.
+unfoldable pub horizonOf : List ℕ → ℕ → ℕ → ℕ
+horizonOf s tasks from = cond (eqb tasks 0) (pairAt s 0) (lcmFrom s tasks from 1)
+
+-- ---- the jobs
+
+-- A task's job that is released at t: 'due one period later'.
+abbrev pub jobOf : Task → ℕ → Job
+jobOf k t = record { release = t; deadline = t + k .period; run = k .run; uses = k .uses }
+
+-- 'Released at 0, p, 2p and so on': what a task releases at t.
+abbrev pub released : Task → ℕ → List Job
+released k t = cond (eqb (t % k .period) 0) (jobOf k t ∷ []) []
+
+-- What the first n tasks release at t, by task number; and before h, by release: 'numbered by release, equal releases by task number'.
+unfoldable pub releasedAt : List ℕ → ℕ → ℕ → ℕ → List Job
+releasedAt s zero from t = []
+releasedAt s (suc n) from t = releasedAt s n from t ++ released (taskAt s (from + n * 5)) t
+
+unfoldable pub unfolded : List ℕ → ℕ → ℕ → ℕ → List Job
+unfolded s n from zero = []
+unfolded s n from (suc t) = unfolded s n from t ++ releasedAt s n from t
+
+-- n jobs listed from a place on.
+abbrev pub listed : List ℕ → ℕ → ℕ → List Job
+listed s n at = upTo (λ j. jobAt s (at + j * 7)) n
+
+-- Given, or unfolded from the tasks: `at` is the place of the job count.
+unfoldable pub jobsOf : List ℕ → ℕ → ℕ → ℕ → List Job
+jobsOf s tasks from at = cond (eqb tasks 0) (listed s (byteAt s at) (at + 1)) (unfolded s tasks from (horizonOf s tasks from))
+
+-- ---- the sections in turn, each number of the refusal table once
+
+-- 11: 'tasks given, and the horizon field or the job count is not 0'.
+unfoldable pub mixed : ℕ → ℕ → ℕ → Bool
+mixed tasks field count = not (eqb tasks 0) && (not (eqb field 0) || not (eqb count 0))
+
+-- The number of jobs, given or unfolded.
+unfoldable pub countOf : List ℕ → ℕ → ℕ → ℕ → ℕ → ℕ
+countOf s tasks from count h = cond (eqb tasks 0) count (length (unfolded s tasks from h))
+
+-- 12, then the job records, then 2.
+unfoldable pub jobRecords : List ℕ → ℕ → ℕ → ℕ → ℕ → ℕ → ℕ
+jobRecords s n tasks from at h =
+    cond (ltb 16 (countOf s tasks from (byteAt s at) h)) 12
+    (orElse (recordsFault s (JobRecords n h) (byteAt s at) (at + 1))
+    (cond (ltb (at + 1 + byteAt s at * 7) (length s)) 2
+    0))
+
+-- 'After the job count has been read: 11, then 10, then 12, then the job records, then 2.'
+unfoldable pub jobSection : List ℕ → ℕ → ℕ → ℕ → ℕ → ℕ
+jobSection s n tasks from at =
+    cond (leb (length s) at) 1
+    (cond (mixed tasks (pairAt s 0) (byteAt s at)) 11
+    (cond (eqb (horizonOf s tasks from) 0) 10
+    (cond (ltb 4096 (horizonOf s tasks from)) 10
+    (jobRecords s n tasks from at (horizonOf s tasks from)))))
+
+unfoldable pub taskSection : List ℕ → ℕ → ℕ → ℕ
+taskSection s n at =
+    cond (leb (length s) at) 1
+    (cond (ltb 8 (byteAt s at)) 6
+    (orElse (recordsFault s (TaskRecords n) (byteAt s at) (at + 1))
+    (jobSection s n (byteAt s at) (at + 1) (at + 1 + byteAt s at * 5))))
+
+-- The refusal number of a file, 0 for none.
+unfoldable pub faultOf : List ℕ → ℕ
+faultOf s =
+    cond (ltb (length s) 3) 1
+    (cond (ltb 8 (byteAt s 2)) 3
+    (orElse (recordsFault s DeviceRecords (byteAt s 2) 3)
+    (taskSection s (byteAt s 2) (3 + byteAt s 2 * 7))))
+
+-- ---- what a file without a fault says
+
+abbrev pub tasksPlace : List ℕ → ℕ
+tasksPlace s = 3 + byteAt s 2 * 7
+
+abbrev pub taskCount : List ℕ → ℕ
+taskCount s = byteAt s (tasksPlace s)
+
+abbrev pub jobsPlace : List ℕ → ℕ
+jobsPlace s = tasksPlace s + 1 + taskCount s * 5
+
+abbrev pub horizonIn : List ℕ → ℕ
+horizonIn s = horizonOf s (taskCount s) (tasksPlace s + 1)
+
+abbrev pub devicesIn : List ℕ → List Device
+devicesIn s = upTo (λ k. deviceAt s (3 + k * 7)) (byteAt s 2)
+
+abbrev pub jobsIn : List ℕ → List Job
+jobsIn s = jobsOf s (taskCount s) (tasksPlace s + 1) (jobsPlace s)
+
+-- A list of devices and one of jobs in their arrays.
+abbrev pub devicesHeld : List Device → Devices
+devicesHeld l = record { count = length l; list = padded 8 noDevice l }
+
+abbrev pub jobsHeld : List Job → Jobs
+jobsHeld l = record { count = length l; list = padded 16 noJob l }
+
+unfoldable pub recorderIn : List ℕ → Recorder
+recorderIn s = record { horizon = horizonIn s; devices = devicesHeld (devicesIn s); jobs = jobsHeld (jobsIn s) }
+
+unfoldable pub readOf : List ℕ → Reading
+readOf s = cond (eqb (faultOf s) 0) (accepted (recorderIn s)) (refused (faultOf s))
+
+-- What the code hands on of a reading: the document's number, with the recorder or an empty one.
+abbrev pub noRecorder : Recorder
+noRecorder = record { horizon = 0; devices = devicesHeld []; jobs = jobsHeld [] }
+
+unfoldable pub handedOn : Reading → Request
+handedOn (refused n) = record { number = n; recorder = noRecorder }
+handedOn (accepted R) = record { number = 0; recorder = R }

@@ -1,0 +1,3 @@
+pub mod Choice
+pub mod Runs
+pub mod Tree

@@ -1,0 +1,125 @@
+-- Document 01, 'The search': the visiting order, without a budget. The count of vertices is its one part that a promise speaks of.
+-- Assumes nothing.
+use mathlib.Core.Bool.{Bool, true, false, cond, _||_}
+use mathlib.Core.Option.{Option, none, some}
+use mathlib.Core.List.{List, [], _∷_, _++_}
+use Prim.Native.Nat.{ℕ, zero, suc, _+_, _-_, _*_, max}
+use lib.Dec.{leb, ltb}
+use lib.ListN.{set, replicate}
+use Rattle.base.specs.Lists.{upFrom, remove}
+use Rattle.base.specs.Loops.{through}
+use Rattle.base.specs.Sums.{total, sum}
+use Rattle.device.specs.Row.{energyOf, pattern}
+use Rattle.schedule.specs.declared.Recorder.{Recorder}
+use Rattle.schedule.specs.Quantities.{device, jobs, release, deadline, run, uses}
+use Rattle.schedule.specs.Listing.{Place, place, used, usesOf}
+
+-- 'A vertex is a sequence of placed jobs with starts. Its time t is the end of its last job, 0 at the root.' The unplaced jobs are kept beside, rising.
+pub record Vertex : Type 0 where
+  pub placed : List Place
+  pub time : ℕ
+  pub unplaced : List ℕ
+
+-- What the visit has come to: the vertices counted, and the starts of the best.
+pub record Visited : Type 0 where
+  pub count : ℕ
+  pub best : Option (List ℕ)
+
+-- What the visit of a vertex does to it.
+abbrev pub Walk : Type 0
+Walk = Visited → Visited
+
+-- 'Each vertex reached is counted once.'
+abbrev pub counted : Walk
+counted st = record { count = suc (st .count); best = st .best }
+
+-- The starts by job number, where each place of a sequence is written in turn.
+unfoldable pub written : List Place → List ℕ → List ℕ
+written [] s = s
+written (p ∷ ps) s = written ps (set s (p .job) (p .start))
+
+module _ (R : Recorder) where
+  abbrev pub root : Vertex
+  root = record { placed = []; time = 0; unplaced = upFrom 0 (jobs R) }
+
+  -- The child where job j starts at x.
+  abbrev pub child : Vertex → ℕ → ℕ → Vertex
+  child v j x = record { placed = v .placed ++ place j x ∷ []; time = x + run R j; unplaced = remove j (v .unplaced) }
+
+  abbrev pub startsOf : Vertex → List ℕ
+  startsOf v = written (v .placed) (replicate (jobs R) 0)
+
+  -- 'The starts from the larger of t and a up to d − c, rising.'
+  abbrev pub earliest : ℕ → ℕ → ℕ
+  earliest t j = max t (release R j)
+
+  unfoldable pub starts : ℕ → ℕ → List ℕ
+  starts t j = upFrom (earliest t j) (suc (deadline R j) - (earliest t j + run R j))
+
+  -- 'Its children are: each unplaced job in rising number, and for each the starts'; they are visited by f.
+  unfoldable pub choices : (Vertex → Walk) → Vertex → Walk
+  choices f v = through (λ j. through (λ x. f (child v j x)) (starts (v .time) j)) (v .unplaced)
+
+  -- Cut A: 'some unplaced job has max(t, a) + c > d, or t plus the running times of all unplaced jobs exceeds H'.
+  unfoldable pub late : ℕ → List ℕ → Bool
+  late t [] = false
+  late t (j ∷ l) = ltb (deadline R j) (earliest t j + run R j) || late t l
+
+  unfoldable pub cutA : Vertex → Bool
+  cutA v = late (v .time) (v .unplaced) || ltb (R .horizon) (v .time + total (run R) (v .unplaced))
+
+  -- The energy of the schedule s: of the least row of each device.
+  unfoldable pub planEnergy : List ℕ → ℕ
+  planEnergy s = sum (R .devices .count) (λ k. energyOf (device R k) (usesOf R s k))
+
+  -- Complete: 'it becomes the best if there is no best yet or its energy is smaller'.
+  unfoldable pub better : Option (List ℕ) → List ℕ → Option (List ℕ)
+  better none s = some s
+  better (some b) s = cond (ltb (planEnergy s) (planEnergy b)) (some s) (some b)
+
+  -- The end of the last placed use of device k: 'if unused so far, that end is tick 0'.
+  unfoldable pub lastEnd : ℕ → ℕ → List Place → ℕ
+  lastEnd k e [] = e
+  lastEnd k e (p ∷ ps) = lastEnd k (cond (uses R k (p .job)) (p .start + run R (p .job)) e) ps
+
+  -- The ticks for which job j uses device k.
+  abbrev pub ticks : ℕ → ℕ → ℕ
+  ticks k j = cond (uses R k j) (run R j) 0
+
+  -- 'The floor adds, for each device: the least energy of the ticks before the end of its last placed use; Pw for each tick that unplaced jobs will use it; Ps for
+  -- every other tick after that end, up to H.'
+  unfoldable pub deviceFloor : ℕ → Vertex → ℕ
+  deviceFloor k v =
+      let e = lastEnd k 0 (v .placed) in
+      let ahead = total (ticks k) (v .unplaced) in
+      energyOf (device R k) (pattern (used R k (v .placed)) 0 e) + (device R k .pw * ahead + device R k .ps * (R .horizon - e - ahead))
+
+  unfoldable pub floor : Vertex → ℕ
+  floor v = sum (R .devices .count) (λ k. deviceFloor k v)
+
+  -- Cut B: 'there is a best and the vertex's floor is at least the best's energy'.
+  unfoldable pub cutB : Vertex → Option (List ℕ) → Bool
+  cutB v none = false
+  cutB v (some b) = leb (planEnergy b) (floor v)
+
+  -- A vertex with no job unplaced, and one whose children are examined by `below`: 'one that is cut or complete examines no children'.
+  unfoldable pub complete : Vertex → Walk
+  complete v st = cond (cutA v) (counted st) (record { count = suc (st .count); best = better (st .best) (startsOf v) })
+
+  unfoldable pub examine : Vertex → Walk → Walk
+  examine v below st =
+      let next = below (counted st) in
+      cond (cutA v) (counted st) (cond (cutB v (st .best)) (counted st) next)
+
+  -- 'Depth first, a vertex examines its children in turn, and each child is itself a vertex.' m is the number of its unplaced jobs.
+  unfoldable pub visit : ℕ → Vertex → Walk
+  visit zero v = complete v
+  visit (suc m) v = examine v (choices (visit m) v)
+
+  -- 'From the root on.'
+  unfoldable pub visited : Visited
+  visited = visit (jobs R) root (record { count = 0; best = none })
+
+  -- The vertices that the visiting order counts.
+  abbrev pub vertices : ℕ
+  vertices = visited .count
