@@ -10,3 +10,8 @@ cond-cases P false f g = g refl
 pub cond-both {ℓ κ} : {A : Type ℓ} (R : A → A → Type κ) (t : Bool) {a b a′ b′ : A} → R a a′ → R b b′ → R (cond t a b) (cond t a′ b′)
 cond-both R true h h′ = h
 cond-both R false h h′ = h′
+
+-- By cases on a test, whatever speaks of it.
+pub test-cases {κ} : (P : Bool → Type κ) (t : Bool) → (t ≡ true → P true) → (t ≡ false → P false) → P t
+test-cases P true f g = f refl
+test-cases P false f g = g refl

@@ -6,3 +6,5 @@ pub mod Arrays
 pub mod Additions
 pub mod Records
 pub mod Clear
+pub mod Ranges
+pub mod Every

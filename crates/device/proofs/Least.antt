@@ -1,13 +1,13 @@
 -- Document 01's device: its row by the rule for gaps is the legal row of least energy and the only one; and what each job placed adds to the row and to its
 -- energy. All in the words of specs/Row: these are the facts that others cite.
 -- Assumes nothing.
-use mathlib.Core.Path.{_≡_, ap, subst}
+use mathlib.Core.Path.{_≡_, ap, subst, _∙_}
 use mathlib.Core.Bool.{Bool, true, false, cond}
 use mathlib.Core.List.{List, [], _++_}
 use Prim.Native.Nat.{ℕ, suc, _+_, _-_, _*_, _≤_, _<_}
 use native.Mathlib.Omega.{arith}
 use lib.Dec.{leb}
-use borrow.Author.Tests.{leb-true}
+use borrow.Author.Tests.{leb-true, le-leb, lt-leb}
 use lib.ListN.{length, replicate, length-append, length-replicate}
 use Rattle.base.proofs.Cases.{cond-cases}
 use Rattle.base.proofs.Additions.{total-append, total-replicate, total-low, total-high}
@@ -47,7 +47,7 @@ length-gap t g =
     (λ h. let room : t + t ≤ g = omega (arith, leb-true) in simp (length-append, length-replicate) (omega arith))
     (λ h. length-replicate g W)
 
-gap-none : (t : ℕ) → gapRow t 0 ≡ []
+pub gap-none : (t : ℕ) → gapRow t 0 ≡ []
 gap-none t = nothing (gapRow t 0) (length-gap t 0)
 
 pub length-row : (d : Device) (u : List Bool) → length (rowOf d u) ≡ length u
@@ -63,6 +63,9 @@ energy-most d hi hw hs h0 u = rw length-row at (total-high (power d) hi most (ro
     most S = hs
     most U = h0
 
+pub energy-none : (d : Device) → energyOf d [] ≡ 0
+energy-none d = ap (energy d) (gap-none (d .t))
+
 -- A gap: its energy as a number, and that no tick of it costs less than Ps.
 pub gap-energy : (d : Device) (g : ℕ) → energy d (gapRow (d .t) g) ≡ cond (leb (d .t + d .t) g) (d .p0 * (d .t + d .t) + d .ps * (g - (d .t + d .t))) (d .pw * g)
 gap-energy d g = go (leb (d .t + d .t) g)
@@ -71,6 +74,12 @@ gap-energy d g = go (leb (d .t + d .t) g)
         ≡ cond b (d .p0 * (d .t + d .t) + d .ps * (g - (d .t + d .t))) (d .pw * g)
     go true = simp (total-append, total-replicate) (omega arith)
     go false = simp total-replicate
+
+pub gap-slept : (d : Device) (g : ℕ) → d .t + d .t ≤ g → energy d (gapRow (d .t) g) ≡ d .p0 * (d .t + d .t) + d .ps * (g - (d .t + d .t))
+gap-slept d g h = gap-energy d g ∙ rw (le-leb (d .t + d .t) g h)
+
+pub gap-worked : (d : Device) (g : ℕ) → g < d .t + d .t → energy d (gapRow (d .t) g) ≡ d .pw * g
+gap-worked d g h = gap-energy d g ∙ rw (lt-leb (d .t + d .t) g h)
 
 pub gap-low : (d : Device) → Sound d → (g : ℕ) → d .ps * g ≤ energy d (gapRow (d .t) g)
 gap-low d ok g = rw length-gap at (total-low (power d) (d .ps) least (gapRow (d .t) g))

@@ -11,3 +11,6 @@ pub mod Depths
 pub mod First
 pub mod Literal
 pub mod Least
+pub mod Spacing
+pub mod Parts
+pub mod Bytes

@@ -10,6 +10,10 @@ use lib.ListN.{replicate}
 use Rattle.base.specs.Sums.{total}
 use Rattle.device.specs.declared.Device.{Device}
 
+-- The device of four figures, for the functions that take these.
+abbrev pub device : (t pw ps p0 : ℕ) → Device
+device t pw ps p0 = record { t = t; pw = pw; ps = ps; p0 = p0 }
+
 -- 'Quantities': T is at least 1, and Ps < P0 < Pw. (The upper ends of the ranges are those of the file's fields.)
 pub record Sound (d : Device) : Type 0 where
   pub moves : 1 ≤ d .t

@@ -1,4 +1,10 @@
-// One device: its record, the energy of a gap, the energy of a row and writing one.
+// One device: its record, the energy of its least row, and writing that row.
+mod energy;
+mod writer;
+
+pub use crate::energy::energy_of;
+pub use crate::energy::gap_energy;
+pub use crate::writer::write_row;
 
 // A device of the request file: transition time T, and the powers working, sleeping and moving. Both transitions have the same time and power.
 pub struct Device {

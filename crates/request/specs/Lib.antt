@@ -1,2 +1,3 @@
 pub mod Euclid
 pub mod Format
+pub mod Held

@@ -1,4 +1,14 @@
 // The request file: every string of bytes is read, refused or unfolded.
+mod checks; // checks.rt: what refuses a record, and the records of a section in turn
+mod euclid; // euclid.rt: the greatest common divisor and the least common multiple
+mod horizon; // horizon.rt: the horizon, given or worked out from the tasks
+mod jobs; // jobs.rt: the jobs in an array, listed or unfolded
+mod layout; // layout.rt: what a file without a fault says, laid out in arrays
+mod records; // records.rt: one record, decoded where it is wanted
+mod sections; // sections.rt: the sections in turn, and the first fault
+
+ghost use mathlib.Core.Path.{_≡_};
+ghost use Rattle.request.specs.Format.{readOf, handedOn};
 use schedule::Recorder;
 
 // Tasks are numbered from 0 in file order. A job's number is another type (crate schedule): task 1 may be jobs 1, 3 and 6.
@@ -22,4 +32,24 @@ pub enum Section {
 pub struct Request {
     pub number: u8,
     pub recorder: Recorder,
+}
+
+// Reads a file of whatever bytes. A first pass looks for a fault; only a file without one is laid out, so that no loop carries both a fault and an array.
+pub fn read(s: &[u8]) -> Request
+    ensures { λ r. ⌜ r ≡ handedOn (readOf (now (s .entry))) ⌝ }
+{
+    let number = sections::fault_of(s);
+    if number == 0 {
+        let recorder = layout::recorder_in(s);
+        Request {
+            number: 0,
+            recorder: recorder,
+        }
+    } else {
+        let recorder = layout::no_recorder();
+        Request {
+            number: number,
+            recorder: recorder,
+        }
+    }
 }

@@ -1,3 +1,8 @@
 pub mod Choice
 pub mod Runs
 pub mod Tree
+pub mod Gaps
+pub mod Floors
+pub mod Outcome
+pub mod Judgements
+pub mod Signs

@@ -2,16 +2,17 @@
 -- Assumes nothing.
 use mathlib.Core.Path.{_≡_}
 use mathlib.Core.Bool.{Bool, true, false}
+use mathlib.Core.List.{[]}
 use Prim.Native.Nat.{ℕ, _+_, _≤_, _<_}
-use lib.ListN.{getD, replicate}
+use lib.ListN.{getD}
 use Rattle.device.specs.declared.Device.{Device}
 use Rattle.device.specs.Row.{Sound}
 use Rattle.schedule.specs.declared.Job.{Job}
 use Rattle.schedule.specs.declared.Recorder.{Recorder}
 
--- What stands in the places of an array that hold no job and no device.
+-- What a number past the end of the list stands for.
 abbrev pub noJob : Job
-noJob = record { release = 0; deadline = 0; run = 0; uses = replicate 8 false }
+noJob = record { release = 0; deadline = 0; run = 0; uses = [] }
 
 abbrev pub noDevice : Device
 noDevice = record { t = 0; pw = 0; ps = 0; p0 = 0 }

@@ -1,6 +1,9 @@
 // Jobs on one processor: judging start times, and the search for the cheapest schedule.
 use device::Device;
 
+pub mod judging;
+pub mod margins;
+
 // Jobs are numbered from 0. A task's number is another type (crate request): the two count different things.
 pub struct JobNumber(pub usize);
 

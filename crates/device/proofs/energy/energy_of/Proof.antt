@@ -1,0 +1,154 @@
+-- `device::energy_of` meets its contract. The loop's invariant: the sum is the least energy of the ticks before the end of the last use passed.
+-- Assumes nothing.
+use mathlib.Core.Path.{_≡_, refl, ap, sym, _∙_}
+use Prim.Native.Nat.{ℕ, _+_, _-_, _*_, _≤_, _<_}
+use native.Mathlib.Omega.{arith}
+use borrow.Author.Needs.{needs}
+use Rattle.device.specs.Row.{energyOf, pattern}
+use Rattle.device.specs.Uses.{begin, end, usedIn, after}
+use Rattle.device.proofs.Pattern.{length-pattern}
+use Rattle.device.proofs.Least.{energy-none, energy-most}
+use Rattle.device.proofs.Spacing.{use-fits, after-next, energy-use, energy-last}
+use Rattle.device.proofs.energy.energy_of.Statement.{statement}
+use Rattle.device.proofs.energy.energy_of.Tie as tie
+
+abbrev Inv-loop : tie.InvT-loop
+Inv-loop d h u sum₀ at₀ i₀ sum at i = (i ≤ u .count) × (at ≡ after u i) × (sum ≡ energyOf d (pattern (usedIn u) 0 at))
+
+abbrev μ-loop : tie.MeasureT-loop
+μ-loop d h u sum₀ at₀ i₀ sum at i = u .count - i
+
+loop-holds : tie.Need-loop-holds Inv-loop μ-loop
+loop-holds c = (omega arith, refl, sym (energy-none (c .args .d)))
+
+-- No least energy within the horizon is past 65,535 × 65,535.
+small : (c : tie.Start Inv-loop μ-loop) (e : ℕ) → e ≤ c .args .h → energyOf (c .args .d) (pattern (usedIn (c .args .t3)) 0 e) ≤ 65535 * 65535
+small c e l =
+    let most = energy-most (c .args .d) 65535 (omega (arith, c .good .0)) (omega (arith, c .good .0)) (omega (arith, c .good .0)) (pattern (usedIn (c .args .t3)) 0 e) in
+    omega (arith, length-pattern (usedIn (c .args .t3)) 0 e)
+
+-- What is known of the use at hand.
+fits : (c : tie.In-loop Inv-loop μ-loop)
+    → (c .before .loop .at ≤ begin (c .before .before .args .t3) (c .before .loop .i))
+    × (begin (c .before .before .args .t3) (c .before .loop .i) < end (c .before .before .args .t3) (c .before .loop .i))
+    × (end (c .before .before .args .t3) (c .before .loop .i) ≤ c .before .before .args .h)
+fits c =
+    let s = c .before .before in
+    let f = use-fits (s .args .t3) (s .args .h) (s .pre) (c .before .loop .i) (c .loop-test .taken) in
+    (omega (arith, c .before .loop .inv .1), f .1, f .2)
+
+-- What a turn adds.
+turn : (c : tie.After-gap-energy Inv-loop μ-loop) → let l = c .before .before .before in
+    let s = l .before .before in
+    (l .before .loop .sum + c .gap-energy .result + s .args .d .pw * (end (s .args .t3) (l .before .loop .i) - begin (s .args .t3) (l .before .loop .i))
+    ≡ energyOf (s .args .d) (pattern (usedIn (s .args .t3)) 0 (end (s .args .t3) (l .before .loop .i))))
+    × (energyOf (s .args .d) (pattern (usedIn (s .args .t3)) 0 (end (s .args .t3) (l .before .loop .i))) ≤ 65535 * 65535)
+turn c =
+    let l = c .before .before .before in
+    let s = l .before .before in
+    let e = energy-use (s .args .t3) (s .args .h) (s .pre) (s .args .d) (l .before .loop .i) (l .before .loop .at) (l .loop-test .taken) (l .before .loop .inv .1) in
+    (omega (arith, e, l .before .loop .inv .2, c .gap-energy .ensures), small s (end (s .args .t3) (l .before .loop .i)) (fits l .2))
+
+mul-begin : tie.Need-mul-begin Inv-loop μ-loop
+mul-begin c = search needs
+
+element-copy-out-begin : tie.Need-element-copy-out-begin Inv-loop μ-loop
+element-copy-out-begin c = search needs
+
+mul-end : tie.Need-mul-end Inv-loop μ-loop
+mul-end c = search needs
+
+element-copy-out-end : tie.Need-element-copy-out-end Inv-loop μ-loop
+element-copy-out-end c = search needs
+
+sub-gap-energy : tie.Need-sub-gap-energy Inv-loop μ-loop
+sub-gap-energy c = omega (arith, fits (c .before .before))
+
+gap-energy-requires : tie.Need-gap-energy-requires Inv-loop μ-loop
+gap-energy-requires c κs = search needs
+
+add-sum : tie.Need-add-sum Inv-loop μ-loop
+add-sum c = omega (arith, turn c)
+
+cast-sum : tie.Need-cast-sum Inv-loop μ-loop
+cast-sum c = search needs
+
+sub-sum : tie.Need-sub-sum Inv-loop μ-loop
+sub-sum c = omega (arith, fits (c .before .before .before .before))
+
+cast-sum-2 : tie.Need-cast-sum-2 Inv-loop μ-loop
+cast-sum-2 c = omega (arith, fits (c .before .before .before .before))
+
+mul-sum : tie.Need-mul-sum Inv-loop μ-loop
+mul-sum c = omega (arith, turn (c .before))
+
+add-sum-2 : tie.Need-add-sum-2 Inv-loop μ-loop
+add-sum-2 c = omega (arith, turn (c .before))
+
+add-i : tie.Need-add-i Inv-loop μ-loop
+add-i c = search needs
+
+loop-less : tie.Need-loop-less Inv-loop μ-loop
+loop-less c = search needs
+
+loop-again : tie.Need-loop-again Inv-loop μ-loop
+loop-again c =
+    let l = c .before .before .before .before in
+    (omega arith, after-next (l .before .before .args .t3) (l .before .loop .i), turn (c .before) .0)
+
+-- All uses are passed.
+over : (c : tie.After-loop Inv-loop μ-loop) → c .before .loop .at ≡ after (c .before .before .args .t3) (c .before .before .args .t3 .count)
+over c =
+    let last : c .before .loop .i ≡ c .before .before .args .t3 .count = omega arith in
+    c .before .loop .inv .1 ∙ ap (after (c .before .before .args .t3)) last
+
+sub-gap-energy-2 : tie.Need-sub-gap-energy-2 Inv-loop μ-loop
+sub-gap-energy-2 c = omega (arith, over c, c .before .before .pre .within)
+
+gap-energy-requires-2 : tie.Need-gap-energy-requires-2 Inv-loop μ-loop
+gap-energy-requires-2 c κs = search needs
+
+-- What the last gap adds.
+last : (c : tie.After-gap-energy2 Inv-loop μ-loop) → let s = c .before .before .before in
+    c .before .before .loop .sum + c .gap-energy2 .result ≡ energyOf (s .args .d) (pattern (usedIn (s .args .t3)) 0 (s .args .h))
+last c =
+    let s = c .before .before .before in
+    omega (
+      arith,
+      energy-last (s .args .t3) (s .args .h) (s .pre) (s .args .d) (c .before .before .loop .at) (over (c .before)),
+      c .before .before .loop .inv .2,
+      c .gap-energy2 .ensures,
+    )
+
+add-result : tie.Need-add-result Inv-loop μ-loop
+add-result c = omega (arith, last c, small (c .before .before .before) (c .before .before .before .args .h) (omega arith))
+
+returns : tie.Need-returns Inv-loop μ-loop
+returns c = last c
+
+pub energy-of-spec : {M : Type 1} → statement M
+energy-of-spec =
+    tie.close
+    (tie.spec
+    Inv-loop
+    μ-loop
+    loop-holds
+    mul-begin
+    element-copy-out-begin
+    mul-end
+    element-copy-out-end
+    sub-gap-energy
+    gap-energy-requires
+    add-sum
+    cast-sum
+    sub-sum
+    cast-sum-2
+    mul-sum
+    add-sum-2
+    add-i
+    loop-less
+    loop-again
+    sub-gap-energy-2
+    gap-energy-requires-2
+    add-result
+    returns)

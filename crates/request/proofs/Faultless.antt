@@ -1,0 +1,108 @@
+-- What a file without a fault says, section by section, each fact read off once; and what is read of a file by its fault.
+-- Assumes nothing.
+use mathlib.Core.Path.{_≡_, refl, sym, ap, _∙_}
+use mathlib.Core.Bool.{Bool, true, false, cond, not, _||_, true≢false}
+use mathlib.Core.List.{List}
+use Prim.Native.Nat.{ℕ, _+_, _*_, _<_, _≤_}
+use native.Mathlib.Nat.{pos-of-ne-zero}
+use lib.ListN.{length}
+use lib.Dec.{ltb, leb, eqb}
+use borrow.Author.Tests.{ltb-false, leb-false, eqb-true, eqb-false, eq-eqb, ne-eqb}
+use Rattle.base.specs.Bytes.{byteAt, pairAt}
+use Rattle.base.proofs.Arrays.{length-upTo}
+use Rattle.base.proofs.Clear.{passed}
+use Rattle.base.proofs.Records.{orElse-zero}
+use Rattle.schedule.specs.declared.Job.{Job}
+use Rattle.request.specs.declared.Section.the-variants.{DeviceRecords, TaskRecords, JobRecords}
+use Rattle.request.specs.Format.{recordsFault, horizonOf, unfolded, listed, jobsOf, mixed, countOf, jobRecords, jobSection, taskSection, faultOf, tasksPlace, taskCount, jobsPlace, recorderIn, readOf, refused, accepted}
+
+-- From the job count on, which stands at a place.
+pub record JobsFaultless (s : List ℕ) (n tasks from at : ℕ) : Type 0 where
+  pub there : at < length s
+  pub apart : mixed tasks (pairAt s 0) (byteAt s at) ≡ false
+  pub some-tick : 0 < horizonOf s tasks from
+  pub few-ticks : horizonOf s tasks from ≤ 4096
+  pub few-jobs : countOf s tasks from (byteAt s at) (horizonOf s tasks from) ≤ 16
+  pub records : 0 ≡ recordsFault s (JobRecords n (horizonOf s tasks from)) (byteAt s at) (at + 1)
+  pub whole : length s ≤ at + 1 + byteAt s at * 7
+
+pub record Faultless (s : List ℕ) : Type 0 where
+  pub head : 3 ≤ length s
+  pub few-devices : byteAt s 2 ≤ 8
+  pub device-records : 0 ≡ recordsFault s DeviceRecords (byteAt s 2) 3
+  pub tasks-there : tasksPlace s < length s
+  pub few-tasks : taskCount s ≤ 8
+  pub task-records : 0 ≡ recordsFault s (TaskRecords (byteAt s 2)) (taskCount s) (tasksPlace s + 1)
+  pub jobs : JobsFaultless s (byteAt s 2) (taskCount s) (tasksPlace s + 1) (jobsPlace s)
+
+jobs-faultless : (s : List ℕ) (n tasks from at : ℕ) → 0 ≡ jobSection s n tasks from at → JobsFaultless s n tasks from at
+unfolding jobSection jobRecords
+jobs-faultless s n tasks from at e =
+    let h = horizonOf s tasks from in
+    let e₁ = passed (leb (length s) at) 1 _ tt e in
+    let e₂ = passed (mixed tasks (pairAt s 0) (byteAt s at)) 11 _ tt (e₁ .1) in
+    let e₃ = passed (eqb h 0) 10 _ tt (e₂ .1) in
+    let e₄ = passed (ltb 4096 h) 10 _ tt (e₃ .1) in
+    let e₅ = passed (ltb 16 (countOf s tasks from (byteAt s at) h)) 12 _ tt (e₄ .1) in
+    let e₆ = orElse-zero (recordsFault s (JobRecords n h) (byteAt s at) (at + 1)) _ (e₅ .1) in
+    let e₇ = passed (ltb (at + 1 + byteAt s at * 7) (length s)) 2 _ tt (e₆ .1) in
+    record {
+      there = leb-false (length s) at (e₁ .0);
+      apart = e₂ .0;
+      some-tick = pos-of-ne-zero (eqb-false h 0 (e₃ .0));
+      few-ticks = ltb-false 4096 h (e₄ .0);
+      few-jobs = ltb-false 16 _ (e₅ .0);
+      records = e₆ .0;
+      whole = ltb-false _ (length s) (e₇ .0);
+    }
+
+pub faultless : (s : List ℕ) → 0 ≡ faultOf s → Faultless s
+unfolding faultOf taskSection
+faultless s e =
+    let n = byteAt s 2 in
+    let e₁ = passed (ltb (length s) 3) 1 _ tt e in
+    let e₂ = passed (ltb 8 n) 3 _ tt (e₁ .1) in
+    let e₃ = orElse-zero (recordsFault s DeviceRecords n 3) _ (e₂ .1) in
+    let e₄ = passed (leb (length s) (tasksPlace s)) 1 _ tt (e₃ .1) in
+    let e₅ = passed (ltb 8 (taskCount s)) 6 _ tt (e₄ .1) in
+    let e₆ = orElse-zero (recordsFault s (TaskRecords n) (taskCount s) (tasksPlace s + 1)) _ (e₅ .1) in
+    record {
+      head = ltb-false (length s) 3 (e₁ .0);
+      few-devices = ltb-false 8 n (e₂ .0);
+      device-records = e₃ .0;
+      tasks-there = leb-false (length s) (tasksPlace s) (e₄ .0);
+      few-tasks = ltb-false 8 (taskCount s) (e₅ .0);
+      task-records = e₆ .0;
+      jobs = jobs-faultless s n (taskCount s) (tasksPlace s + 1) (jobsPlace s) (e₆ .1);
+    }
+
+-- Where tasks are given, the horizon field and the job count are 0.
+neither : (a b : Bool) → (not a || not b) ≡ false → (a ≡ true) × (b ≡ true)
+neither true true e = (refl, refl)
+neither true false e = absurd (true≢false e)
+neither false b e = absurd (true≢false e)
+
+pub tasks-alone : (tasks field count : ℕ) → mixed tasks field count ≡ false → (tasks ≡ 0 → ⊥) → (field ≡ 0) × (count ≡ 0)
+unfolding mixed
+tasks-alone tasks field count e nz =
+    let p = neither (eqb field 0) (eqb count 0) (rw (ne-eqb tasks 0 nz) at e) in
+    (eqb-true field 0 (p .0), eqb-true count 0 (p .1))
+
+-- As many jobs are counted as there are, and they are few.
+count-cases : (t : Bool) (s : List ℕ) (n at : ℕ) (l : List Job) → cond t n (length l) ≡ length (cond t (listed s n at) l)
+count-cases true s n at l = sym (length-upTo _ n)
+count-cases false s n at l = refl
+
+pub length-jobs : (s : List ℕ) (n tasks from at : ℕ) → JobsFaultless s n tasks from at → length (jobsOf s tasks from at) ≤ 16
+unfolding countOf jobsOf
+length-jobs s n tasks from at ok = rw (← count-cases (eqb tasks 0) s (byteAt s at) (at + 1) (unfolded s tasks from (horizonOf s tasks from))) (ok .few-jobs)
+
+-- What is read of a file.
+module _ (s : List ℕ) where
+  pub read-faultless : 0 ≡ faultOf s → readOf s ≡ accepted (recorderIn s)
+  unfolding readOf
+  read-faultless e = rw (eq-eqb (faultOf s) 0 (sym e))
+
+  pub read-fault : (faultOf s ≡ 0 → ⊥) → readOf s ≡ refused (faultOf s)
+  unfolding readOf
+  read-fault h = rw (ne-eqb (faultOf s) 0 h)

@@ -1,0 +1,68 @@
+use borrow.Author.Needs.{needs}
+use mathlib.Core.Path.{_≡_, refl, sym, ap, _∙_}
+use Prim.Native.Nat.{ℕ, _≤_, _<_, _+_, _-_}
+use native.Mathlib.Omega.{arith}
+use lib.ListN.{length}
+use Rattle.base.proofs.Records.{first-none, first-stop, first-pass}
+use Rattle.request.specs.Format.{recordsFault, sizeOf}
+use Rattle.request.proofs.Checked.{record-room}
+use Rattle.request.proofs.checks.records_fault.Statement.{statement}
+use Rattle.request.proofs.checks.records_fault.Tie as tie
+
+abbrev Inv-loop : tie.InvT-loop
+Inv-loop s k count from size left₀ at₀ left at = (at ≤ length s) × (recordsFault s k count from ≡ recordsFault s k left at)
+
+abbrev μ-loop : tie.MeasureT-loop
+μ-loop s k count from size left₀ at₀ left at = left
+
+size-of-requires : tie.Need-size-of-requires Inv-loop μ-loop
+size-of-requires c κs = search needs
+
+loop-holds : tie.Need-loop-holds Inv-loop μ-loop
+loop-holds c = (c .before .before .pre, refl)
+
+record-fault-requires : tie.Need-record-fault-requires Inv-loop μ-loop
+record-fault-requires c κs = search needs
+
+returns : tie.Need-returns Inv-loop μ-loop
+returns c =
+    let l = c .before .before .before .loop in
+    first-stop _ _ _ _ _ (c .before .before .loop-test .taken) (c .before .record-fault .ensures) (c .if1 .taken) ∙ sym (l .inv .1)
+
+sub-left : tie.Need-sub-left Inv-loop μ-loop
+sub-left c = search needs
+
+add-at : tie.Need-add-at Inv-loop μ-loop
+add-at c =
+    let l = c .before .before .before .loop in
+    let ok = sym (c .if1 .left) ∙ c .before .record-fault .ensures in
+    omega (arith, record-room _ _ _ (l .inv .0) ok)
+
+loop-less : tie.Need-loop-less Inv-loop μ-loop
+loop-less c = search needs
+
+loop-again : tie.Need-loop-again Inv-loop μ-loop
+loop-again c =
+    let l = c .before .before .before .loop in
+    let ok = sym (c .if1 .left) ∙ c .before .record-fault .ensures in
+    rw (c .before .before .before .before .size-of .ensures)
+    (record-room _ _ _ (l .inv .0) ok, l .inv .1 ∙ first-pass _ _ _ _ (c .before .before .loop-test .taken) ok)
+
+returns-2 : tie.Need-returns-2 Inv-loop μ-loop
+returns-2 c = first-none _ _ _ _ (c .loop-test .left) ∙ sym (c .before .loop .inv .1)
+
+pub records-fault-spec : {M : Type 1} → statement M
+records-fault-spec =
+    tie.close
+    (tie.spec
+    Inv-loop
+    μ-loop
+    size-of-requires
+    loop-holds
+    record-fault-requires
+    returns
+    sub-left
+    add-at
+    loop-less
+    loop-again
+    returns-2)

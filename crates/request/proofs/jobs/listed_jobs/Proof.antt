@@ -1,0 +1,72 @@
+use borrow.Author.Needs.{needs}
+use mathlib.Core.Path.{_≡_, refl, sym, ap, _∙_}
+use mathlib.Core.List.{[], _∷_, _++_, append-nil}
+use Prim.Native.Nat.{ℕ, _≤_, _<_, _+_, _-_, _*_, min}
+use native.Mathlib.Omega.{arith}
+use lib.ListN.{length}
+use Rattle.base.specs.Lists.{upTo}
+use Rattle.base.proofs.Arrays.{upTo-more}
+use Rattle.request.specs.Format.{listed}
+use Rattle.request.specs.Held.{packed, pushed}
+use Rattle.request.proofs.Packed.{packed-push}
+use Rattle.request.proofs.jobs.listed_jobs.Statement.{statement}
+use Rattle.request.proofs.jobs.listed_jobs.Tie as tie
+
+abbrev Inv-loop : tie.InvT-loop
+Inv-loop s count from js₀ i₀ js i = (i ≤ count) × (js ≡ packed (listed s i from))
+
+abbrev μ-loop : tie.MeasureT-loop
+μ-loop s count from js₀ i₀ js i = count - i
+
+no-jobs-requires : tie.Need-no-jobs-requires Inv-loop μ-loop
+no-jobs-requires c κs = search needs
+
+loop-holds : tie.Need-loop-holds Inv-loop μ-loop
+unfolding upTo
+loop-holds c = (omega arith, c .no-jobs .ensures)
+
+mul-job-at : tie.Need-mul-job-at Inv-loop μ-loop
+mul-job-at c = search needs
+
+add-job-at : tie.Need-add-job-at Inv-loop μ-loop
+add-job-at c = search needs
+
+job-at-requires : tie.Need-job-at-requires Inv-loop μ-loop
+job-at-requires c κs = search needs
+
+push-requires : tie.Need-push-requires Inv-loop μ-loop
+push-requires c κs = search needs
+
+add-i : tie.Need-add-i Inv-loop μ-loop
+add-i c = search needs
+
+loop-less : tie.Need-loop-less Inv-loop μ-loop
+loop-less c = search needs
+
+loop-again : tie.Need-loop-again Inv-loop μ-loop
+loop-again c =
+    let l = c .before .before .before .loop in
+    (omega arith, rw (c .push .ensures, c .before .job-at .ensures, l .inv .1, packed-push, upTo-more))
+
+returns : tie.Need-returns Inv-loop μ-loop
+returns c =
+    let l = c .before .loop in
+    let all : l .i ≡ c .before .before .before .before .args .count = omega arith in
+    rw (l .inv .1, all)
+
+pub listed-jobs-spec : {M : Type 1} → statement M
+listed-jobs-spec =
+    tie.close
+    (tie.spec
+    Inv-loop
+    μ-loop
+    no-jobs-requires
+    loop-holds
+    mul-job-at
+    add-job-at
+    job-at-requires
+    push-requires
+    add-i
+    loop-less
+    loop-again
+    returns)

@@ -1,0 +1,12 @@
+use mathlib.Core.Path.{refl}
+use Rattle.base.specs.Lists.{padded}
+use Rattle.request.specs.Held.{packed}
+use Rattle.request.proofs.jobs.no_jobs.Statement.{statement}
+use Rattle.request.proofs.jobs.no_jobs.Tie as tie
+
+returns : tie.Need-returns
+unfolding packed padded
+returns c = refl
+
+pub no-jobs-spec : {M : Type 1} → statement M
+no-jobs-spec = tie.close (tie.spec returns)

@@ -1,0 +1,73 @@
+use Rattle.request.proofs.Checked.{record-at, task-sound, record-room}
+use borrow.Author.Needs.{needs}
+use mathlib.Core.Path.{_≡_, refl, sym, ap, _∙_}
+use mathlib.Core.List.{[], _∷_, _++_, append-nil}
+use Prim.Native.Nat.{ℕ, _≤_, _<_, _+_, _-_, _*_, min}
+use native.Mathlib.Omega.{arith}
+use lib.ListN.{length}
+use Rattle.request.specs.declared.Section.the-variants.{TaskRecords}
+use Rattle.request.specs.Format.{taskAt, recordFault, recordsFault, unfolded, releasedAt}
+use Rattle.request.specs.Held.{packed}
+use Rattle.base.proofs.Records.{first-each, first-next}
+use Rattle.base.specs.Bytes.{pairAt}
+use Rattle.request.proofs.Packed.{tick-more, unfolded-more}
+use Rattle.request.proofs.jobs.tick.Statement.{statement}
+use Rattle.request.proofs.jobs.tick.Tie as tie
+
+abbrev Inv-loop : tie.InvT-loop
+Inv-loop s n tasks from t js₀ i₀ js i = (i ≤ tasks) × (js ≡ packed (unfolded s tasks from t ++ releasedAt s i from t))
+
+abbrev μ-loop : tie.MeasureT-loop
+μ-loop s n tasks from t js₀ i₀ js i = tasks - i
+
+loop-holds : tie.Need-loop-holds Inv-loop μ-loop
+unfolding releasedAt
+loop-holds c = (omega arith, rw append-nil (c .before .pre .3))
+
+-- the task at hand is not refused
+here : (c : tie.In-loop Inv-loop μ-loop)
+    → (0 ≡ recordFault (c .before .before .before .args .s .now) (TaskRecords (c .before .before .before .args .n)) (c .before .before .before .args .from + c .before .loop .i * 5))
+    × (c .before .before .before .args .from + c .before .loop .i * 5 + 5 ≤ length (c .before .before .before .args .s .now))
+here c =
+    let p = c .before .before .before .pre in
+    record-at _ (TaskRecords _) _ _ _ (p .0) (p .1) (c .loop-test .taken)
+
+task-of-requires : tie.Need-task-of-requires Inv-loop μ-loop
+task-of-requires c κs = omega (arith, here c .1)
+
+release-requires : tie.Need-release-requires Inv-loop μ-loop
+release-requires c κs =
+    let p = task-sound _ _ _ (here (c .before) .0) in
+    rw (c .task-of .ensures) (p .0, omega arith)
+
+add-i : tie.Need-add-i Inv-loop μ-loop
+add-i c = search needs
+
+loop-less : tie.Need-loop-less Inv-loop μ-loop
+loop-less c = search needs
+
+loop-again : tie.Need-loop-again Inv-loop μ-loop
+loop-again c =
+    let l = c .before .before .before .loop in
+    let a = c .before .before .before .before .before .args in
+    (omega arith, rw (c .release .ensures, c .before .task-of .ensures, l .inv .1) (tick-more (a .s .now) (a .from) (a .t) (unfolded (a .s .now) (a .tasks) (a .from) (a .t)) (l .i)))
+
+returns : tie.Need-returns Inv-loop μ-loop
+returns c =
+    let l = c .before .loop in
+    let all : l .i ≡ c .before .before .before .args .tasks = omega arith in
+    rw (l .inv .1, all, unfolded-more)
+
+pub tick-spec : {M : Type 1} → statement M
+tick-spec =
+    tie.close
+    (tie.spec
+    Inv-loop
+    μ-loop
+    loop-holds
+    task-of-requires
+    release-requires
+    add-i
+    loop-less
+    loop-again
+    returns)

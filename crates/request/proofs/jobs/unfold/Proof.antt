@@ -1,0 +1,59 @@
+use borrow.Author.Needs.{needs}
+use mathlib.Core.Path.{_≡_, refl, sym, ap, _∙_}
+use mathlib.Core.List.{[], _∷_, _++_, append-nil}
+use Prim.Native.Nat.{ℕ, _≤_, _<_, _+_, _-_, _*_, min}
+use native.Mathlib.Omega.{arith}
+use lib.ListN.{length}
+use Rattle.request.specs.declared.Section.the-variants.{TaskRecords}
+use Rattle.request.specs.Format.{taskAt, recordFault, recordsFault, unfolded, releasedAt}
+use Rattle.request.specs.Held.{packed}
+use Rattle.request.proofs.Checked.{task-sound, record-room}
+use Rattle.base.proofs.Records.{first-each, first-next}
+use Rattle.base.specs.Bytes.{pairAt}
+use Rattle.request.proofs.jobs.unfold.Statement.{statement}
+use Rattle.request.proofs.jobs.unfold.Tie as tie
+
+abbrev Inv-loop : tie.InvT-loop
+Inv-loop s n tasks from h js₀ t₀ js t = (t ≤ h) × (js ≡ packed (unfolded s tasks from t))
+
+abbrev μ-loop : tie.MeasureT-loop
+μ-loop s n tasks from h js₀ t₀ js t = h - t
+
+no-jobs-requires : tie.Need-no-jobs-requires Inv-loop μ-loop
+no-jobs-requires c κs = search needs
+
+loop-holds : tie.Need-loop-holds Inv-loop μ-loop
+unfolding unfolded
+loop-holds c = (omega arith, c .no-jobs .ensures)
+
+tick-requires : tie.Need-tick-requires Inv-loop μ-loop
+tick-requires c κs = (c .before .before .before .before .pre .0, c .before .before .before .before .pre .1, omega arith, c .before .loop .inv .1)
+
+add-t : tie.Need-add-t Inv-loop μ-loop
+add-t c = search needs
+
+loop-less : tie.Need-loop-less Inv-loop μ-loop
+loop-less c = search needs
+
+loop-again : tie.Need-loop-again Inv-loop μ-loop
+loop-again c = (omega arith, c .tick .ensures)
+
+returns : tie.Need-returns Inv-loop μ-loop
+returns c =
+    let l = c .before .loop in
+    let all : l .t ≡ c .before .before .before .before .args .h = omega arith in
+    rw (l .inv .1, all)
+
+pub unfold-spec : {M : Type 1} → statement M
+unfold-spec =
+    tie.close
+    (tie.spec
+    Inv-loop
+    μ-loop
+    no-jobs-requires
+    loop-holds
+    tick-requires
+    add-t
+    loop-less
+    loop-again
+    returns)

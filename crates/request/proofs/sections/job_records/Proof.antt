@@ -1,0 +1,82 @@
+use Rattle.base.proofs.Paths.{paths}
+use mathlib.Core.Path.{_≡_, refl, sym, ap, _∙_}
+use Prim.Native.Nat.{ℕ, _≤_, _<_, _+_, _-_, _*_, min}
+use native.Mathlib.Omega.{arith}
+use Rattle.base.specs.Bytes.{byteAt}
+use Rattle.request.specs.Format.{countOf, jobRecords}
+use borrow.Author.Needs.{needs}
+use Rattle.request.proofs.sections.job_records.Statement.{statement}
+use Rattle.request.proofs.sections.job_records.Tie as tie
+
+shared-slice-read-count : tie.Need-shared-slice-read-count
+shared-slice-read-count c = search needs
+
+cast-count : tie.Need-cast-count
+cast-count c = omega (arith, c .shared-slice-known2 .given (c .before .before .args .at))
+
+job-count-requires : tie.Need-job-count-requires
+job-count-requires c κs = search needs
+
+returns : tie.Need-returns
+unfolding jobRecords
+returns c =
+    let z = c .before in
+    let a = z .before .before .before .args in
+    let k : 16 < countOf (a .s .now) (a .tasks) (a .from) (byteAt (a .s .now) (a .at)) (a .h) = omega arith in
+    search paths
+
+add-records-fault : tie.Need-add-records-fault
+add-records-fault c = search needs
+
+records-fault-requires : tie.Need-records-fault-requires
+records-fault-requires c κs = search needs
+
+returns-2 : tie.Need-returns-2
+unfolding jobRecords
+returns-2 c =
+    let z = c .before .before .before in
+    let a = z .before .before .before .args in
+    let k : countOf (a .s .now) (a .tasks) (a .from) (byteAt (a .s .now) (a .at)) (a .h) ≤ 16 = omega arith in
+    search paths
+
+add-if3 : tie.Need-add-if3
+add-if3 c = search needs
+
+mul-if3 : tie.Need-mul-if3
+mul-if3 c = omega (arith, c .before .before .before .before .shared-slice-known2 .given (c .before .before .before .before .before .before .args .at))
+
+add-if3-2 : tie.Need-add-if3-2
+add-if3-2 c = omega (arith, c .before .before .before .before .shared-slice-known2 .given (c .before .before .before .before .before .before .args .at))
+
+returns-3 : tie.Need-returns-3
+unfolding jobRecords
+returns-3 c =
+    let z = c .before .before .before .before in
+    let a = z .before .before .before .args in
+    let k : countOf (a .s .now) (a .tasks) (a .from) (byteAt (a .s .now) (a .at)) (a .h) ≤ 16 = omega arith in
+    search paths
+
+returns-4 : tie.Need-returns-4
+unfolding jobRecords
+returns-4 c =
+    let z = c .before .before .before .before in
+    let a = z .before .before .before .args in
+    let k : countOf (a .s .now) (a .tasks) (a .from) (byteAt (a .s .now) (a .at)) (a .h) ≤ 16 = omega arith in
+    search paths
+
+pub job-records-spec : {M : Type 1} → statement M
+job-records-spec =
+    tie.close
+    (tie.spec
+    shared-slice-read-count
+    cast-count
+    job-count-requires
+    returns
+    add-records-fault
+    records-fault-requires
+    returns-2
+    add-if3
+    mul-if3
+    add-if3-2
+    returns-3
+    returns-4)

@@ -1,0 +1,28 @@
+-- How the code keeps jobs while it counts them: a list of jobs in an array of 16, as many as fit, with its count capped. Nobody need believe these: a file that is
+-- accepted has at most 16 jobs, and there `packed` is the document's list in its array (proofs/Packed).
+-- Assumes nothing.
+use Prim.Native.Nat.{ℕ, _+_, _%_, min}
+use mathlib.Core.List.{List}
+use mathlib.Core.Bool.{cond}
+use lib.ListN.{length, take, set}
+use lib.Dec.{ltb, eqb}
+use Rattle.base.specs.Lists.{padded}
+use Rattle.schedule.specs.declared.Job.{Job}
+use Rattle.schedule.specs.declared.Jobs.{Jobs}
+use Rattle.schedule.specs.Quantities.{noJob}
+use Rattle.request.specs.declared.Task.{Task}
+use Rattle.request.specs.Format.{jobOf}
+
+unfoldable pub packed : List Job → Jobs
+packed l = record { count = min (length l) 17; list = padded 16 noJob (take 16 l) }
+
+-- One job more.
+unfoldable pub pushed : Jobs → Job → Jobs
+pushed js j =
+    cond (ltb (js .count) 16)
+    (record { count = js .count + 1; list = set (js .list) (js .count) j })
+    (record { count = 17; list = js .list })
+
+-- With what a task releases at t.
+unfoldable pub releasedTo : Jobs → Task → ℕ → Jobs
+releasedTo js k t = cond (eqb (t % k .period) 0) (pushed js (jobOf k t)) js

@@ -1,0 +1,124 @@
+// The jobs in an array, as the file lists them or as its tasks release them. An array holds as many as fit; its count stays at 17 for all above 16.
+ghost use mathlib.Core.Path.{_≡_};
+ghost use mathlib.Core.List.{[]};
+ghost use Prim.Native.Nat.{ℕ, _+_, _*_, _≤_, _<_};
+ghost use lib.ListN.{length};
+ghost use Rattle.base.specs.Bytes.{byteAt};
+ghost use Rattle.request.specs.Format.{recordsFault, horizonOf, jobOf, unfolded, listed, jobsOf};
+ghost use Rattle.request.specs.Held.{packed, pushed, releasedTo};
+ghost use Rattle.request.specs.declared.Section.the-variants.{TaskRecords};
+use super::Task;
+use super::TaskNumber;
+use super::records;
+use schedule::Job;
+use schedule::Jobs;
+
+pub(crate) fn no_jobs() -> Jobs
+    ensures { λ r. ⌜ r ≡ packed [] ⌝ }
+{
+    let none = Job {
+        release: 0,
+        deadline: 0,
+        run: 0,
+        uses: [false; 8],
+    };
+    Jobs {
+        count: 0,
+        list: [none; 16],
+    }
+}
+
+fn push(js: Jobs, j: Job) -> Jobs
+    ensures { λ r. ⌜ r ≡ pushed js j ⌝ }
+{
+    let n = js.count;
+    let mut out = js;
+    if n < 16 {
+        out.list[n] = j;
+        out.count = n + 1;
+        return out;
+    }
+    out.count = 17;
+    out
+}
+
+// The job that a task releases at t: due one period later.
+fn job_of(k: Task, t: u32) -> Job
+    requires { ⌜ t + k .period < 65536 ⌝ }
+    ensures { λ r. ⌜ r ≡ jobOf k t ⌝ }
+{
+    let uses = k.uses;
+    Job {
+        release: t as u16,
+        deadline: (t + k.period as u32) as u16,
+        run: k.run,
+        uses: uses,
+    }
+}
+
+// The jobs with what a task releases at t.
+fn release(k: Task, t: u32, js: Jobs) -> Jobs
+    requires { ⌜ (0 < k .period) × (t + k .period < 65536) ⌝ }
+    ensures { λ r. ⌜ r ≡ releasedTo js k t ⌝ }
+{
+    if t % k.period as u32 == 0 {
+        push(js, job_of(k, t))
+    } else {
+        js
+    }
+}
+
+// One tick's jobs, by task number, after those of the ticks before.
+fn tick(s: &[u8], n: usize, tasks: usize, from: usize, t: u32, before: Jobs) -> Jobs
+    requires { ⌜ (from ≤ length (now s)) × (0 ≡ recordsFault (now s) (TaskRecords n) tasks from) × (t < 4096) × (before ≡ packed (unfolded (now s) tasks from t)) ⌝ }
+    ensures { λ r. ⌜ r ≡ packed (unfolded (now (s .entry)) tasks from (t + 1)) ⌝ }
+{
+    let mut js = before;
+    let mut i: usize = 0;
+    while i < tasks {
+        let k = records::task_of(s, from, TaskNumber(i));
+        js = release(k, t, js);
+        i += 1;
+    }
+    js
+}
+
+// The jobs that the tasks release before h, tick by tick: so they come by release, and equal releases by task number.
+pub(crate) fn unfold(s: &[u8], n: usize, tasks: usize, from: usize, h: u32) -> Jobs
+    requires { ⌜ (from ≤ length (now s)) × (0 ≡ recordsFault (now s) (TaskRecords n) tasks from) × (h ≤ 4096) ⌝ }
+    ensures { λ r. ⌜ r ≡ packed (unfolded (now (s .entry)) tasks from h) ⌝ }
+{
+    let mut js = no_jobs();
+    let mut t: u32 = 0;
+    while t < h {
+        js = tick(s, n, tasks, from, t, js);
+        t += 1;
+    }
+    js
+}
+
+// The jobs that the file lists.
+fn listed_jobs(s: &[u8], count: usize, from: usize) -> Jobs
+    requires { ⌜ from + count * 7 ≤ length (now s) ⌝ }
+    ensures { λ r. ⌜ r ≡ packed (listed (now (s .entry)) count from) ⌝ }
+{
+    let mut js = no_jobs();
+    let mut i: usize = 0;
+    while i < count {
+        js = push(js, records::job_at(s, from + i * 7));
+        i += 1;
+    }
+    js
+}
+
+// The jobs of a file, unfolded or given: the job count stands at `at`.
+pub(crate) fn jobs_of(s: &[u8], n: usize, tasks: usize, from: usize, at: usize, h: u32) -> Jobs
+    requires { ⌜ (from ≤ length (now s)) × (0 ≡ recordsFault (now s) (TaskRecords n) tasks from) × (h ≤ 4096) × (h ≡ horizonOf (now s) tasks from) × (at + 1 + byteAt (now s) at * 7 ≤ length (now s)) ⌝ }
+    ensures { λ r. ⌜ r ≡ packed (jobsOf (now (s .entry)) tasks from at) ⌝ }
+{
+    if tasks == 0 {
+        let count = s[at] as usize;
+        return listed_jobs(s, count, at + 1);
+    }
+    unfold(s, n, tasks, from, h)
+}

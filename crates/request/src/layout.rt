@@ -1,0 +1,76 @@
+// What a file without a fault says, laid out in arrays: the search reads devices and jobs at every vertex.
+ghost use mathlib.Core.Path.{_≡_};
+ghost use mathlib.Core.List.{[]};
+ghost use Prim.Native.Nat.{ℕ, _+_, _*_, _≤_};
+ghost use lib.ListN.{length};
+ghost use Rattle.base.specs.Lists.{upTo};
+ghost use Rattle.request.specs.Format.{deviceAt, devicesHeld, faultOf, recorderIn, noRecorder};
+use super::horizon;
+use super::jobs;
+use super::records;
+use device::Device;
+use schedule::Devices;
+use schedule::Recorder;
+
+// The first n devices of the file.
+fn devices_of(s: &[u8], n: usize) -> Devices
+    requires { ⌜ (n ≤ 8) × (3 + n * 7 ≤ length (now s)) ⌝ }
+    ensures { λ r. ⌜ r ≡ devicesHeld (upTo (λ k. deviceAt (now (s .entry)) (3 + k * 7)) n) ⌝ }
+{
+    let none = Device {
+        t: 0,
+        pw: 0,
+        ps: 0,
+        p0: 0,
+    };
+    let mut list = [none; 8];
+    let mut k: usize = 0;
+    while k < n {
+        list[k] = records::device_at(s, 3 + k * 7);
+        k += 1;
+    }
+    Devices {
+        count: n,
+        list: list,
+    }
+}
+
+// The recorder of a file without a fault.
+pub(crate) fn recorder_in(s: &[u8]) -> Recorder
+    requires { ⌜ 0 ≡ faultOf (now s) ⌝ }
+    ensures { λ r. ⌜ r ≡ recorderIn (now (s .entry)) ⌝ }
+{
+    let n = s[2] as usize;
+    let place = 3 + n * 7;
+    let tasks = s[place] as usize;
+    let h = horizon::horizon_of(s, n, tasks, place + 1);
+    let devices = devices_of(s, n);
+    let jobs = jobs::jobs_of(s, n, tasks, place + 1, place + 1 + tasks * 5, h);
+    Recorder {
+        horizon: h as u16,
+        devices: devices,
+        jobs: jobs,
+    }
+}
+
+// What is handed on with a refusal.
+pub(crate) fn no_recorder() -> Recorder
+    ensures { λ r. ⌜ r ≡ noRecorder ⌝ }
+{
+    let none = Device {
+        t: 0,
+        pw: 0,
+        ps: 0,
+        p0: 0,
+    };
+    let devices = Devices {
+        count: 0,
+        list: [none; 8],
+    };
+    let jobs = jobs::no_jobs();
+    Recorder {
+        horizon: 0,
+        devices: devices,
+        jobs: jobs,
+    }
+}

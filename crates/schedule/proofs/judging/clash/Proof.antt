@@ -1,0 +1,26 @@
+use borrow.Author.Needs.{needs}
+use Rattle.base.proofs.Paths.{paths}
+use Rattle.schedule.specs.Judging.{clashes}
+use Rattle.schedule.proofs.judging.clash.Statement.{statement}
+use Rattle.schedule.proofs.judging.clash.Tie as tie
+
+returns : tie.Need-returns
+unfolding clashes
+returns c = search paths
+
+add-if2 : tie.Need-add-if2
+add-if2 c = search needs
+
+add-result : tie.Need-add-result
+add-result c = search needs
+
+returns-2 : tie.Need-returns-2
+unfolding clashes
+returns-2 c = search paths
+
+returns-3 : tie.Need-returns-3
+unfolding clashes
+returns-3 c = search paths
+
+pub clash-spec : {M : Type 1} → statement M
+clash-spec = tie.close (tie.spec returns add-if2 add-result returns-2 returns-3)
