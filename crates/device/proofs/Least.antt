@@ -54,14 +54,18 @@ pub length-row : (d : Device) (u : List Bool) → length (rowOf d u) ≡ length 
 length-row d u = omega (arith, length-rowFrom W (gapRow (d .t)) (length-gap (d .t)) 0 u)
 
 -- No tick costs more than the largest power.
-pub energy-most : (d : Device) (hi : ℕ) → d .pw ≤ hi → d .ps ≤ hi → d .p0 ≤ hi → (u : List Bool) → energyOf d u ≤ hi * length u
-energy-most d hi hw hs h0 u = rw length-row at (total-high (power d) hi most (rowOf d u))
-  where
-    most : (x : Letter) → power d x ≤ hi
-    most W = hw
-    most D = h0
-    most S = hs
-    most U = h0
+module _ (d : Device) (hi : ℕ) (hw : d .pw ≤ hi) (hs : d .ps ≤ hi) (h0 : d .p0 ≤ hi) where
+  power-most : (x : Letter) → power d x ≤ hi
+  power-most W = hw
+  power-most D = h0
+  power-most S = hs
+  power-most U = h0
+
+  pub energy-most : (u : List Bool) → energyOf d u ≤ hi * length u
+  energy-most u = rw length-row at (total-high (power d) hi power-most (rowOf d u))
+
+  pub gap-most : (g : ℕ) → energy d (gapRow (d .t) g) ≤ hi * g
+  gap-most g = rw length-gap at (total-high (power d) hi power-most (gapRow (d .t) g))
 
 pub energy-none : (d : Device) → energyOf d [] ≡ 0
 energy-none d = ap (energy d) (gap-none (d .t))

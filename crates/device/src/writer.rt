@@ -25,8 +25,9 @@ fn fill_gap(gap: &mut [u8], t: u8)
     ensures { λ r. ⌜ now (gap .exit) ≡ map byteOf (gapRow t (length (now (gap .entry)))) ⌝ }
 {
     let down = t as usize;
+    let moving = down + down;
     let g = gap.len();
-    if down + down <= g {
+    if moving <= g {
         let up = g - down;
         fill(&mut gap[..down], b'D');
         fill(&mut gap[down..up], b'S');

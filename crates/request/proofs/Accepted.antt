@@ -12,7 +12,7 @@ use lib.Dec.{eqb}
 use borrow.Author.Tests.{leb-false, eqb-true, eqb-false, eq-eqb}
 use Rattle.base.specs.Bytes.{byteAt, pairAt}
 use Rattle.base.specs.Lists.{padded}
-use Rattle.base.proofs.Arrays.{getD-padded, getD-upTo, length-upTo}
+use Rattle.base.proofs.Arrays.{getD-padded, getD-held, getD-upTo, length-upTo}
 use Rattle.base.proofs.Cases.{cond-cases}
 use Rattle.base.proofs.Every.{Every, every-at}
 use Rattle.base.proofs.Records.{first-each}
@@ -21,7 +21,7 @@ use Rattle.schedule.specs.declared.Recorder.{Recorder}
 use Rattle.schedule.specs.Quantities.{noJob, noDevice, Valid}
 use Rattle.request.specs.declared.Request.{Request}
 use Rattle.request.specs.declared.Section.the-variants.{DeviceRecords}
-use Rattle.request.specs.Format.{Reading, refused, accepted, deviceAt, deviceTable, recordTable, recordFault, horizonOf, jobsOf, countOf, faultOf, taskCount, tasksPlace, jobsPlace, horizonIn, devicesIn, jobsIn, recorderIn, readOf, handedOn}
+use Rattle.request.specs.Format.{emptyJob, Reading, refused, accepted, deviceAt, deviceTable, recordTable, recordFault, horizonOf, jobsOf, countOf, faultOf, taskCount, tasksPlace, jobsPlace, horizonIn, devicesIn, jobsIn, recorderIn, readOf, handedOn}
 use Rattle.request.proofs.Checked.{record-clear}
 use Rattle.request.proofs.Faultless.{Faultless, faultless, length-jobs, tasks-alone}
 use Rattle.request.proofs.Fitting.{Fits, listed-fit, unfolded-fit}
@@ -59,8 +59,8 @@ module _ (s : List ℕ) (ok : Faultless s) where
       (λ z. listed-fit s (byteAt s 2) (horizonIn s) (byteAt s (jobsPlace s)) (jobsPlace s + 1) (ok .jobs .records))
       (λ z. unfolded-fit s (byteAt s 2) (horizonIn s) (taskCount s) (tasksPlace s + 1) (ok .task-records) (periods-divide z) (horizonIn s) (le-refl (horizonIn s)))
 
-  job-fits : (j : ℕ) → j < length (jobsIn s) → Fits (horizonIn s) (byteAt s 2) (getD (padded 16 noJob (jobsIn s)) j noJob)
-  job-fits j l = rw getD-padded (every-at (Fits (horizonIn s) (byteAt s 2)) (jobsIn s) noJob jobs-fit j l)
+  job-fits : (j : ℕ) → j < length (jobsIn s) → Fits (horizonIn s) (byteAt s 2) (getD (padded 16 emptyJob (jobsIn s)) j noJob)
+  job-fits j l = rw (getD-held 16 emptyJob (jobsIn s) j noJob l) (every-at (Fits (horizonIn s) (byteAt s 2)) (jobsIn s) noJob jobs-fit j l)
 
   valid : Valid (recorderIn s)
   unfolding recorderIn

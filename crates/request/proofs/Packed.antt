@@ -13,7 +13,7 @@ use lib.Dec.{eqb}
 use borrow.Author.Tests.{lt-ltb, le-ltb}
 use Rattle.base.proofs.Arrays.{padded-more, padded-full}
 use Rattle.schedule.specs.declared.Job.{Job}
-use Rattle.schedule.specs.Quantities.{noJob}
+use Rattle.request.specs.Format.{emptyJob}
 use Rattle.request.specs.declared.Task.{Task}
 use Rattle.request.specs.Format.{taskAt, jobOf, released, releasedAt, unfolded, jobsHeld}
 use Rattle.request.specs.Held.{packed, pushed, releasedTo}
@@ -23,14 +23,14 @@ unfolding packed pushed
 push-small l j h =
     let m : min (length l) 17 ≡ length l = omega arith in
     let n : min (length l + 1) 17 ≡ length l + 1 = omega arith in
-    rw (m, lt-ltb _ _ h, padded-more 16 noJob l j h, length-append, n)
+    rw (m, lt-ltb _ _ h, padded-more 16 emptyJob l j h, length-append, n)
 
 push-full : (l : List Job) (j : Job) → 16 ≤ length l → pushed (packed l) j ≡ packed (l ++ (j ∷ []))
 unfolding packed pushed
 push-full l j h =
     let m : 16 ≤ min (length l) 17 = omega arith in
     let n : min (length l + 1) 17 ≡ 17 = omega arith in
-    rw (le-ltb _ _ m, length-append, n, padded-full 16 noJob l j h)
+    rw (le-ltb _ _ m, length-append, n, padded-full 16 emptyJob l j h)
 
 pub packed-push : (l : List Job) (j : Job) → pushed (packed l) j ≡ packed (l ++ (j ∷ []))
 packed-push l j = elim (decLt (length l) 16) [ yes h ↦ push-small l j h | no h ↦ push-full l j (omega arith) ]

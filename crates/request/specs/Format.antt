@@ -4,7 +4,7 @@
 use Prim.Native.Nat.{ℕ, zero, suc, _+_, _-_, _*_, _/_, _%_, _^_}
 use mathlib.Core.List.{List, [], _∷_, _++_}
 use mathlib.Core.Bool.{Bool, true, false, cond, not, _&&_, _||_}
-use lib.ListN.{length}
+use lib.ListN.{length, replicate}
 use lib.Dec.{ltb, leb, eqb}
 use Rattle.base.specs.Bytes.{byteAt, pairAt}
 use Rattle.base.specs.Lists.{upTo, padded}
@@ -14,7 +14,7 @@ use Rattle.schedule.specs.declared.Job.{Job}
 use Rattle.schedule.specs.declared.Jobs.{Jobs}
 use Rattle.schedule.specs.declared.Devices.{Devices}
 use Rattle.schedule.specs.declared.Recorder.{Recorder}
-use Rattle.schedule.specs.Quantities.{noJob, noDevice}
+use Rattle.schedule.specs.Quantities.{noDevice}
 use Rattle.request.specs.declared.Request.{Request}
 use Rattle.request.specs.declared.Task.{Task}
 use Rattle.request.specs.declared.Section.{Section}
@@ -195,12 +195,15 @@ devicesIn s = upTo (λ k. deviceAt s (3 + k * 7)) (byteAt s 2)
 abbrev pub jobsIn : List ℕ → List Job
 jobsIn s = jobsOf s (taskCount s) (tasksPlace s + 1) (jobsPlace s)
 
--- A list of devices and one of jobs in their arrays.
+-- A list of devices and one of jobs in their arrays. The places that hold none are all 0.
+abbrev pub emptyJob : Job
+emptyJob = record { release = 0; deadline = 0; run = 0; uses = replicate 8 false }
+
 abbrev pub devicesHeld : List Device → Devices
 devicesHeld l = record { count = length l; list = padded 8 noDevice l }
 
 abbrev pub jobsHeld : List Job → Jobs
-jobsHeld l = record { count = length l; list = padded 16 noJob l }
+jobsHeld l = record { count = length l; list = padded 16 emptyJob l }
 
 unfoldable pub recorderIn : List ℕ → Recorder
 recorderIn s = record { horizon = horizonIn s; devices = devicesHeld (devicesIn s); jobs = jobsHeld (jobsIn s) }

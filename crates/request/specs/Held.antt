@@ -9,12 +9,11 @@ use lib.Dec.{ltb, eqb}
 use Rattle.base.specs.Lists.{padded}
 use Rattle.schedule.specs.declared.Job.{Job}
 use Rattle.schedule.specs.declared.Jobs.{Jobs}
-use Rattle.schedule.specs.Quantities.{noJob}
 use Rattle.request.specs.declared.Task.{Task}
-use Rattle.request.specs.Format.{jobOf}
+use Rattle.request.specs.Format.{emptyJob, jobOf}
 
 unfoldable pub packed : List Job → Jobs
-packed l = record { count = min (length l) 17; list = padded 16 noJob (take 16 l) }
+packed l = record { count = min (length l) 17; list = padded 16 emptyJob (take 16 l) }
 
 -- One job more.
 unfoldable pub pushed : Jobs → Job → Jobs

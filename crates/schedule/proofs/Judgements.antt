@@ -1,11 +1,11 @@
 -- Laws of judging: what a job's own test and the tests of two jobs say.
 -- Assumes nothing.
-use mathlib.Core.Path.{_≡_, refl, sym, subst}
+use mathlib.Core.Path.{_≡_, refl, sym, ap, subst}
 use mathlib.Core.Bool.{Bool, true, false, cond, true≢false}
 use mathlib.Core.List.{List, []}
 use mathlib.Core.Logic.{by-cases}
 use Prim.Native.Nat.{ℕ, _+_, _≤_, _<_, max}
-use native.Mathlib.Decide.{ℕ-discrete}
+use native.Mathlib.Decide.{ℕ-discrete, decLe}
 use native.Mathlib.Omega.{arith}
 use lib.Dec.{ltb, eqb}
 use lib.ListN.{length}
@@ -102,3 +102,40 @@ module _ (R : Recorder) (s : List ℕ) where
         apart = λ i j t hi hj a b. by-cases (ℕ-discrete i j) (λ e. e)
             (λ ne. absurd (none i hi (record { other = j; known = hj; another = λ e. ne (sym e); tick = t; here = a; there = b })));
       }
+
+  -- No schedule has two faults, and none that is feasible has one. A job that misses its own window:
+  abbrev Misses : ℕ → Type 0
+  Misses j = Released R s j → InTime R s j → ⊥
+
+  unreleased : (j : ℕ) → start s j < release R j → Misses j
+  unreleased j h r t = omega arith
+
+  untimely : (j : ℕ) → deadline R j < start s j + run R j → Misses j
+  untimely j h r t = omega arith
+
+  not-met : (i j : ℕ) → Met R s j → Misses i → j ≤ i
+  not-met i j m bad = by-cases (decLe j i) (λ h. h) (λ h. absurd (bad (m i (omega arith) .0) (m i (omega arith) .1)))
+
+  same-job : (i j : ℕ) → Met R s i → Misses i → Met R s j → Misses j → i ≡ j
+  same-job i j m bad m′ bad′ = omega (arith, not-met i j m′ bad, not-met j i m bad′)
+
+  not-less : (i k : ℕ) → (i < k → ⊥) → k ≤ i
+  not-less i k h = by-cases (decLe k i) (λ l. l) (λ l. absurd (h (omega arith)))
+
+  pub fault-one : {n j n′ j′ : ℕ} → Fault R s n j → Fault R s n′ j′ → (n ≡ n′) × (j ≡ j′)
+  fault-one (early {j = i} l m h) (early {j = j} l′ m′ h′) = (refl, same-job i j m (unreleased i h) m′ (unreleased j h′))
+  fault-one (early {j = i} l m h) (late {j = j} l′ m′ r′ h′) =
+      let e = same-job i j m (unreleased i h) m′ (untimely j h′) in absurd (omega (arith, ap (start s) e, ap (release R) e))
+  fault-one (early {j = i} l m h) (overlap l′ m′ o′ f′) = absurd (omega (arith, not-met i (jobs R) m′ (unreleased i h)))
+  fault-one (late {j = i} l m r h) (early {j = j} l′ m′ h′) =
+      let e = same-job i j m (untimely i h) m′ (unreleased j h′) in absurd (omega (arith, ap (start s) e, ap (release R) e))
+  fault-one (late {j = i} l m r h) (late {j = j} l′ m′ r′ h′) = (refl, same-job i j m (untimely i h) m′ (untimely j h′))
+  fault-one (late {j = i} l m r h) (overlap l′ m′ o′ f′) = absurd (omega (arith, not-met i (jobs R) m′ (untimely i h)))
+  fault-one (overlap l m o f) (early {j = j} l′ m′ h′) = absurd (omega (arith, not-met j (jobs R) m (unreleased j h′)))
+  fault-one (overlap l m o f) (late {j = j} l′ m′ r′ h′) = absurd (omega (arith, not-met j (jobs R) m (untimely j h′)))
+  fault-one (overlap {j = i} l m o f) (overlap {j = j} l′ m′ o′ f′) = (refl, omega (arith, not-less i j (λ h. f′ i h o), not-less j i (λ h. f j h o′)))
+
+  pub fault-infeasible : {n j : ℕ} → Fault R s n j → Feasible R s → ⊥
+  fault-infeasible (early {j = j} l m h) g = unreleased j h (g .released j l) (g .in-time j l)
+  fault-infeasible (late {j = j} l m r h) g = untimely j h (g .released j l) (g .in-time j l)
+  fault-infeasible (overlap {j = j} l m o f) g = o .another (g .apart (o .other) j (o .tick) (o .known) l (o .there) (o .here))

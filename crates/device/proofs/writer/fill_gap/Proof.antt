@@ -30,8 +30,8 @@ slept t l d s u l₂ h ed es e₂ eu =
     (length l₂ - (g - t)) g (omega arith) (omega arith) u eu in
     w₃ .is ∙ rw (drop-length l, append-nil, left) (sym (bytes-slept t g h))
 
-add-if1 : tie.Need-add-if1
-add-if1 c = search needs
+add-moving : tie.Need-add-moving
+add-moving c = search needs
 
 sub-up : tie.Need-sub-up
 sub-up c = search needs
@@ -94,7 +94,7 @@ pub fill-gap-spec : {M : Type 1} → statement M
 fill-gap-spec =
     tie.close
     (tie.spec
-    add-if1
+    add-moving
     sub-up
     slice-relend-prefix-fill
     slice-aggregate-fill
