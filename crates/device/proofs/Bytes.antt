@@ -11,7 +11,7 @@ use Rattle.device.specs.declared.Device.{Device}
 use Rattle.device.specs.declared.Uses.{Uses}
 use Rattle.device.specs.Row.{byteOf, gapRow, rowOf, pattern}
 use Rattle.device.specs.Uses.{begin, end, usedIn, after, Spaced}
-use Rattle.device.proofs.First.{map-replicate}
+use Rattle.device.proofs.Prefix.{map-replicate}
 use Rattle.device.proofs.Least.{length-gap, gap-none}
 use Rattle.device.proofs.Spacing.{use-fits, row-use, row-last}
 use Rattle.device.proofs.Parts.{Written, written-more}

@@ -12,6 +12,7 @@ use lib.ListN.{replicate}
 use Rattle.base.specs.Sums.{total}
 use Rattle.device.specs.declared.Device.{Device}
 use Rattle.device.specs.Row.{Sound, Letter, W, D, S, U, gapRow, rowFrom, rowOf}
+use Rattle.device.proofs.Prefix.{map-replicate, map-rowFrom}
 use Rattle.device.proofs.Rows.{Legal, Best, row-legal, row-beats}
 use Rattle.device.proofs.Walk.{trip}
 use Rattle.device.proofs.Gap.{Room, trip-cost, choose, choice-strict, best}
@@ -29,17 +30,7 @@ rung pw ps zero = pw
 rung pw ps (suc k) = ps
 
 abbrev pub one : Device → L.Ladder
-one d = record { deepest = 1; shut = d .t; wake = d .t; Pd = d .p0; Pu = d .p0; power-at = rung (d .pw) (d .ps) }
-
-pub map-replicate : {A B : Type 0} (f : A → B) (n : ℕ) (a : A) → map f (replicate n a) ≡ replicate n (f a)
-map-replicate f zero a = refl
-map-replicate {B = B} f (suc n) a = ap {B = List B} (λ r. f a ∷ r) (map-replicate f n a)
-
-map-rowFrom : {A B : Type 0} (f : A → B) (work : A) (fill : ℕ → List A) (g : ℕ) (u : List Bool)
-    → map f (rowFrom work fill g u) ≡ rowFrom (f work) (λ n. map f (fill n)) g u
-map-rowFrom f work fill g [] = refl
-map-rowFrom f work fill g (true ∷ u) = rw (map-append, map-rowFrom f work fill 0 u)
-map-rowFrom f work fill g (false ∷ u) = map-rowFrom f work fill (suc g) u
+one d = record { deepest = 1; shut = d .t; wake = d .t; power-down = d .p0; power-up = d .p0; power-at = rung (d .pw) (d .ps) }
 
 -- Sleeping through 2 T + c ticks is cheaper than working through them.
 slept-less : (t pw ps p0 c : ℕ) → ps < p0 → p0 < pw → 1 ≤ t → p0 * t + p0 * t + ps * c < pw * (t + t + c)

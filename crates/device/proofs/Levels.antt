@@ -34,14 +34,14 @@ pub record Ladder : Type 0 where
   pub deepest : ℕ
   pub shut : ℕ
   pub wake : ℕ
-  pub Pd : ℕ
-  pub Pu : ℕ
+  pub power-down : ℕ
+  pub power-up : ℕ
   pub power-at : ℕ → ℕ
 
 unfoldable pub power : Ladder → Letter → ℕ
 power d (at k) = d .power-at k
-power d D = d .Pd
-power d U = d .Pu
+power d D = d .power-down
+power d U = d .power-up
 
 unfoldable pub downs : Letter → ℕ
 downs (at k) = 0
@@ -91,6 +91,7 @@ module _ (d : Ladder) where
       res at-work = stays {k = 0} rests (omega arith)
       res woken = resumes
 
+  -- What a run from each state is: what is left of a move, and a walk from the level it leads to.
   abbrev From : State → List Letter → Type 0
   From (level k) p = Walk (moves d) k p
   From (down k n) p = (r : List Letter) × (p ≡ replicate n D ++ r) × Walk (moves d) k r
@@ -105,6 +106,7 @@ module _ (d : Ladder) where
   rested p fallen v = (p, refl, v)
   rested p risen v = (p, refl, v)
 
+  -- A move: its first tick, and the n that are left.
   block : (x : Letter) (n m : ℕ) (p r : List Letter) → suc n ≡ m → p ≡ replicate n x ++ r → replicate m x ++ r ≡ x ∷ p
   block x n m p r e f = rw (← e, f)
 
@@ -179,8 +181,8 @@ module _ (d : Ladder) where
     pub shut-some : 1 ≤ d .shut
     pub wake-some : 1 ≤ d .wake
     pub below : (k : ℕ) → k < d .deepest → d .power-at (suc k) < d .power-at k
-    pub below-down : d .power-at 1 < d .Pd
-    pub below-up : d .power-at 1 < d .Pu
+    pub below-down : d .power-at 1 < d .power-down
+    pub below-up : d .power-at 1 < d .power-up
 
   module _ (Z : Sleeps) where
     -- i and the levels j further down

@@ -1,11 +1,11 @@
 -- A buffer that is written from left to right, part by part, where each part is lent to the function that fills it.
 -- Assumes nothing.
 use mathlib.Core.Path.{_≡_, ap, _∙_}
-use mathlib.Core.List.{List, _++_, append-assoc}
-use Prim.Native.Nat.{ℕ, _+_, _≤_}
+use mathlib.Core.List.{List, [], _++_, append-assoc, append-nil}
+use Prim.Native.Nat.{ℕ, _+_, _-_, _≤_}
 use native.Mathlib.Omega.{arith}
-use lib.ListN.{length, take, drop, length-append, length-drop}
-use lib.Seq.{take-at, drop-at, drop-drop, length-take-le}
+use lib.ListN.{length, take, drop, length-append, length-drop, drop-of-length-le}
+use lib.Seq.{take-at, take-all, drop-at, drop-drop, length-take-le}
 use borrow.Rule.Slice.PartMut.{putMid}
 
 -- The first `at` places hold `front`, and the rest stand as they did in l₀.
@@ -31,3 +31,15 @@ module _ (f : ℕ → List ℕ) (sized : (n : ℕ) → length (f n) ≡ n) where
       let made : m ≡ f k = e ∙ ap (λ (x : List ℕ). f (length (take k x))) rest ∙ ap f room in
       let tail : drop k (drop at l₀) ≡ drop to l₀ = drop-drop k at l₀ ∙ ap (λ (n : ℕ). drop n l₀) s in
       record { long = omega (arith, length-append front (f k), sized k, w .long); is = rw (head, made, rest, tail, append-assoc) }
+
+-- All places after those that are written are lent, and come back as `made` with what stood after it.
+pub written-tail : {l₀ front l : List ℕ} {at : ℕ} → Written l₀ at front l → (made : List ℕ) (to : ℕ) → at + length made ≡ to → to ≤ length l₀
+    → (m : List ℕ) → m ≡ made ++ drop (length made) (take (length l - at) (drop at l)) → Written l₀ to (front ++ made) (putMid at (length l - at) l m)
+written-tail {l₀} {front} {l} {at} w made to s h m e =
+    let size = written-length w (omega arith) in
+    let rest : drop at l ≡ drop at l₀ = ap (drop at) (w .is) ∙ drop-at front (drop at l₀) at (w .long) in
+    let whole : take (length l - at) (drop at l₀) ≡ drop at l₀ = take-all (length l - at) (drop at l₀) (omega (arith, length-drop at l₀)) in
+    let none : drop (length l - at) (drop at l₀) ≡ [] = drop-of-length-le (drop at l₀) {i = length l - at} (omega (arith, length-drop at l₀)) in
+    let head : take at l ≡ front = ap (take at) (w .is) ∙ take-at front (drop at l₀) at (w .long) in
+    let tail : drop (length made) (drop at l₀) ≡ drop to l₀ = drop-drop (length made) at l₀ ∙ ap (λ (n : ℕ). drop n l₀) s in
+    record { long = omega (arith, length-append front made, w .long); is = rw (head, e, rest, whole, none, append-nil, tail, append-assoc) }

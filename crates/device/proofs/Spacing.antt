@@ -22,7 +22,7 @@ use Rattle.device.proofs.Least.{row-place, row-close, energy-place, ene
 
 module _ (u : Uses) where
   -- A tick that lies in none of the first n uses.
-  used-none : (t n : ℕ) → ((j : ℕ) → j < n → (t < begin u j) ⊎ (end u j ≤ t)) → usedBefore u n t ≡ false
+  pub used-none : (t n : ℕ) → ((j : ℕ) → j < n → (t < begin u j) ⊎ (end u j ≤ t)) → usedBefore u n t ≡ false
   unfolding usedBefore
   used-none t zero h = refl
   used-none t (suc n) h =
@@ -34,7 +34,7 @@ module _ (u : Uses) where
       go false l = refl
 
   -- A tick that lies in use i.
-  used-one : (t i n : ℕ) → i < n → begin u i ≤ t → t < end u i → usedBefore u n t ≡ true
+  pub used-one : (t i n : ℕ) → i < n → begin u i ≤ t → t < end u i → usedBefore u n t ≡ true
   unfolding usedBefore
   used-one t i zero h a b = absurd (omega arith)
   used-one t i (suc n) h a b =

@@ -1,6 +1,6 @@
 -- The uses of one device, in running order, as the code keeps them: use i begins at tick `begin i` and ends before tick `end i`.
 -- Assumes nothing.
-use mathlib.Core.Bool.{Bool, true, false, _&&_, _||_}
+use mathlib.Core.Bool.{Bool, false, _&&_, _||_}
 use Prim.Native.Nat.{ℕ, zero, suc, _≤_, _<_}
 use lib.Dec.{leb, ltb}
 use lib.ListN.{getD}

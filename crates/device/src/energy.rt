@@ -1,6 +1,6 @@
 // The energy of a device's least row, from its gaps and its uses.
 ghost use mathlib.Core.Path.{_≡_};
-ghost use Prim.Native.Nat.{_+_, _*_};
+ghost use Prim.Native.Nat.{_+_, _*_, _≤_};
 ghost use Rattle.device.specs.Row.{device, energy, gapRow, energyOf, pattern};
 ghost use Rattle.device.specs.Uses.{usedIn, Spaced};
 use crate::Device;
@@ -22,7 +22,7 @@ pub fn gap_energy(t: u8, pw: u16, ps: u16, p0: u16, g: u16) -> u32
 // The least energy of a device over h ticks with these uses.
 pub fn energy_of(d: Device, h: u16, u: Uses) -> u32
     requires { ⌜ Spaced u h ⌝ }
-    ensures { λ r. ⌜ r ≡ energyOf d (pattern (usedIn u) 0 h) ⌝ }
+    ensures { λ r. ⌜ (r ≡ energyOf d (pattern (usedIn u) 0 h)) × (r ≤ 65535 * h) ⌝ }
 {
     let mut sum: u32 = 0;
     let mut at: u16 = 0;

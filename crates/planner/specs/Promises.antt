@@ -3,16 +3,16 @@
 -- one outcome for every input.
 -- Assumes nothing.
 use mathlib.Core.Path.{_≡_}
-use mathlib.Core.List.{List, [], _∷_, _++_, map}
-use Prim.Native.Nat.{ℕ, zero, suc, _*_, _≤_, _<_}
+use mathlib.Core.List.{List, _++_}
+use Prim.Native.Nat.{ℕ, _*_, _≤_, _<_}
 use lib.IntN.{ℤ}
 use lib.ListN.{length, drop}
 use Rattle.base.specs.Lists.{upTo}
 use Rattle.base.specs.Sums.{sum}
-use Rattle.device.specs.Row.{Letter, byteOf, energy}
+use Rattle.device.specs.Row.{Letter, energy}
 use Rattle.schedule.specs.declared.Recorder.{Recorder}
 use Rattle.schedule.specs.Quantities.{device, jobs}
-use Rattle.schedule.specs.Listing.{Feasible, Fault, Rows, Costs, FirstLeast, margin}
+use Rattle.schedule.specs.Listing.{Feasible, Fault, Rows, Costs, FirstLeast, laid, margin}
 use Rattle.schedule.specs.Visiting.{vertices}
 use Rattle.request.specs.Format.{Reading, readOf}
 use Rattle.request.specs.Format as Format
@@ -58,11 +58,7 @@ pub data Judged (file starts : List ℕ) : Answer → Type 0 where
   faulty : {R : Recorder} {n j : ℕ} → Reads file R → length starts ≡ jobs R → Fault R starts n j → Judged file starts (refusalAt n j)
   feasible : {R : Recorder} {e : ℕ} → Reads file R → Feasible R starts → Costs R starts e → Judged file starts (success (R .horizon) e 0)
 
--- `rows`: the bytes of the first n rows, one after the other. Each has H letters, so that 'the row of device k begins at place k × H'.
-unfoldable pub laid : (ℕ → List Letter) → ℕ → List ℕ
-laid rows zero = []
-laid rows (suc k) = laid rows k ++ map byteOf (rows k)
-
+-- `rows`
 pub data Rowed (file starts lent : List ℕ) : Answer → List ℕ → Type 0 where
   refused : {n : ℕ} → Refused file n → Rowed file starts lent (refusal n) lent
   unequal : {R : Recorder} → Reads file R → (length starts ≡ jobs R → ⊥) → Rowed file starts lent (refusal 14) lent

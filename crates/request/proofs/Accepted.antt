@@ -1,15 +1,14 @@
 -- For callers: what a file that is accepted guarantees, and what is handed on of a reading.
 -- Assumes nothing.
 use mathlib.Core.Path.{_≡_, refl, sym, subst, _∙_}
-use mathlib.Core.Bool.{Bool, true, false, cond}
+use mathlib.Core.Bool.{false}
 use mathlib.Core.List.{List}
-use mathlib.Core.Logic.{⊎-elim}
-use Prim.Native.Nat.{ℕ, zero, suc, _+_, _*_, _<_, _≤_, _∣_}
+use Prim.Native.Nat.{ℕ, _+_, _*_, _<_, _≤_, _∣_}
 use native.Mathlib.Omega.{arith}
-use native.Mathlib.Nat.{pos-of-ne-zero, le-refl, eq-zero-or-pos}
+use native.Mathlib.Nat.{pos-of-ne-zero, le-refl}
 use lib.ListN.{length, getD}
 use lib.Dec.{eqb}
-use borrow.Author.Tests.{leb-false, eqb-true, eqb-false, eq-eqb}
+use borrow.Author.Tests.{leb-false, eqb-true, eqb-false}
 use Rattle.base.specs.Bytes.{byteAt, pairAt}
 use Rattle.base.specs.Lists.{padded}
 use Rattle.base.proofs.Arrays.{getD-padded, getD-held, getD-upTo, length-upTo}
@@ -21,9 +20,9 @@ use Rattle.schedule.specs.declared.Recorder.{Recorder}
 use Rattle.schedule.specs.Quantities.{noJob, noDevice, Valid}
 use Rattle.request.specs.declared.Request.{Request}
 use Rattle.request.specs.declared.Section.the-variants.{DeviceRecords}
-use Rattle.request.specs.Format.{emptyJob, Reading, refused, accepted, deviceAt, deviceTable, recordTable, recordFault, horizonOf, jobsOf, countOf, faultOf, taskCount, tasksPlace, jobsPlace, horizonIn, devicesIn, jobsIn, recorderIn, readOf, handedOn}
+use Rattle.request.specs.Format.{Reading, refused, accepted, deviceAt, deviceTable, recordTable, recordFault, horizonOf, jobsOf, countOf, faultOf, taskCount, tasksPlace, jobsPlace, horizonIn, devicesIn, jobsIn, emptyJob, recorderIn, readOf, handedOn}
 use Rattle.request.proofs.Checked.{record-clear}
-use Rattle.request.proofs.Faultless.{Faultless, faultless, length-jobs, tasks-alone}
+use Rattle.request.proofs.Faultless.{Faultless, faultless, length-jobs, jobs-end}
 use Rattle.request.proofs.Fitting.{Fits, listed-fit, unfolded-fit}
 use Rattle.request.proofs.Highest.{fault-le}
 use Rattle.request.proofs.Multiples.{horizon-multiple}
@@ -105,10 +104,7 @@ module _ (s : List ℕ) where
   unfolding countOf
   accepted-short R e =
       let ok = faultless s (accepted-is R e .0) in
-      ⊎-elim
-      (λ z. let few : byteAt s (jobsPlace s) ≤ 16 = rw (eq-eqb (taskCount s) 0 z) at (ok .jobs .few-jobs) in omega (arith, ok, ok .jobs))
-      (λ p. omega (arith, ok, ok .jobs, tasks-alone (taskCount s) (pairAt s 0) (byteAt s (jobsPlace s)) (ok .jobs .apart) (λ z. omega arith)))
-      (eq-zero-or-pos (taskCount s))
+      omega (arith, ok, ok .jobs .whole, jobs-end (taskCount s) (pairAt s 0) (byteAt s (jobsPlace s)) _ (jobsPlace s) (ok .few-tasks) (omega (arith, ok)) (ok .jobs .apart) (ok .jobs .few-jobs))
 
   -- A refusal of the file is one of the numbers 1 to 13.
   pub refused-number : (n : ℕ) → readOf s ≡ refused n → (1 ≤ n) × (n ≤ 13)

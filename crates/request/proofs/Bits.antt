@@ -1,15 +1,14 @@
 -- The bits of a device set.
 -- Assumes nothing.
-use mathlib.Core.Path.{_≡_, refl, sym, ap, _∙_}
-use mathlib.Core.Bool.{Bool, true, false}
-use Prim.Native.Nat.{ℕ, suc, _+_, _/_, _%_, _^_, _<_, _≤_}
+use mathlib.Core.Path.{_≡_, _∙_}
+use mathlib.Core.Bool.{false}
+use Prim.Native.Nat.{ℕ, _+_, _/_, _^_, _<_, _≤_}
 use native.Mathlib.Omega.{arith}
 use native.Mathlib.Decide.{decLt}
 use native.Mathlib.Nat.{div-eq-of-lt, lt-of-lt-of-le}
-use lib.ListN.{length, getD, List·getD-eq-default}
+use lib.ListN.{getD, List·getD-eq-default}
 use lib.Pow.{pow-mono, shr-shr}
 use borrow.Author.Tests.{leb-false}
-use Rattle.base.specs.Lists.{upTo}
 use Rattle.base.proofs.Arrays.{length-upTo, getD-upTo}
 use Rattle.request.specs.Format.{bit, setOf, lacks}
 

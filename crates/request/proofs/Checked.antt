@@ -1,16 +1,15 @@
 -- What a record that is not refused says, and the records of a section.
 -- Assumes nothing.
 use mathlib.Core.Path.{_≡_, refl}
-use mathlib.Core.Bool.{Bool, true, false, cond}
 use mathlib.Core.List.{List}
 use Prim.Native.Nat.{ℕ, _+_, _-_, _*_, _<_, _≤_}
 use native.Mathlib.Omega.{arith}
 use native.Mathlib.Nat.{pos-of-ne-zero}
 use lib.ListN.{length}
-use lib.Dec.{ltb, eqb}
+use lib.Dec.{ltb}
 use borrow.Author.Tests.{ltb-false, eqb-false}
 use Rattle.base.specs.Bytes.{pairAt}
-use Rattle.base.specs.Refusals.{firstThat, firstOf}
+use Rattle.base.specs.Refusals.{firstThat}
 use Rattle.base.proofs.Clear.{allFalse, numbered, passed, clear}
 use Rattle.base.proofs.Paths.{lt-then, lt-else}
 use Rattle.base.proofs.Records.{first-room, first-each, first-prefix}

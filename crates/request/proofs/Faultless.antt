@@ -1,10 +1,12 @@
 -- What a file without a fault says, section by section, each fact read off once; and what is read of a file by its fault.
 -- Assumes nothing.
-use mathlib.Core.Path.{_≡_, refl, sym, ap, _∙_}
+use mathlib.Core.Path.{_≡_, refl, sym}
 use mathlib.Core.Bool.{Bool, true, false, cond, not, _||_, true≢false}
 use mathlib.Core.List.{List}
+use mathlib.Core.Logic.{⊎-elim}
 use Prim.Native.Nat.{ℕ, _+_, _*_, _<_, _≤_}
-use native.Mathlib.Nat.{pos-of-ne-zero}
+use native.Mathlib.Omega.{arith}
+use native.Mathlib.Nat.{pos-of-ne-zero, eq-zero-or-pos}
 use lib.ListN.{length}
 use lib.Dec.{ltb, leb, eqb}
 use borrow.Author.Tests.{ltb-false, leb-false, eqb-true, eqb-false, eq-eqb, ne-eqb}
@@ -87,6 +89,16 @@ unfolding mixed
 tasks-alone tasks field count e nz =
     let p = neither (eqb field 0) (eqb count 0) (rw (ne-eqb tasks 0 nz) at e) in
     (eqb-true field 0 (p .0), eqb-true count 0 (p .1))
+
+-- So the job records end by byte 173, where there are few and the tasks before them are few.
+pub jobs-end :
+    (tasks field count unfolded at : ℕ) → tasks ≤ 8 → at ≤ 60 + tasks * 5 → mixed tasks field count ≡ false → cond (eqb tasks 0) count unfolded ≤ 16 →
+    at + 1 + count * 7 ≤ 173
+jobs-end tasks field count unfolded at few l e m =
+    ⊎-elim
+    (λ z. let c : count ≤ 16 = rw (eq-eqb tasks 0 z) at m in omega arith)
+    (λ p. omega (arith, tasks-alone tasks field count e (λ z. omega arith)))
+    (eq-zero-or-pos tasks)
 
 -- As many jobs are counted as there are, and they are few.
 count-cases : (t : Bool) (s : List ℕ) (n at : ℕ) (l : List Job) → cond t n (length l) ≡ length (cond t (listed s n at) l)

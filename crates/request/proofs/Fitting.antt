@@ -1,8 +1,8 @@
 -- Every job of a file without a fault fits: the listed ones by their table, the unfolded ones because each period divides the horizon.
 -- Assumes nothing.
-use mathlib.Core.Path.{_≡_, refl, sym, ap, _∙_}
-use mathlib.Core.Bool.{Bool, true, false, cond}
-use mathlib.Core.List.{List, [], _∷_, _++_}
+use mathlib.Core.Path.{_≡_}
+use mathlib.Core.Bool.{false}
+use mathlib.Core.List.{List}
 use Prim.Native.Nat.{ℕ, zero, suc, _+_, _-_, _*_, _%_, _<_, _≤_, _∣_}
 use native.Mathlib.Omega.{arith}
 use native.Mathlib.Nat.{pos-of-ne-zero, dvd-of-mod-eq-zero, dvd-sub, le-of-dvd}
@@ -14,12 +14,10 @@ use Rattle.base.proofs.Cases.{cond-cases}
 use Rattle.base.proofs.Every.{Every, every-append, every-upTo}
 use Rattle.base.proofs.Records.{first-each}
 use Rattle.schedule.specs.declared.Job.{Job}
-use Rattle.request.specs.declared.Task.{Task}
 use Rattle.request.specs.declared.Section.the-variants.{TaskRecords, JobRecords}
-use Rattle.request.specs.Format.{taskAt, jobAt, lacks, taskTable, jobTable, recordTable, recordFault, recordsFault, lcmFrom, jobOf, released, releasedAt, unfolded, listed}
+use Rattle.request.specs.Format.{taskAt, jobAt, taskTable, jobTable, recordTable, recordFault, recordsFault, jobOf, released, releasedAt, unfolded, listed}
 use Rattle.request.proofs.Bits.{known-bits}
 use Rattle.request.proofs.Checked.{record-clear}
-use Rattle.request.proofs.Multiples.{horizon-multiple}
 
 -- A job within the horizon h, of a file with n devices.
 pub record Fits (h n : ℕ) (j : Job) : Type 0 where

@@ -6,3 +6,4 @@ pub mod Faultless
 pub mod Fitting
 pub mod Highest
 pub mod Accepted
+pub mod Beyond

@@ -6,7 +6,7 @@ use mathlib.Core.List.{List}
 use Prim.Native.Nat.{ℕ, zero, suc, _+_, _-_, _*_, _/_, _%_, _<_, _≤_, _∣_}
 use native.Mathlib.Omega.{arith}
 use native.Mathlib.Numerals.{sub-one}
-use native.Mathlib.Nat.{mod-lt, zero-lt-suc, dvd-refl, dvd-zero, dvd-trans, one-dvd, dvd-mod-iff, pos-of-dvd-of-pos, le-of-dvd, div-mul-cancel, mul-le-mul-left, div-le-self, mul-le-mul, le-refl, le-trans, div-add-mod', add-mul, add-comm, add-zero, suc-mul, mul-assoc, mul-comm, mul-right-comm, add-mul-mod-self-right, mod-eq-of-lt, mul-lt-mul-of-pos-right, zero-mul, mul-dvd-mul-left, dvd-of-mul-dvd-mul-right, dvd-mul-left, dvd-mul-right}
+use native.Mathlib.Nat.{mod-lt, zero-lt-suc, dvd-refl, dvd-zero, dvd-trans, one-dvd, dvd-mod-iff, pos-of-dvd-of-pos, le-of-dvd, div-mul-cancel, mul-le-mul-left, div-le-self, mul-le-mul, le-refl, le-trans, div-add-mod', add-mul, add-comm, mul-assoc, mul-comm, mul-right-comm, add-mul-mod-self-right, mod-eq-of-lt, mul-lt-mul-of-pos-right, zero-mul, mul-dvd-mul-left, dvd-of-mul-dvd-mul-right, dvd-mul-left, dvd-mul-right}
 use Rattle.base.specs.Bytes.{pairAt}
 use Rattle.request.specs.Euclid.{euclid, gcdOf, lcmOf}
 use Rattle.request.specs.Format.{lcmFrom}

@@ -1,6 +1,6 @@
 -- Laws of a list of jobs in an array: one job more, what a task releases, and that a list that fits is held as it is.
 -- Assumes nothing.
-use mathlib.Core.Path.{_≡_, refl, sym, ap, _∙_}
+use mathlib.Core.Path.{_≡_, _∙_}
 use mathlib.Core.Bool.{Bool, true, false, cond}
 use mathlib.Core.List.{List, [], _∷_, _++_, append-nil, append-assoc}
 use Prim.Native.Nat.{ℕ, _+_, _*_, _%_, _<_, _≤_, min}
@@ -13,9 +13,8 @@ use lib.Dec.{eqb}
 use borrow.Author.Tests.{lt-ltb, le-ltb}
 use Rattle.base.proofs.Arrays.{padded-more, padded-full}
 use Rattle.schedule.specs.declared.Job.{Job}
-use Rattle.request.specs.Format.{emptyJob}
 use Rattle.request.specs.declared.Task.{Task}
-use Rattle.request.specs.Format.{taskAt, jobOf, released, releasedAt, unfolded, jobsHeld}
+use Rattle.request.specs.Format.{taskAt, jobOf, released, releasedAt, unfolded, emptyJob, jobsHeld}
 use Rattle.request.specs.Held.{packed, pushed, releasedTo}
 
 push-small : (l : List Job) (j : Job) → length l < 16 → pushed (packed l) j ≡ packed (l ++ (j ∷ []))

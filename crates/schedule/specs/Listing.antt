@@ -3,7 +3,7 @@
 -- Assumes nothing.
 use mathlib.Core.Path.{_≡_}
 use mathlib.Core.Bool.{Bool, true, false, cond, _&&_, _||_}
-use mathlib.Core.List.{List, [], _∷_}
+use mathlib.Core.List.{List, [], _∷_, _++_, map}
 use mathlib.Core.Logic.{_⊎_}
 use Prim.Native.Nat.{ℕ, zero, suc, _+_, _≤_, _<_}
 use lib.Dec.{leb, ltb}
@@ -11,7 +11,7 @@ use lib.IntN.{ℤ, subℕ}
 use lib.ListN.{length, getD}
 use Rattle.base.specs.Lists.{upTo, upFrom, remove}
 use Rattle.base.specs.Sums.{sum}
-use Rattle.device.specs.Row.{Letter, LeastRow, energy, pattern}
+use Rattle.device.specs.Row.{Letter, byteOf, LeastRow, energy, pattern}
 use Rattle.schedule.specs.declared.Recorder.{Recorder}
 use Rattle.schedule.specs.Quantities.{device, jobs, release, deadline, run, uses}
 
@@ -94,6 +94,11 @@ pub record Costs (R : Recorder) (s : List ℕ) (e : ℕ) : Type 0 where
   pub rows : ℕ → List Letter
   pub least : Rows R s rows
   pub sums : e ≡ sum (R .devices .count) (λ k. energy (device R k) (rows k))
+
+-- The bytes of the first n rows, one after the other. Each row has H letters, so that 'the row of device k begins at place k × H'.
+unfoldable pub laid : (ℕ → List Letter) → ℕ → List ℕ
+laid rows zero = []
+laid rows (suc k) = laid rows k ++ map byteOf (rows k)
 
 -- ---- the first of the least
 

@@ -9,7 +9,7 @@ use lib.ListN.{set, replicate}
 use Rattle.base.specs.Lists.{upFrom, remove}
 use Rattle.base.specs.Loops.{through}
 use Rattle.base.specs.Sums.{total, sum}
-use Rattle.device.specs.Row.{energyOf, pattern}
+use Rattle.device.specs.Row.{Letter, rowOf, energyOf, pattern}
 use Rattle.schedule.specs.declared.Recorder.{Recorder}
 use Rattle.schedule.specs.Quantities.{device, jobs, release, deadline, run, uses}
 use Rattle.schedule.specs.Listing.{Place, place, used, usesOf}
@@ -68,7 +68,10 @@ module _ (R : Recorder) where
   unfoldable pub cutA : Vertex → Bool
   cutA v = late (v .time) (v .unplaced) || ltb (R .horizon) (v .time + total (run R) (v .unplaced))
 
-  -- The energy of the schedule s: of the least row of each device.
+  -- The row of device k in the schedule s, and the energy of all rows.
+  abbrev pub planRow : List ℕ → ℕ → List Letter
+  planRow s k = rowOf (device R k) (usesOf R s k)
+
   unfoldable pub planEnergy : List ℕ → ℕ
   planEnergy s = sum (R .devices .count) (λ k. energyOf (device R k) (usesOf R s k))
 

@@ -1,8 +1,11 @@
 // Jobs on one processor: judging start times, and the search for the cheapest schedule.
 use device::Device;
 
+pub mod search;
 pub mod judging;
 pub mod margins;
+pub mod rows;
+pub mod using;
 
 // Jobs are numbered from 0. A task's number is another type (crate request): the two count different things.
 pub struct JobNumber(pub usize);

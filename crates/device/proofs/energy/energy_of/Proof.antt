@@ -21,11 +21,14 @@ abbrev μ-loop : tie.MeasureT-loop
 loop-holds : tie.Need-loop-holds Inv-loop μ-loop
 loop-holds c = (omega arith, refl, sym (energy-none (c .args .d)))
 
--- No least energy within the horizon is past 65,535 × 65,535.
-small : (c : tie.Start Inv-loop μ-loop) (e : ℕ) → e ≤ c .args .h → energyOf (c .args .d) (pattern (usedIn (c .args .t3)) 0 e) ≤ 65535 * 65535
-small c e l =
-    let most = energy-most (c .args .d) 65535 (omega (arith, c .good .0)) (omega (arith, c .good .0)) (omega (arith, c .good .0)) (pattern (usedIn (c .args .t3)) 0 e) in
+-- No tick costs more than 65,535; so no least energy within the horizon is past 65,535 × 65,535.
+most : (c : tie.Start Inv-loop μ-loop) (e : ℕ) → energyOf (c .args .d) (pattern (usedIn (c .args .t3)) 0 e) ≤ 65535 * e
+most c e =
+    let m = energy-most (c .args .d) 65535 (omega (arith, c .good .0)) (omega (arith, c .good .0)) (omega (arith, c .good .0)) (pattern (usedIn (c .args .t3)) 0 e) in
     omega (arith, length-pattern (usedIn (c .args .t3)) 0 e)
+
+small : (c : tie.Start Inv-loop μ-loop) (e : ℕ) → e ≤ c .args .h → energyOf (c .args .d) (pattern (usedIn (c .args .t3)) 0 e) ≤ 65535 * 65535
+small c e l = omega (arith, most c e)
 
 -- What is known of the use at hand.
 fits : (c : tie.In-loop Inv-loop μ-loop)
@@ -124,7 +127,7 @@ add-result : tie.Need-add-result Inv-loop μ-loop
 add-result c = omega (arith, last c, small (c .before .before .before) (c .before .before .before .args .h) (omega arith))
 
 returns : tie.Need-returns Inv-loop μ-loop
-returns c = last c
+returns c = (last c, omega (arith, last c, most (c .before .before .before) (c .before .before .before .args .h)))
 
 pub energy-of-spec : {M : Type 1} → statement M
 energy-of-spec =

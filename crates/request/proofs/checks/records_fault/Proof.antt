@@ -1,10 +1,10 @@
 use borrow.Author.Needs.{needs}
-use mathlib.Core.Path.{_≡_, refl, sym, ap, _∙_}
-use Prim.Native.Nat.{ℕ, _≤_, _<_, _+_, _-_}
+use mathlib.Core.Path.{_≡_, refl, sym, _∙_}
+use Prim.Native.Nat.{_≤_}
 use native.Mathlib.Omega.{arith}
 use lib.ListN.{length}
 use Rattle.base.proofs.Records.{first-none, first-stop, first-pass}
-use Rattle.request.specs.Format.{recordsFault, sizeOf}
+use Rattle.request.specs.Format.{recordsFault}
 use Rattle.request.proofs.Checked.{record-room}
 use Rattle.request.proofs.checks.records_fault.Statement.{statement}
 use Rattle.request.proofs.checks.records_fault.Tie as tie

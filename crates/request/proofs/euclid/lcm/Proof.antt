@@ -1,6 +1,4 @@
 use borrow.Author.Needs.{needs}
-use Prim.Native.Nat.{_<_, _*_}
-use mathlib.Core.Path.{_≡_}
 use native.Mathlib.Omega.{arith}
 use Rattle.request.proofs.Multiples.{gcd-pos, lcm-le}
 use Rattle.request.proofs.euclid.lcm.Statement.{statement}

@@ -1,16 +1,12 @@
-use Rattle.request.specs.declared.Task.{Task}
 use borrow.Author.Needs.{needs}
-use mathlib.Core.Path.{_≡_, refl, sym, ap, _∙_}
-use mathlib.Core.List.{[], _∷_, _++_, append-nil}
-use Prim.Native.Nat.{ℕ, _≤_, _<_, _+_, _-_, _*_, min}
+use mathlib.Core.Path.{_≡_, refl, _∙_}
+use Prim.Native.Nat.{_≤_, _+_, _-_}
 use native.Mathlib.Omega.{arith}
 use lib.ListN.{length}
 use Rattle.request.specs.declared.Section.the-variants.{TaskRecords}
-use Rattle.request.specs.Format.{taskAt, recordFault, recordsFault, lcmFrom}
+use Rattle.request.specs.Format.{recordFault, recordsFault, lcmFrom}
 use Rattle.request.proofs.Checked.{task-sound, tasks-period, record-room}
-use Rattle.base.proofs.Records.{first-each, first-next}
-use Rattle.base.specs.Bytes.{pairAt}
-use Rattle.request.specs.Euclid.{lcmOf}
+use Rattle.base.proofs.Records.{first-next}
 use Rattle.request.proofs.Multiples.{lcm-none, lcm-more, le-lcmFrom}
 use Rattle.request.proofs.horizon.task_horizon.Statement.{statement}
 use Rattle.request.proofs.horizon.task_horizon.Tie as tie

@@ -1,13 +1,11 @@
 use borrow.Author.Needs.{needs}
-use mathlib.Core.Path.{_≡_, refl, sym, ap, _∙_}
-use mathlib.Core.List.{[], _∷_, _++_, append-nil}
-use Prim.Native.Nat.{ℕ, _≤_, _<_, _+_, _-_, _*_, min}
+use mathlib.Core.Path.{_≡_}
+use Prim.Native.Nat.{_≤_, _-_}
 use native.Mathlib.Omega.{arith}
-use lib.ListN.{length}
 use Rattle.base.specs.Lists.{upTo}
 use Rattle.base.proofs.Arrays.{upTo-more}
 use Rattle.request.specs.Format.{listed}
-use Rattle.request.specs.Held.{packed, pushed}
+use Rattle.request.specs.Held.{packed}
 use Rattle.request.proofs.Packed.{packed-push}
 use Rattle.request.proofs.jobs.listed_jobs.Statement.{statement}
 use Rattle.request.proofs.jobs.listed_jobs.Tie as tie

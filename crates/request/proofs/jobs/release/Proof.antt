@@ -1,6 +1,5 @@
 use Rattle.base.proofs.Paths.{paths}
-use mathlib.Core.Path.{_∙_, ap}
-use Rattle.request.specs.Held.{releasedTo, pushed}
+use Rattle.request.specs.Held.{releasedTo}
 use borrow.Author.Needs.{needs}
 use Rattle.request.proofs.jobs.release.Statement.{statement}
 use Rattle.request.proofs.jobs.release.Tie as tie

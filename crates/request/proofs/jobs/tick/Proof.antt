@@ -1,15 +1,13 @@
-use Rattle.request.proofs.Checked.{record-at, task-sound, record-room}
+use Rattle.request.proofs.Checked.{record-at, task-sound}
 use borrow.Author.Needs.{needs}
-use mathlib.Core.Path.{_≡_, refl, sym, ap, _∙_}
-use mathlib.Core.List.{[], _∷_, _++_, append-nil}
-use Prim.Native.Nat.{ℕ, _≤_, _<_, _+_, _-_, _*_, min}
+use mathlib.Core.Path.{_≡_}
+use mathlib.Core.List.{_++_, append-nil}
+use Prim.Native.Nat.{_≤_, _+_, _-_, _*_}
 use native.Mathlib.Omega.{arith}
 use lib.ListN.{length}
 use Rattle.request.specs.declared.Section.the-variants.{TaskRecords}
-use Rattle.request.specs.Format.{taskAt, recordFault, recordsFault, unfolded, releasedAt}
+use Rattle.request.specs.Format.{recordFault, unfolded, releasedAt}
 use Rattle.request.specs.Held.{packed}
-use Rattle.base.proofs.Records.{first-each, first-next}
-use Rattle.base.specs.Bytes.{pairAt}
 use Rattle.request.proofs.Packed.{tick-more, unfolded-more}
 use Rattle.request.proofs.jobs.tick.Statement.{statement}
 use Rattle.request.proofs.jobs.tick.Tie as tie

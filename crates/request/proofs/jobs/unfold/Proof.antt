@@ -1,15 +1,9 @@
 use borrow.Author.Needs.{needs}
-use mathlib.Core.Path.{_≡_, refl, sym, ap, _∙_}
-use mathlib.Core.List.{[], _∷_, _++_, append-nil}
-use Prim.Native.Nat.{ℕ, _≤_, _<_, _+_, _-_, _*_, min}
+use mathlib.Core.Path.{_≡_}
+use Prim.Native.Nat.{_≤_, _-_}
 use native.Mathlib.Omega.{arith}
-use lib.ListN.{length}
-use Rattle.request.specs.declared.Section.the-variants.{TaskRecords}
-use Rattle.request.specs.Format.{taskAt, recordFault, recordsFault, unfolded, releasedAt}
+use Rattle.request.specs.Format.{unfolded}
 use Rattle.request.specs.Held.{packed}
-use Rattle.request.proofs.Checked.{task-sound, record-room}
-use Rattle.base.proofs.Records.{first-each, first-next}
-use Rattle.base.specs.Bytes.{pairAt}
 use Rattle.request.proofs.jobs.unfold.Statement.{statement}
 use Rattle.request.proofs.jobs.unfold.Tie as tie
 

@@ -1,5 +1,4 @@
 use borrow.Author.Needs.{needs}
-use mathlib.Core.Path.{refl}
 use Rattle.base.specs.Lists.{padded}
 use Rattle.request.specs.Held.{packed}
 use Rattle.request.proofs.layout.no_recorder.Statement.{statement}

@@ -1,6 +1,5 @@
 use borrow.Author.Needs.{needs}
 use mathlib.Core.Path.{_≡_}
-use Prim.Native.Nat.{_*_}
 use native.Mathlib.Omega.{arith}
 use Rattle.request.specs.declared.Section.the-variants.{DeviceRecords, JobRecords}
 use Rattle.request.specs.Format.{horizonIn, recorderIn}

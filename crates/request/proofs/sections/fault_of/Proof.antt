@@ -1,5 +1,5 @@
 use Rattle.base.proofs.Paths.{paths}
-use mathlib.Core.Path.{_≡_, refl, sym, ap, _∙_}
+use mathlib.Core.Path.{sym, _∙_}
 use native.Mathlib.Omega.{arith}
 use Rattle.request.proofs.Checked.{records-room}
 use Rattle.request.specs.declared.Section.the-variants.{DeviceRecords}

@@ -1,6 +1,5 @@
 use Rattle.base.proofs.Paths.{paths}
-use mathlib.Core.Path.{_≡_, refl, sym, ap, _∙_}
-use Prim.Native.Nat.{ℕ, _≤_, _<_, _+_, _-_, _*_, min}
+use Prim.Native.Nat.{_≤_, _<_}
 use native.Mathlib.Omega.{arith}
 use Rattle.base.specs.Bytes.{byteAt}
 use Rattle.request.specs.Format.{countOf, jobRecords}

@@ -1,7 +1,7 @@
 use Rattle.base.specs.Bytes.{byteAt}
 use Rattle.base.proofs.Paths.{paths}
-use mathlib.Core.Path.{_≡_, refl, sym, ap, _∙_}
-use Prim.Native.Nat.{ℕ, _≤_, _<_, _+_, _-_, _*_, min}
+use mathlib.Core.Path.{_≡_, ap, _∙_}
+use Prim.Native.Nat.{ℕ, _≤_, _<_}
 use native.Mathlib.Omega.{arith}
 use Rattle.request.specs.Format.{horizonOf, mixed, jobRecords, jobSection}
 use borrow.Author.Needs.{needs}

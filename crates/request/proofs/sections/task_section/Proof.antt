@@ -1,8 +1,5 @@
 use Rattle.base.proofs.Paths.{paths}
-use mathlib.Core.Path.{_≡_, refl, sym, ap, _∙_}
 use native.Mathlib.Omega.{arith}
-use Rattle.request.proofs.Checked.{records-room}
-use Rattle.request.specs.declared.Section.the-variants.{TaskRecords}
 use Rattle.request.specs.Format.{taskSection}
 use borrow.Author.Needs.{needs}
 use Rattle.request.proofs.sections.task_section.Statement.{statement}

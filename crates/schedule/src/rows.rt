@@ -1,0 +1,44 @@
+// The rows of a plan, one for each device, and their energy.
+ghost use mathlib.Core.Path.{_≡_};
+ghost use mathlib.Core.List.{_++_};
+ghost use Prim.Native.Nat.{ℕ, _*_, _≤_};
+ghost use lib.ListN.{length, drop};
+ghost use Rattle.schedule.specs.Quantities.{Valid};
+ghost use Rattle.schedule.specs.Listing.{Feasible, laid};
+ghost use Rattle.schedule.specs.Visiting.{planEnergy, planRow};
+use crate::Recorder;
+use crate::using::uses_of;
+use device::energy_of;
+use device::write_row;
+
+// The energy of the plan with these start times.
+pub fn plan_energy(r: Recorder, starts: &[u16]) -> u32
+    requires { ⌜ Valid r × Feasible r (now starts) ⌝ }
+    ensures { λ e. ⌜ e ≡ planEnergy r (now (starts .entry)) ⌝ }
+{
+    let devices = r.devices;
+    let mut sum: u32 = 0;
+    let mut k = 0;
+    while k < devices.count {
+        let uses = uses_of(r, starts, k);
+        sum += energy_of(devices.list[k], r.horizon, uses);
+        k += 1;
+    }
+    sum
+}
+
+// Writes the plan's rows into the lent bytes, the row of device k from place k * H on, and keeps what follows the last row.
+pub fn write_rows(r: Recorder, starts: &[u16], out: &mut [u8])
+    requires { ⌜ Valid r × Feasible r (now starts) × (r .devices .count * r .horizon ≤ length (now out)) ⌝ }
+    ensures { λ _. ⌜ now (out .exit) ≡ laid (planRow r (now (starts .entry))) (r .devices .count) ++ drop (r .devices .count * r .horizon) (now (out .entry)) ⌝ }
+{
+    let devices = r.devices;
+    let h = r.horizon as usize;
+    let mut k = 0;
+    while k < devices.count {
+        let uses = uses_of(r, starts, k);
+        let at = k * h;
+        write_row(devices.list[k], r.horizon, uses, &mut out[at..]);
+        k += 1;
+    }
+}
