@@ -1,11 +1,98 @@
-// The public operations on the bytes of a request file. specs/Promises.antt says what each promises.
+// The public operations on the bytes of a request file. None asks anything of its caller: every file, of whatever bytes, every list of start times and every
+// lent buffer gets its answer. specs/Promises.antt says for each the complete outcome, in the words of document 01.
+ghost use Rattle.planner.specs.Promises.{Checked, Margined, Judged, Rowed};
+use crate::answers::refusal;
+use crate::answers::refusal_at;
+use crate::answers::success;
+use request::read;
 use schedule::JobNumber;
+use schedule::judge;
+use schedule::plan_energy;
+use schedule::write_margins;
+use schedule::write_rows;
 
-// What every operation answers: the document's number (0 for success), and what the operation works out, 0 elsewhere.
+mod answers; // answers.rt: the answers, each made in one place
+
+// What every operation answers: the document's number (0 for success), and what the operation works out; 0 elsewhere.
 pub struct Answer {
     pub number: u8,
     pub job: JobNumber,
     pub horizon: u16,
     pub energy: u32,
     pub count: u32,
+}
+
+// Whether the file is accepted, and its horizon.
+pub fn check(file: &[u8]) -> Answer
+    ensures { λ a. ⌜ Checked (now (file .entry)) a ⌝ }
+{
+    let request = read(file);
+    if request.number != 0 {
+        return refusal(request.number);
+    }
+    success(request.recorder.horizon, 0, 0)
+}
+
+// Writes the margin of each job, for any start times.
+pub fn margins(file: &[u8], starts: &[u16], out: &mut [i32]) -> Answer
+    ensures { λ a. ⌜ Margined (now (file .entry)) (now (starts .entry)) (now (out .entry)) a (now (out .exit)) ⌝ }
+{
+    let request = read(file);
+    if request.number != 0 {
+        return refusal(request.number);
+    }
+    let recorder = request.recorder;
+    if starts.len() != recorder.jobs.count {
+        return refusal(14);
+    }
+    if out.len() < recorder.jobs.count {
+        return refusal(15);
+    }
+    write_margins(recorder, starts, out);
+    success(recorder.horizon, 0, 0)
+}
+
+// Whether the start times are feasible, with the plan's energy; or their first fault.
+pub fn verdict(file: &[u8], starts: &[u16]) -> Answer
+    ensures { λ a. ⌜ Judged (now (file .entry)) (now (starts .entry)) a ⌝ }
+{
+    let request = read(file);
+    if request.number != 0 {
+        return refusal(request.number);
+    }
+    let recorder = request.recorder;
+    if starts.len() != recorder.jobs.count {
+        return refusal(14);
+    }
+    let verdict = judge(recorder, starts);
+    if verdict.number != 0 {
+        return refusal_at(verdict.number, verdict.job);
+    }
+    let energy = plan_energy(recorder, starts);
+    success(recorder.horizon, energy, 0)
+}
+
+// Writes the row of every device, the legal row of least energy, for feasible start times.
+pub fn rows(file: &[u8], starts: &[u16], out: &mut [u8]) -> Answer
+    ensures { λ a. ⌜ Rowed (now (file .entry)) (now (starts .entry)) (now (out .entry)) a (now (out .exit)) ⌝ }
+{
+    let request = read(file);
+    if request.number != 0 {
+        return refusal(request.number);
+    }
+    let recorder = request.recorder;
+    if starts.len() != recorder.jobs.count {
+        return refusal(14);
+    }
+    let h = recorder.horizon as usize;
+    if out.len() < recorder.devices.count * h {
+        return refusal(15);
+    }
+    let verdict = judge(recorder, starts);
+    if verdict.number != 0 {
+        return refusal_at(verdict.number, verdict.job);
+    }
+    write_rows(recorder, starts, out);
+    let energy = plan_energy(recorder, starts);
+    success(recorder.horizon, energy, 0)
 }

@@ -24,7 +24,7 @@ pub capped-over : (b : ℕ) (t : Tally) → b < t .count → capped b t ≡ halt
 unfolding capped
 capped-over b t h = simp (lt-leb _ _ h)
 
--- what a run's flag says
+-- What a run's flag says.
 pub capped-stopped : (b : ℕ) (t : Tally) (r : Run) → r ≡ capped b t → r .stopped ≡ true → b < t .count
 unfolding capped
 capped-stopped b t r e s = go (leb (t .count) b) refl
@@ -44,7 +44,7 @@ capped-going b t r e s = go (leb (t .count) b) refl
 pub going-is : (b : ℕ) (t : Tally) (r : Run) → r ≡ capped b t → r .stopped ≡ false → r .tally ≡ t
 going-is b t r e s = ap (λ (x : Run). x .tally) (e ∙ capped-within b t (capped-going b t r e s))
 
--- no turn takes from the count
+-- No turn takes from the count.
 abbrev pub Grows : (ℕ → Tally → Tally) → Type 0
 Grows g = (k : ℕ) (t : Tally) → t .count ≤ g k t .count
 
@@ -58,15 +58,15 @@ unfolding each
 each-on g h k zero t = rw add-zero (le-refl _)
 each-on g h k (suc m) t = rw add-suc (le-trans (each-on g h k m t) (h (k + m) (each g (k + m) t)))
 
-pub each-mono : (g : ℕ → Tally → Tally) → Grows g → (k n : ℕ) (t : Tally) → k ≤ n → each g k t .count ≤ each g n t .count
+each-mono : (g : ℕ → Tally → Tally) → Grows g → (k n : ℕ) (t : Tally) → k ≤ n → each g k t .count ≤ each g n t .count
 each-mono g h k n t l = let e : k + (n - k) ≡ n = omega arith in rw e at (each-on g h k (n - k) t)
 
--- the turns of a loop under the budget b: x is what the turns before k made of a, and r what a run of the turn k gives
+-- The turns of a loop under the budget b: x is what the turns before k made of a, and r what a run of the turn k gives.
 module _ (b : ℕ) (g : ℕ → Tally → Tally) (k : ℕ) (a x : Tally) (r : Run) (e : x ≡ each g k a) (f : r ≡ capped b (g k x)) where
   one-more : g k x ≡ each g (k + 1) a
   one-more = each-step g k a x (g k x) e refl
 
-  -- the budget is used up: the loop stops
+  -- The budget is used up: the loop stops.
   pub stops-here : Grows g → r .stopped ≡ true → (n : ℕ) → k < n → r ≡ capped b (each g n a)
   stops-here h s n l =
       let o : b < g k x .count = capped-stopped b (g k x) r f s in
@@ -74,13 +74,13 @@ module _ (b : ℕ) (g : ℕ → Tally → Tally) (k : ℕ) (a x : Tally) (r : Ru
       let w : b < each g n a .count = omega (arith, ap (λ (y : Tally). y .count) one-more) in
       f ∙ capped-over b (g k x) o ∙ sym (capped-over b (each g n a) w)
 
-  -- it is not: the loop goes on
+  -- It is not: the loop goes on.
   pub goes-on : r .stopped ≡ false → r .tally ≡ each g (k + 1) a
   goes-on s = going-is b (g k x) r f s ∙ one-more
 
   pub goes-within : r .stopped ≡ false → r .tally .count ≤ b
   goes-within s = rw (going-is b (g k x) r f s) (capped-going b (g k x) r f s)
 
--- the loop ends
+-- The loop ends.
 pub ends : (b : ℕ) (g : ℕ → Tally → Tally) (k n : ℕ) (a x : Tally) → x ≡ each g k a → k ≡ n → x .count ≤ b → going x ≡ capped b (each g n a)
 ends b g k n a x e f h = rw (← each-done g k n a x e f) (sym (capped-within b x h))

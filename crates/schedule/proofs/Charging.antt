@@ -1,7 +1,7 @@
 -- What a device has cost: no more than working through all of its ticks, so that no sum of the search wraps; and this is kept from vertex to child.
 -- Assumes nothing.
-use mathlib.Core.Path.{_≡_, refl, sym, ap, _∙_, subst}
-use mathlib.Core.Bool.{Bool, true, false, cond}
+use mathlib.Core.Path.{_≡_, refl, _∙_, subst}
+use mathlib.Core.Bool.{Bool, true, false}
 use mathlib.Core.List.{List, []}
 use Prim.Native.Nat.{ℕ, zero, suc, _+_, _-_, _*_, _≤_, _<_}
 use native.Mathlib.Omega.{arith}
@@ -22,8 +22,8 @@ use Rattle.device.proofs.Least.{gap-most}
 use Rattle.schedule.specs.declared.Jobs.{Jobs}
 use Rattle.schedule.specs.declared.Recorder.{Recorder}
 use Rattle.schedule.specs.declared.search.Vertex.{Vertex}
-use Rattle.schedule.specs.Quantities.{Valid, device, job, jobs, run, deadline}
-use Rattle.schedule.specs.Steps.{flagged, jobIn, loadStep, aheadStep, addLoad, addAhead, load, ahead, lastStart, endAt, paidAt, deviceIn, gapCost, paidStep, endStep, payEnd, payOne, withPaid, charged, placeAt, root, Settled, Kept}
+use Rattle.schedule.specs.Quantities.{Valid, device, job, jobs, run}
+use Rattle.schedule.specs.Steps.{flagged, jobIn, loadStep, aheadStep, addLoad, addAhead, load, ahead, lastStart, endAt, paidAt, gapCost, paidStep, endStep, payEnd, payOne, withPaid, charged, placeAt, root, Settled, Kept}
 
 -- ---- one device
 

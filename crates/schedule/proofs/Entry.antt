@@ -1,7 +1,7 @@
 -- What entering a vertex makes of a tally, case by case.
 -- Assumes nothing.
-use mathlib.Core.Path.{_≡_, refl, sym, ap, _∙_}
-use mathlib.Core.Bool.{Bool, true, false}
+use mathlib.Core.Path.{_≡_, refl, sym, _∙_}
+use mathlib.Core.Bool.{Bool, true, false, not}
 use Prim.Native.Nat.{ℕ, _+_, _≤_, _<_, max}
 use native.Mathlib.Omega.{arith}
 use lib.Dec.{ltb}
@@ -11,8 +11,8 @@ use Rattle.schedule.specs.declared.search.Vertex.{Vertex}
 use Rattle.schedule.specs.declared.search.Best.{Best}
 use Rattle.schedule.specs.declared.search.Tally.{Tally}
 use Rattle.schedule.specs.declared.search.Entered.{Entered}
-use Rattle.schedule.specs.Steps.{lateStep, late, load, cutA, charged, closed, floor, improves, offer, opens, noted, enteredAt}
-use Rattle.schedule.proofs.Charging.{Alike, charged-alike}
+use Rattle.schedule.specs.Steps.{lateStep, late, load, cutA, charged, closed, floor, offer, cutB, opens, noted, enteredAt}
+use Rattle.schedule.proofs.Charging.{charged-alike}
 
 -- ---- cut A
 
@@ -63,6 +63,6 @@ module _ (R : Recorder) (v : Vertex) (t : Tally) (b : Bool) (e : b ≡ cutA R v)
     unfolding enteredAt opens noted
     enter-complete z x ex n en = simp (← e, q, eq-eqb _ _ z, ← c, ← ex, ← en)
 
-    pub enter-on : (v .left ≡ 0 → ⊥) → (x : ℕ) → x ≡ floor R w → (f : Bool) → f ≡ improves (t .best) x → counted f t (t .best) w ≡ enteredAt R v t
+    pub enter-on : (v .left ≡ 0 → ⊥) → (x : ℕ) → x ≡ floor R w → (f : Bool) → f ≡ cutB (t .best) x → counted (not f) t (t .best) w ≡ enteredAt R v t
     unfolding enteredAt opens noted
     enter-on z x ex f ef = simp (← e, q, ne-eqb _ _ z, ← c, ← ex, ← ef)

@@ -139,3 +139,12 @@ module _ (R : Recorder) (s : List ℕ) where
   fault-infeasible (early {j = j} l m h) g = unreleased j h (g .released j l) (g .in-time j l)
   fault-infeasible (late {j = j} l m r h) g = untimely j h (g .released j l) (g .in-time j l)
   fault-infeasible (overlap {j = j} l m o f) g = o .another (g .apart (o .other) j (o .tick) (o .known) l (o .there) (o .here))
+
+  -- What a judgement's number says.
+  pub judgement-fault : {v : Verdict} → Judgement R s v → (v .number ≡ 0 → ⊥) → Fault R s (v .number) (v .job .0)
+  judgement-fault (faulty f) ne = f
+  judgement-fault (feasible g) ne = absurd (ne refl)
+
+  pub judgement-feasible : {v : Verdict} → Judgement R s v → v .number ≡ 0 → Feasible R s
+  judgement-feasible (faulty f) e = absurd (fault-some f e)
+  judgement-feasible (feasible g) e = g

@@ -13,3 +13,5 @@ pub mod Order
 pub mod Ending
 pub mod Usage
 pub mod Laying
+pub mod Flags
+pub mod Agreement

@@ -6,10 +6,8 @@ use Prim.Native.Nat.{ℕ, zero, suc, _+_, _-_, _≤_, _<_}
 use native.Mathlib.Omega.{arith}
 use native.Mathlib.Nat.{le-refl, le-of-lt, pos-of-ne-zero}
 use native.Mathlib.Numerals.{sub-one}
-use lib.ListN.{getD}
 use borrow.Author.Tests.{eq-eqb}
 use Rattle.base.specs.Loops.{each, under}
-use Rattle.base.proofs.Cases.{cond-cases}
 use Rattle.schedule.specs.declared.Recorder.{Recorder}
 use Rattle.schedule.specs.declared.search.Vertex.{Vertex}
 use Rattle.schedule.specs.declared.search.Tally.{Tally}
@@ -32,11 +30,11 @@ tryJob-grows : (R : Recorder) (g : Vertex → Tally → Tally) → ((v : Vertex)
 unfolding tryJob
 tryJob-grows R g h v j t = under-grows (not (flagged (v .placed) j)) (each (tryStart R g v j) (span R v j)) (each-grows (tryStart R g v j) (tryStart-grows R g h v j) (span R v j)) t
 
-pub noted-count : (R : Recorder) (v : Vertex) (t : Tally) → noted R v t .count ≡ t .count + 1
+noted-count : (R : Recorder) (v : Vertex) (t : Tally) → noted R v t .count ≡ t .count + 1
 unfolding noted
 noted-count R v t = refl
 
--- a visit counts at least its own vertex
+-- A visit counts at least its own vertex.
 pub visit-counts : (R : Recorder) (f : ℕ) (v : Vertex) (t : Tally) → t .count < visitOf R f v t .count
 unfolding visitOf
 visit-counts R zero v t = omega (arith, noted-count R v t)
@@ -45,7 +43,7 @@ visit-counts R (suc f) v t =
     let h : Grows (tryJob R (visitOf R f) w) = tryJob-grows R (visitOf R f) (λ x u. le-of-lt (visit-counts R f x u)) w in
     omega (arith, noted-count R v t, under-grows (opens R v t) (each (tryJob R (visitOf R f) w) (jobs R)) (each-grows (tryJob R (visitOf R f) w) h (jobs R)) (noted R v t))
 
-pub visit-grows : (R : Recorder) (f : ℕ) (v : Vertex) (t : Tally) → t .count ≤ visitOf R f v t .count
+visit-grows : (R : Recorder) (f : ℕ) (v : Vertex) (t : Tally) → t .count ≤ visitOf R f v t .count
 visit-grows R f v t = le-of-lt (visit-counts R f v t)
 
 pub jobs-grow : (R : Recorder) (f : ℕ) (v : Vertex) → Grows (tryJob R (visitOf R f) v)
@@ -54,7 +52,7 @@ jobs-grow R f v = tryJob-grows R (visitOf R f) (visit-grows R f) v
 pub starts-grow : (R : Recorder) (f : ℕ) (v : Vertex) (j : ℕ) → Grows (tryStart R (visitOf R f) v j)
 starts-grow R f v j = tryStart-grows R (visitOf R f) (visit-grows R f) v j
 
--- a job that is placed, and one that is not
+-- A job that is placed, and one that is not.
 pub job-placed : (R : Recorder) (g : Vertex → Tally → Tally) (v : Vertex) (j : ℕ) (t : Tally) → flagged (v .placed) j ≡ true → tryJob R g v j t ≡ t
 unfolding tryJob
 job-placed R g v j t p = simp p
@@ -69,7 +67,7 @@ job-runs R g v j t b r p h = rw (job-open R g v j t p) h
 pub job-done : (R : Recorder) (g : Vertex → Tally → Tally) (v : Vertex) (j k : ℕ) (x y : Tally) → flagged (v .placed) j ≡ false → y ≡ each (tryStart R g v j) k x → k ≡ span R v j → y ≡ tryJob R g v j x
 job-done R g v j k x y p e f = rw (job-open R g v j x p, ← f) e
 
--- a vertex that opens has a job left, and its visit is that of its jobs in turn
+-- A vertex that opens has a job left, and its visit is that of its jobs in turn.
 opens-uncut : (R : Recorder) (v : Vertex) (t : Tally) → opens R v t ≡ true → cutA R v ≡ false
 unfolding opens
 opens-uncut R v t o = go (cutA R v) refl
@@ -127,7 +125,7 @@ module _ (R : Recorder) (v : Vertex) (t : Tally) (e : Entered) (h : e ≡ entere
   pub visit-closes : (b : ℕ) → e .further ≡ false → e .tally .count ≤ b → going (e .tally) ≡ capped b (visitOf R (v .left) v t)
   visit-closes b p l = rw (closed p (v .left)) (sym (capped-within b (e .tally) l))
 
--- the code's child is the steps'
+-- The code's child is the steps'.
 pub child-is :
     (R : Recorder) (v : Vertex) (j s c k : ℕ) (p : Vertex) (x : Tally) (b : ℕ) (r : Run) → p ≡ placeAt v j s c → c ≡ run R j → s ≡ earliest R v j + k
     → r ≡ capped b (visitOf R (p .left) p x) → r ≡ capped b (tryStart R (visitOf R (v .left - 1)) v j k x)

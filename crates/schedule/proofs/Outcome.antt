@@ -12,7 +12,7 @@ use Rattle.device.proofs.Least.{row-least, least-is-row, least-energy}
 use Rattle.schedule.specs.declared.Recorder.{Recorder}
 use Rattle.schedule.specs.Quantities.{device, Valid}
 use Rattle.schedule.specs.Listing.{Feasible, usesOf, Rows, Costs, Earlier, FirstLeast}
-use Rattle.schedule.specs.Visiting.{planEnergy, visited}
+use Rattle.schedule.specs.Visiting.{planRow, planEnergy, visited}
 use Rattle.schedule.proofs.Choice.{Chosen, Outcome, outcome-only}
 use Rattle.schedule.proofs.Tree.{earlier-asym, visited-outcome}
 use Rattle.schedule.proofs.Floors.{floor-law}
@@ -20,18 +20,16 @@ use Rattle.schedule.proofs.Floors.{floor-law}
 -- ---- the energy
 
 -- The energy of every schedule is that of least legal rows, and no other number is; nor are there other rows.
+pub plan-rows : (R : Recorder) → Valid R → (s : List ℕ) → Rows R s (planRow R s)
+plan-rows R valid s = record { least = λ k l. row-least (device R k) (valid .sound k l) (usesOf R s k) }
+
 pub plan-costs : (R : Recorder) → Valid R → (s : List ℕ) → Costs R s (planEnergy R s)
 unfolding planEnergy
-plan-costs R valid s =
-    record {
-      rows = λ k. rowOf (device R k) (usesOf R s k);
-      least = record { least = λ k l. row-least (device R k) (valid .sound k l) (usesOf R s k) };
-      sums = refl;
-    }
+plan-costs R valid s = record { rows = planRow R s; least = plan-rows R valid s; sums = refl }
 
 pub rows-only :
     (R : Recorder) → Valid R → {s : List ℕ} {rows : ℕ → List Letter} → Rows R s rows → (k : ℕ) → k < R .devices .count
-    → rows k ≡ rowOf (device R k) (usesOf R s k)
+    → rows k ≡ planRow R s k
 rows-only R valid h k l = least-is-row (device R k) (valid .sound k l) (h .least k l)
 
 pub costs-only : (R : Recorder) → Valid R → {s : List ℕ} {e : ℕ} → Costs R s e → e ≡ planEnergy R s

@@ -134,12 +134,16 @@ improves b e = cond (b .found) (ltb e (b .energy)) true
 unfoldable pub offer : Best → ℕ → List ℕ → Best
 offer b e s = cond (improves b e) (record { found = true; energy = e; starts = s }) b
 
+-- Where f is the floor of a vertex.
+unfoldable pub cutB : Best → ℕ → Bool
+cutB b f = cond (b .found) (leb (b .energy) f) false
+
 abbrev pub complete : Vertex → Bool
 complete v = eqb (v .left) 0
 
 -- Whether v's children are examined, at a tally t.
 unfoldable pub opens : Recorder → Vertex → Tally → Bool
-opens R v t = cond (cutA R v) false (cond (complete v) false (improves (t .best) (floor R (charged R v))))
+opens R v t = cond (cutA R v) false (cond (complete v) false (not (cutB (t .best) (floor R (charged R v)))))
 
 -- The tally t with v counted, and v the best where it is complete and better.
 unfoldable pub noted : Recorder → Vertex → Tally → Tally

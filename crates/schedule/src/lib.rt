@@ -1,11 +1,17 @@
 // Jobs on one processor: judging start times, and the search for the cheapest schedule.
 use device::Device;
 
-pub mod search;
-pub mod judging;
-pub mod margins;
-pub mod rows;
-pub mod using;
+mod judging; // judging.rt: the first fault of start times
+mod margins; // margins.rt: the margins of start times
+mod rows; // rows.rt: the rows of a plan and its energy
+pub mod search; // search.rt: the search for the cheapest schedule
+mod using; // using.rt: the uses of one device, in running order
+
+pub use crate::judging::Verdict;
+pub use crate::judging::judge;
+pub use crate::margins::write_margins;
+pub use crate::rows::plan_energy;
+pub use crate::rows::write_rows;
 
 // Jobs are numbered from 0. A task's number is another type (crate request): the two count different things.
 pub struct JobNumber(pub usize);

@@ -7,7 +7,7 @@ ghost use Prim.Native.Nat.{ℕ, _+_, _-_, _*_, _^_, _<_, _≤_, max};
 ghost use lib.ListN.{length};
 ghost use Rattle.base.specs.Loops.{each};
 ghost use Rattle.schedule.specs.Quantities.{Valid, jobs};
-ghost use Rattle.schedule.specs.Steps.{lateStep, late, loadStep, load, aheadStep, ahead, cutA, paidStep, endStep, charged, closeStep, closed, floorStep, floor, improves, offer, enteredAt, placeAt, tryJob, visitOf, haltedAt, capped, root, nothing, copyStart, answerOf, writtenOf, Settled, Kept};
+ghost use Rattle.schedule.specs.Steps.{lateStep, late, loadStep, load, aheadStep, ahead, cutA, paidStep, endStep, charged, closeStep, closed, floorStep, floor, improves, offer, cutB, enteredAt, placeAt, tryJob, visitOf, haltedAt, capped, root, nothing, copyStart, answerOf, writtenOf, Settled, Kept};
 
 // A vertex: some jobs placed in running order, at the end of the last one. Of device k, `ends[k]` is the end of the last use and `paid[k]` the least energy
 // of the ticks before it. The job placed last is not in these two until the vertex has passed cut A: a vertex that cut A drops costs nothing dearer.
@@ -288,6 +288,13 @@ fn offered(b: Best, e: u32, starts: [u16; 16]) -> Best
     b
 }
 
+// Cut B: there is a best, and the floor is at least its energy.
+fn is_beaten(b: Best, floor: u32) -> bool
+    ensures { λ x. ⌜ x ≡ cutB b floor ⌝ }
+{
+    if b.found { b.energy <= floor } else { false }
+}
+
 // Counts a vertex, then cut A, then complete, then cut B.
 fn enter(r: Recorder, v: Vertex, t: Tally) -> Entered
     requires { ⌜ Valid r × (Kept r v × (t .count + 1 < 2 ^ 32)) ⌝ }
@@ -314,9 +321,9 @@ fn enter(r: Recorder, v: Vertex, t: Tally) -> Entered
             vertex: w,
         };
     }
-    let further = improves_on(best, floor_of(r, w));
+    let beaten = is_beaten(best, floor_of(r, w));
     Entered {
-        further,
+        further: !beaten,
         tally: next,
         vertex: w,
     }

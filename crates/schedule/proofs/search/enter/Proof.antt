@@ -30,11 +30,11 @@ returns-2 c = enter-complete _ _ _ _ (c .before .before .before .before .before 
 floor-of-requires : tie.Need-floor-of-requires
 floor-of-requires c κs = (c .before .before .before .before .before .before .before .pre .0, (rw (c .before .before .before .charge .ensures) (charged-settled _ _ (c .before .before .before .before .before .before .before .pre .0) (c .before .before .before .before .before .before .before .pre .1 .0)), charged-fits _ _ _ (c .before .before .before .before .before .is-cut .ensures) (c .before .before .before .before .if1 .left) _ (c .before .before .before .charge .ensures)))
 
-improves-on-requires : tie.Need-improves-on-requires
-improves-on-requires c κs = search needs
+is-beaten-requires : tie.Need-is-beaten-requires
+is-beaten-requires c κs = search needs
 
 returns-3 : tie.Need-returns-3
-returns-3 c = enter-on _ _ _ _ (c .before .before .before .before .before .before .before .is-cut .ensures) (c .before .before .before .before .before .before .if1 .left) _ (c .before .before .before .before .before .charge .ensures) (c .before .before .if2 .left) _ (c .before .floor-of .ensures) _ (c .improves-on .ensures)
+returns-3 c = enter-on _ _ _ _ (c .before .before .before .before .before .before .before .is-cut .ensures) (c .before .before .before .before .before .before .if1 .left) _ (c .before .before .before .before .before .charge .ensures) (c .before .before .if2 .left) _ (c .before .floor-of .ensures) _ (c .is-beaten .ensures)
 
 pub enter-spec : {M : Type 1} → statement M
 enter-spec =
@@ -48,5 +48,5 @@ enter-spec =
     offered-requires
     returns-2
     floor-of-requires
-    improves-on-requires
+    is-beaten-requires
     returns-3)
