@@ -1,1 +1,3 @@
 pub mod Only
+pub mod Searching
+pub mod Larger

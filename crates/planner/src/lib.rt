@@ -1,7 +1,8 @@
 // The public operations on the bytes of a request file. None asks anything of its caller: every file, of whatever bytes, every list of start times and every
 // lent buffer gets its answer. specs/Promises.antt says for each the complete outcome, in the words of document 01.
-ghost use Rattle.planner.specs.Promises.{Checked, Margined, Judged, Rowed};
+ghost use Rattle.planner.specs.Promises.{Checked, Margined, Judged, Rowed, Searched};
 use crate::answers::refusal;
+use crate::answers::refusal_after;
 use crate::answers::refusal_at;
 use crate::answers::success;
 use request::read;
@@ -95,4 +96,20 @@ pub fn rows(file: &[u8], starts: &[u16], out: &mut [u8]) -> Answer
     write_rows(recorder, starts, out);
     let energy = plan_energy(recorder, starts);
     success(recorder.horizon, energy, 0)
+}
+
+// Writes the start times of the first of the least-energy schedules that meet all deadlines, if the budget covers the vertices of the search.
+pub fn search(file: &[u8], budget: u32, starts: &mut [u16]) -> Answer
+    ensures { λ a. ⌜ Searched (now (file .entry)) budget (now (starts .entry)) a (now (starts .exit)) ⌝ }
+{
+    let request = read(file);
+    if request.number != 0 {
+        return refusal(request.number);
+    }
+    let recorder = request.recorder;
+    let found = schedule::search::search(recorder, budget, starts);
+    if found.number != 0 {
+        return refusal_after(found.number, found.count);
+    }
+    success(recorder.horizon, found.energy, found.count)
 }

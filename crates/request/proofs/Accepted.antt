@@ -58,8 +58,8 @@ module _ (s : List ℕ) (ok : Faultless s) where
       (λ z. listed-fit s (byteAt s 2) (horizonIn s) (byteAt s (jobsPlace s)) (jobsPlace s + 1) (ok .jobs .records))
       (λ z. unfolded-fit s (byteAt s 2) (horizonIn s) (taskCount s) (tasksPlace s + 1) (ok .task-records) (periods-divide z) (horizonIn s) (le-refl (horizonIn s)))
 
-  job-fits : (j : ℕ) → j < length (jobsIn s) → Fits (horizonIn s) (byteAt s 2) (getD (padded 16 emptyJob (jobsIn s)) j noJob)
-  job-fits j l = rw (getD-held 16 emptyJob (jobsIn s) j noJob l) (every-at (Fits (horizonIn s) (byteAt s 2)) (jobsIn s) noJob jobs-fit j l)
+  held-fits : (j : ℕ) → j < length (jobsIn s) → Fits (horizonIn s) (byteAt s 2) (getD (padded 16 emptyJob (jobsIn s)) j noJob)
+  held-fits j l = rw (getD-held 16 emptyJob (jobsIn s) j noJob l) (every-at (Fits (horizonIn s) (byteAt s 2)) (jobsIn s) noJob jobs-fit j l)
 
   valid : Valid (recorderIn s)
   unfolding recorderIn
@@ -70,10 +70,10 @@ module _ (s : List ℕ) (ok : Faultless s) where
         few-devices = rw length-upTo (ok .few-devices);
         sound = devices-sound;
         few-jobs = length-jobs _ _ _ _ _ (ok .jobs);
-        runs = λ j l. job-fits j l .runs;
-        fits = λ j l. job-fits j l .fits;
-        ends = λ j l. job-fits j l .ends;
-        known = λ j k l m. job-fits j l .known k (rw length-upTo at m);
+        runs = λ j l. held-fits j l .runs;
+        fits = λ j l. held-fits j l .fits;
+        ends = λ j l. held-fits j l .ends;
+        known = λ j k l m. held-fits j l .known k (rw length-upTo at m);
       }
 
 -- ---- what a reading tells of the file
@@ -114,7 +114,7 @@ module _ (s : List ℕ) where
 
 -- ---- what is handed on
 
--- Of a reading that is refused by no 0.
+-- A reading that is refused has another number than 0.
 handed-zero : (w : Reading) (r : Request) → ((n : ℕ) → w ≡ refused n → n ≡ 0 → ⊥) → r ≡ handedOn w → r .number ≡ 0 → w ≡ accepted (r .recorder)
 unfolding handedOn
 handed-zero (refused n) r pos e z = absurd (pos n refl (cc))

@@ -27,10 +27,10 @@ either true a h = refl
 either false a h = h refl
 
 -- Two files of at least 174 bytes, of which the first 174 are the same.
-pub record Alike (s s′ : List ℕ) : Type 0 where
-  pub long : 174 ≤ length s
-  pub long′ : 174 ≤ length s′
-  pub same : (i : ℕ) → i < 174 → byteAt s i ≡ byteAt s′ i
+record Alike (s s′ : List ℕ) : Type 0 where
+  long : 174 ≤ length s
+  long′ : 174 ≤ length s′
+  same : (i : ℕ) → i < 174 → byteAt s i ≡ byteAt s′ i
 
 module _ (s s′ : List ℕ) (a : Alike s s′) where
   pair-same : (i : ℕ) → i + 1 < 174 → pairAt s i ≡ pairAt s′ i

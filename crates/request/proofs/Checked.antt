@@ -12,10 +12,11 @@ use Rattle.base.specs.Bytes.{pairAt}
 use Rattle.base.specs.Refusals.{firstThat}
 use Rattle.base.proofs.Clear.{allFalse, numbered, passed, clear}
 use Rattle.base.proofs.Paths.{lt-then, lt-else}
-use Rattle.base.proofs.Records.{first-room, first-each, first-prefix}
+use Rattle.base.proofs.Records.{first-room, first-each}
 use Rattle.request.specs.declared.Section.{Section}
 use Rattle.request.specs.declared.Section.the-variants.{TaskRecords}
-use Rattle.request.specs.Format.{taskAt, taskTable, sizeOf, recordTable, recordFault, recordsFault}
+use Rattle.request.specs.Held.{SoundTasks}
+use Rattle.request.specs.Format.{taskTable, sizeOf, recordTable, recordFault, recordsFault}
 
 module _ (s : List ℕ) (k : Section) (at : ℕ) where
   pub record-short : length s - at < sizeOf k → 1 ≡ recordFault s k at
@@ -39,23 +40,29 @@ module _ (s : List ℕ) (k : Section) (at : ℕ) where
 pub records-room : (s : List ℕ) (k : Section) (n at : ℕ) → at ≤ length s → 0 ≡ recordsFault s k n at → at + n * sizeOf k ≤ length s
 records-room s k = first-room (recordFault s k) (sizeOf k) (length s) (record-room s k)
 
--- The i-th of n records that are not refused: it is not, and lies within the file.
-pub record-at :
-    (s : List ℕ) (k : Section) (n from i : ℕ) → from ≤ length s → 0 ≡ recordsFault s k n from → i < n →
-    (0 ≡ recordFault s k (from + i * sizeOf k)) × (from + i * sizeOf k + sizeOf k ≤ length s)
-record-at s k n from i h e l =
-    let ok = first-each (recordFault s k) (sizeOf k) n from i l e in
-    let before = records-room s k i from h (first-prefix (recordFault s k) (sizeOf k) n from i (omega arith) e) in
-    (ok, record-room s k _ before ok)
-
 -- A task that is not refused has a period from 1 to 4,096.
-pub task-sound : (s : List ℕ) (n at : ℕ) → 0 ≡ recordFault s (TaskRecords n) at → (0 < taskAt s at .period) × (taskAt s at .period ≤ 4096)
+task-period : (s : List ℕ) (d at : ℕ) → 0 ≡ recordFault s (TaskRecords d) at → (0 < pairAt s at) × (pairAt s at ≤ 4096)
 unfolding recordTable taskTable
-task-sound s n at e =
-    let p = taskAt s at .period in
-    let f = record-clear s (TaskRecords n) at (tt, (tt, (tt, (tt, (tt, tt))))) e in
-    (pos-of-ne-zero (eqb-false p 0 (f .0)), ltb-false 4096 p (f .1 .0))
+task-period s d at e =
+    let f = record-clear s (TaskRecords d) at (tt, (tt, (tt, (tt, (tt, tt))))) e in
+    (pos-of-ne-zero (eqb-false (pairAt s at) 0 (f .0)), ltb-false 4096 (pairAt s at) (f .1 .0))
 
-pub tasks-period :
-    (s : List ℕ) (d n from : ℕ) → 0 ≡ recordsFault s (TaskRecords d) n from → (i : ℕ) → i < n → 0 < pairAt s (from + i * 5)
-tasks-period s d n from e i l = task-sound s d (from + i * 5) (first-each (recordFault s (TaskRecords d)) 5 n from i l e) .0
+pub tasks-sound : (s : List ℕ) (d n from : ℕ) → from ≤ length s → 0 ≡ recordsFault s (TaskRecords d) n from → SoundTasks s n from
+tasks-sound s d n from h e =
+    record {
+      there = records-room s (TaskRecords d) n from h e;
+      periods = λ i l. task-period s d (from + i * 5) (first-each (recordFault s (TaskRecords d)) 5 n from i l e);
+    }
+
+-- The first of them, and the others.
+pub sound-first : (s : List ℕ) (n at : ℕ) → 0 < n → SoundTasks s n at → (0 < pairAt s at) × (pairAt s at ≤ 4096)
+sound-first s n at h ok =
+    let e : at + 0 * 5 ≡ at = omega arith in
+    rw e at (ok .periods 0 h)
+
+pub sound-next : (s : List ℕ) (n at : ℕ) → 0 < n → SoundTasks s n at → SoundTasks s (n - 1) (at + 5)
+sound-next s n at h ok =
+    record {
+      there = omega (arith, ok .there);
+      periods = λ i l. let e : at + (i + 1) * 5 ≡ at + 5 + i * 5 = omega arith in rw e at (ok .periods (i + 1) (omega arith));
+    }

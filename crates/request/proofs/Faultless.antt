@@ -84,7 +84,7 @@ neither true true e = (refl, refl)
 neither true false e = absurd (true≢false e)
 neither false b e = absurd (true≢false e)
 
-pub tasks-alone : (tasks field count : ℕ) → mixed tasks field count ≡ false → (tasks ≡ 0 → ⊥) → (field ≡ 0) × (count ≡ 0)
+tasks-alone : (tasks field count : ℕ) → mixed tasks field count ≡ false → (tasks ≡ 0 → ⊥) → (field ≡ 0) × (count ≡ 0)
 unfolding mixed
 tasks-alone tasks field count e nz =
     let p = neither (eqb field 0) (eqb count 0) (rw (ne-eqb tasks 0 nz) at e) in

@@ -1,4 +1,5 @@
 pub mod Multiples
+pub mod Limits
 pub mod Bits
 pub mod Packed
 pub mod Checked

@@ -6,7 +6,7 @@ use mathlib.Core.List.{List}
 use Prim.Native.Nat.{ℕ, zero, suc, _+_, _-_, _*_, _/_, _%_, _<_, _≤_, _∣_}
 use native.Mathlib.Omega.{arith}
 use native.Mathlib.Numerals.{sub-one}
-use native.Mathlib.Nat.{mod-lt, zero-lt-suc, dvd-refl, dvd-zero, dvd-trans, one-dvd, dvd-mod-iff, pos-of-dvd-of-pos, le-of-dvd, div-mul-cancel, mul-le-mul-left, div-le-self, mul-le-mul, le-refl, le-trans, div-add-mod', add-mul, add-comm, mul-assoc, mul-comm, mul-right-comm, add-mul-mod-self-right, mod-eq-of-lt, mul-lt-mul-of-pos-right, zero-mul, mul-dvd-mul-left, dvd-of-mul-dvd-mul-right, dvd-mul-left, dvd-mul-right}
+use native.Mathlib.Nat.{mod-lt, zero-lt-suc, dvd-refl, dvd-zero, dvd-trans, one-dvd, dvd-mod-iff, pos-of-dvd-of-pos, le-of-dvd, div-mul-cancel, mul-le-mul-left, le-refl, le-trans, div-add-mod', add-mul, add-comm, mul-assoc, mul-comm, mul-right-comm, add-mul-mod-self-right, mod-eq-of-lt, mul-lt-mul-of-pos-right, zero-mul, mul-dvd-mul-left, dvd-of-mul-dvd-mul-right, dvd-mul-left, dvd-mul-right}
 use Rattle.base.specs.Bytes.{pairAt}
 use Rattle.request.specs.Euclid.{euclid, gcdOf, lcmOf}
 use Rattle.request.specs.Format.{lcmFrom}
@@ -103,14 +103,11 @@ lcm-least a b (suc k) p q =
     let both : a * b ∣ g * m = rw (scale (suc b) a b m (omega arith) (zero-lt-suc k)) at (gcd-greatest (a * m) (b * m) (a * b) (mul-dvd-mul-left b a q) (rw (mul-comm a b) (mul-dvd-mul-left a b p))) in
     dvd-of-mul-dvd-mul-right (lcmOf a b) (gcd-pos a b (pos-of-dvd-of-pos q (zero-lt-suc k))) (rw (whole, mul-comm m g) both)
 
--- It is not below the first, nor above the product.
-pub le-lcm : (a b : ℕ) → 0 < b → a ≤ lcmOf a b
+-- It is not below the first.
+le-lcm : (a b : ℕ) → 0 < b → a ≤ lcmOf a b
 le-lcm a b h =
     let g : gcdOf a b ≤ b = le-of-dvd h (gcd-divides a b .1) in
     omega (arith, mul-le-mul-left (a / gcdOf a b) g, div-mul-cancel (gcdOf a b) (gcd-divides a b .0))
-
-pub lcm-le : (a b m : ℕ) → a ≤ m → b ≤ m → lcmOf a b ≤ m * m
-lcm-le a b m p q = mul-le-mul (le-trans (div-le-self a (gcdOf a b)) p) q
 
 -- ---- of the periods of n tasks, of which the records begin at a place
 

@@ -51,8 +51,12 @@ module _ (s : List ℕ) (from t : ℕ) where
   unfolding unfolded
   unfolded-more n = rw add-one
 
+-- A list that fits is held as it is.
 pub packed-held : (l : List Job) → length l ≤ 16 → packed l ≡ jobsHeld l
 unfolding packed
 packed-held l h =
     let m : min (length l) 17 ≡ length l = omega arith in
     rw (m, take-all 16 l h)
+
+pub packed-none : packed [] ≡ jobsHeld []
+packed-none = packed-held [] (omega arith)

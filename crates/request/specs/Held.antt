@@ -1,17 +1,24 @@
--- How the code keeps jobs while it counts them: a list of jobs in an array of 16, as many as fit, with its count capped. Nobody need believe these: a file that is
--- accepted has at most 16 jobs, and there `packed` is the document's list in its array (proofs/Packed).
+-- What the code keeps and knows on the way. Nobody need believe these: no contract of a public function speaks of them.
 -- Assumes nothing.
-use Prim.Native.Nat.{ℕ, _+_, _%_, min}
+use Prim.Native.Nat.{ℕ, _+_, _*_, _%_, _<_, _≤_, min}
 use mathlib.Core.List.{List}
 use mathlib.Core.Bool.{cond}
 use lib.ListN.{length, take, set}
 use lib.Dec.{ltb, eqb}
+use Rattle.base.specs.Bytes.{pairAt}
 use Rattle.base.specs.Lists.{padded}
 use Rattle.schedule.specs.declared.Job.{Job}
 use Rattle.schedule.specs.declared.Jobs.{Jobs}
 use Rattle.request.specs.declared.Task.{Task}
 use Rattle.request.specs.Format.{emptyJob, jobOf}
 
+-- n tasks whose records begin at a place: they are there, and each period is from 1 to 4,096.
+pub record SoundTasks (s : List ℕ) (n from : ℕ) : Type 0 where
+  pub there : from + n * 5 ≤ length s
+  pub periods : (i : ℕ) → i < n → (0 < pairAt s (from + i * 5)) × (pairAt s (from + i * 5) ≤ 4096)
+
+-- A list of jobs in an array of 16: as many as fit, with its count capped. A file that is accepted has at most 16 jobs, and there it is the document's list in
+-- its array (proofs/Packed).
 unfoldable pub packed : List Job → Jobs
 packed l = record { count = min (length l) 17; list = padded 16 emptyJob (take 16 l) }
 

@@ -58,10 +58,7 @@ fn task_check(n: usize, set: u8, k: Task) -> u8
     if k.period < k.run {
         return 8;
     }
-    if set_lacks(n, set) {
-        return 9;
-    }
-    0
+    if set_lacks(n, set) { 9 } else { 0 }
 }
 
 // The release and the running time may add up to more than 16 bits hold.
@@ -72,13 +69,13 @@ fn job_check(n: usize, h: u32, set: u8, j: Job) -> u8
         return 9;
     }
     if j.run == 0 {
-        return 13;
+        return 13; // it never runs
     }
     if (j.deadline as u32) < j.release as u32 + j.run as u32 {
-        return 13;
+        return 13; // it does not fit
     }
     if h < j.deadline as u32 {
-        return 13;
+        return 13; // it is due after the horizon
     }
     0
 }

@@ -1,11 +1,9 @@
 // The horizon, given or worked out. All above 4,096 is 4,097 here, so that it is worked out no further once it is refused.
 ghost use mathlib.Core.Path.{_≡_};
 ghost use Prim.Native.Nat.{ℕ, _+_, _*_, _≤_, _<_, min};
-ghost use lib.ListN.{length};
-ghost use Rattle.request.specs.Format.{recordsFault, lcmFrom, horizonOf};
-ghost use Rattle.request.specs.declared.Section.the-variants.{TaskRecords};
+ghost use Rattle.request.specs.Format.{lcmFrom, horizonOf};
+ghost use Rattle.request.specs.Held.{SoundTasks};
 use super::euclid;
-use super::records;
 
 fn capped(h: u32) -> u32
     ensures { λ r. ⌜ r ≡ min h 4097 ⌝ }
@@ -14,16 +12,16 @@ fn capped(h: u32) -> u32
 }
 
 // The least common multiple of the periods of the tasks whose records begin at a place.
-fn task_horizon(s: &[u8], n: usize, tasks: usize, from: usize) -> u32
-    requires { ⌜ (from ≤ length (now s)) × (0 ≡ recordsFault (now s) (TaskRecords n) tasks from) ⌝ }
+fn task_horizon(s: &[u8], tasks: usize, from: usize) -> u32
+    requires { ⌜ SoundTasks (now s) tasks from ⌝ }
     ensures { λ r. ⌜ r ≡ min (lcmFrom (now (s .entry)) tasks from 1) 4097 ⌝ }
 {
     let mut h: u32 = 1;
     let mut left = tasks;
     let mut at = from;
     while 0 < left {
-        let k = records::task_at(s, at);
-        h = euclid::lcm(h, k.period as u32);
+        let period = base::pair_at(s, at);
+        h = euclid::lcm(h, period as u32);
         if 4096 < h {
             return 4097;
         }
@@ -34,14 +32,14 @@ fn task_horizon(s: &[u8], n: usize, tasks: usize, from: usize) -> u32
 }
 
 // The horizon of a file with so many tasks: the least common multiple of their periods, or without tasks the file's first field.
-pub(crate) fn horizon_of(s: &[u8], n: usize, tasks: usize, from: usize) -> u32
-    requires { ⌜ (from ≤ length (now s)) × (0 ≡ recordsFault (now s) (TaskRecords n) tasks from) × (3 ≤ from) ⌝ }
+pub(crate) fn horizon_of(s: &[u8], tasks: usize, from: usize) -> u32
+    requires { ⌜ SoundTasks (now s) tasks from × (3 ≤ from) ⌝ }
     ensures { λ r. ⌜ r ≡ min (horizonOf (now (s .entry)) tasks from) 4097 ⌝ }
 {
     if tasks == 0 {
         let given = base::pair_at(s, 0);
         capped(given as u32)
     } else {
-        task_horizon(s, n, tasks, from)
+        task_horizon(s, tasks, from)
     }
 }

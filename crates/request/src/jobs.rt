@@ -4,9 +4,8 @@ ghost use mathlib.Core.List.{[]};
 ghost use Prim.Native.Nat.{ℕ, _+_, _*_, _≤_, _<_};
 ghost use lib.ListN.{length};
 ghost use Rattle.base.specs.Bytes.{byteAt};
-ghost use Rattle.request.specs.Format.{recordsFault, horizonOf, jobOf, unfolded, listed, jobsOf};
-ghost use Rattle.request.specs.Held.{packed, pushed, releasedTo};
-ghost use Rattle.request.specs.declared.Section.the-variants.{TaskRecords};
+ghost use Rattle.request.specs.Format.{horizonOf, jobOf, unfolded, listed, jobsOf};
+ghost use Rattle.request.specs.Held.{SoundTasks, packed, pushed, releasedTo};
 use super::Task;
 use super::TaskNumber;
 use super::records;
@@ -52,7 +51,7 @@ fn job_of(k: Task, t: u32) -> Job
         release: t as u16,
         deadline: (t + k.period as u32) as u16,
         run: k.run,
-        uses: uses,
+        uses,
     }
 }
 
@@ -69,8 +68,8 @@ fn release(k: Task, t: u32, js: Jobs) -> Jobs
 }
 
 // One tick's jobs, by task number, after those of the ticks before.
-fn tick(s: &[u8], n: usize, tasks: usize, from: usize, t: u32, before: Jobs) -> Jobs
-    requires { ⌜ (from ≤ length (now s)) × (0 ≡ recordsFault (now s) (TaskRecords n) tasks from) × (t < 4096) × (before ≡ packed (unfolded (now s) tasks from t)) ⌝ }
+fn tick(s: &[u8], tasks: usize, from: usize, t: u32, before: Jobs) -> Jobs
+    requires { ⌜ SoundTasks (now s) tasks from × (t < 4096) × (before ≡ packed (unfolded (now s) tasks from t)) ⌝ }
     ensures { λ r. ⌜ r ≡ packed (unfolded (now (s .entry)) tasks from (t + 1)) ⌝ }
 {
     let mut js = before;
@@ -84,14 +83,14 @@ fn tick(s: &[u8], n: usize, tasks: usize, from: usize, t: u32, before: Jobs) -> 
 }
 
 // The jobs that the tasks release before h, tick by tick: so they come by release, and equal releases by task number.
-pub(crate) fn unfold(s: &[u8], n: usize, tasks: usize, from: usize, h: u32) -> Jobs
-    requires { ⌜ (from ≤ length (now s)) × (0 ≡ recordsFault (now s) (TaskRecords n) tasks from) × (h ≤ 4096) ⌝ }
+pub(crate) fn unfold(s: &[u8], tasks: usize, from: usize, h: u32) -> Jobs
+    requires { ⌜ SoundTasks (now s) tasks from × (h ≤ 4096) ⌝ }
     ensures { λ r. ⌜ r ≡ packed (unfolded (now (s .entry)) tasks from h) ⌝ }
 {
     let mut js = no_jobs();
     let mut t: u32 = 0;
     while t < h {
-        js = tick(s, n, tasks, from, t, js);
+        js = tick(s, tasks, from, t, js);
         t += 1;
     }
     js
@@ -103,22 +102,22 @@ fn listed_jobs(s: &[u8], count: usize, from: usize) -> Jobs
     ensures { λ r. ⌜ r ≡ packed (listed (now (s .entry)) count from) ⌝ }
 {
     let mut js = no_jobs();
-    let mut i: usize = 0;
-    while i < count {
-        js = push(js, records::job_at(s, from + i * 7));
-        i += 1;
+    let mut j: usize = 0;
+    while j < count {
+        js = push(js, records::job_at(s, from + j * 7));
+        j += 1;
     }
     js
 }
 
 // The jobs of a file, unfolded or given: the job count stands at `at`.
-pub(crate) fn jobs_of(s: &[u8], n: usize, tasks: usize, from: usize, at: usize, h: u32) -> Jobs
-    requires { ⌜ (from ≤ length (now s)) × (0 ≡ recordsFault (now s) (TaskRecords n) tasks from) × (h ≤ 4096) × (h ≡ horizonOf (now s) tasks from) × (at + 1 + byteAt (now s) at * 7 ≤ length (now s)) ⌝ }
+pub(crate) fn jobs_of(s: &[u8], tasks: usize, from: usize, at: usize, h: u32) -> Jobs
+    requires { ⌜ SoundTasks (now s) tasks from × (h ≤ 4096) × (h ≡ horizonOf (now s) tasks from) × (at + 1 + byteAt (now s) at * 7 ≤ length (now s)) ⌝ }
     ensures { λ r. ⌜ r ≡ packed (jobsOf (now (s .entry)) tasks from at) ⌝ }
 {
     if tasks == 0 {
         let count = s[at] as usize;
         return listed_jobs(s, count, at + 1);
     }
-    unfold(s, n, tasks, from, h)
+    unfold(s, tasks, from, h)
 }

@@ -12,10 +12,8 @@ use device::Device;
 use schedule::Devices;
 use schedule::Recorder;
 
-// The first n devices of the file.
-fn devices_of(s: &[u8], n: usize) -> Devices
-    requires { ⌜ (n ≤ 8) × (3 + n * 7 ≤ length (now s)) ⌝ }
-    ensures { λ r. ⌜ r ≡ devicesHeld (upTo (λ k. deviceAt (now (s .entry)) (3 + k * 7)) n) ⌝ }
+fn no_devices() -> Devices
+    ensures { λ r. ⌜ r ≡ devicesHeld [] ⌝ }
 {
     let none = Device {
         t: 0,
@@ -23,16 +21,25 @@ fn devices_of(s: &[u8], n: usize) -> Devices
         ps: 0,
         p0: 0,
     };
-    let mut list = [none; 8];
+    Devices {
+        count: 0,
+        list: [none; 8],
+    }
+}
+
+// The first n devices of the file.
+fn devices_of(s: &[u8], n: usize) -> Devices
+    requires { ⌜ (n ≤ 8) × (3 + n * 7 ≤ length (now s)) ⌝ }
+    ensures { λ r. ⌜ r ≡ devicesHeld (upTo (λ k. deviceAt (now (s .entry)) (3 + k * 7)) n) ⌝ }
+{
+    let mut devices = no_devices();
     let mut k: usize = 0;
     while k < n {
-        list[k] = records::device_at(s, 3 + k * 7);
+        devices.list[k] = records::device_at(s, 3 + k * 7);
         k += 1;
     }
-    Devices {
-        count: n,
-        list: list,
-    }
+    devices.count = n;
+    devices
 }
 
 // The recorder of a file without a fault.
@@ -43,13 +50,13 @@ pub(crate) fn recorder_in(s: &[u8]) -> Recorder
     let n = s[2] as usize;
     let place = 3 + n * 7;
     let tasks = s[place] as usize;
-    let h = horizon::horizon_of(s, n, tasks, place + 1);
+    let h = horizon::horizon_of(s, tasks, place + 1);
     let devices = devices_of(s, n);
-    let jobs = jobs::jobs_of(s, n, tasks, place + 1, place + 1 + tasks * 5, h);
+    let jobs = jobs::jobs_of(s, tasks, place + 1, place + 1 + tasks * 5, h);
     Recorder {
         horizon: h as u16,
-        devices: devices,
-        jobs: jobs,
+        devices,
+        jobs,
     }
 }
 
@@ -57,20 +64,11 @@ pub(crate) fn recorder_in(s: &[u8]) -> Recorder
 pub(crate) fn no_recorder() -> Recorder
     ensures { λ r. ⌜ r ≡ noRecorder ⌝ }
 {
-    let none = Device {
-        t: 0,
-        pw: 0,
-        ps: 0,
-        p0: 0,
-    };
-    let devices = Devices {
-        count: 0,
-        list: [none; 8],
-    };
+    let devices = no_devices();
     let jobs = jobs::no_jobs();
     Recorder {
         horizon: 0,
-        devices: devices,
-        jobs: jobs,
+        devices,
+        jobs,
     }
 }

@@ -43,13 +43,10 @@ pub fn read(s: &[u8]) -> Request
         let recorder = layout::recorder_in(s);
         Request {
             number: 0,
-            recorder: recorder,
+            recorder,
         }
     } else {
         let recorder = layout::no_recorder();
-        Request {
-            number: number,
-            recorder: recorder,
-        }
+        Request { number, recorder }
     }
 }

@@ -2,45 +2,47 @@
 ghost use mathlib.Core.Path.{_≡_};
 ghost use Prim.Native.Nat.{ℕ, _+_, _*_, _≤_, _<_, min};
 ghost use lib.ListN.{length};
-ghost use Rattle.request.specs.Format.{recordsFault, mixed, countOf, jobRecords, jobSection, taskSection, faultOf};
-ghost use Rattle.request.specs.declared.Section.the-variants.{TaskRecords};
+ghost use Rattle.base.specs.Bytes.{byteAt, pairAt};
+ghost use Rattle.request.specs.Format.{mixed, countOf, jobRecords, jobSection, taskSection, faultOf};
+ghost use Rattle.request.specs.Held.{SoundTasks};
 use super::Section;
 use super::checks;
 use super::horizon;
 use super::jobs;
 
-// Tasks are given, and the horizon field or the job count is not 0.
-fn is_mixed(tasks: usize, field: u16, count: usize) -> bool
-    ensures { λ r. ⌜ r ≡ mixed tasks field count ⌝ }
+// Tasks are given, and the horizon field or the job count, which stands at a place, is not 0.
+fn is_mixed(s: &[u8], tasks: usize, at: usize) -> bool
+    requires { ⌜ (0 < at) × (at < length (now s)) ⌝ }
+    ensures { λ r. ⌜ r ≡ mixed tasks (pairAt (now (s .entry)) 0) (byteAt (now (s .entry)) at) ⌝ }
 {
     if tasks == 0 {
         return false;
     }
-    if field != 0 {
+    if base::pair_at(s, 0) != 0 {
         return true;
     }
-    count != 0
+    s[at] != 0
 }
 
 // The number of jobs, given or unfolded: for all above 16 some number above 16.
-fn job_count(s: &[u8], n: usize, tasks: usize, from: usize, count: usize, h: u32) -> usize
-    requires { ⌜ (from ≤ length (now s)) × (0 ≡ recordsFault (now s) (TaskRecords n) tasks from) × (h ≤ 4096) ⌝ }
+fn job_count(s: &[u8], tasks: usize, from: usize, count: usize, h: u32) -> usize
+    requires { ⌜ SoundTasks (now s) tasks from × (h ≤ 4096) ⌝ }
     ensures { λ r. ⌜ min r 17 ≡ min (countOf (now (s .entry)) tasks from count h) 17 ⌝ }
 {
     if tasks == 0 {
         return count;
     }
-    let js = jobs::unfold(s, n, tasks, from, h);
+    let js = jobs::unfold(s, tasks, from, h);
     js.count
 }
 
 // 12, then the job records, then 2.
 fn job_records(s: &[u8], n: usize, tasks: usize, from: usize, at: usize, h: u32) -> u8
-    requires { ⌜ (from ≤ length (now s)) × (0 ≡ recordsFault (now s) (TaskRecords n) tasks from) × (h ≤ 4096) × (at < length (now s)) ⌝ }
+    requires { ⌜ SoundTasks (now s) tasks from × (h ≤ 4096) × (at < length (now s)) ⌝ }
     ensures { λ r. ⌜ r ≡ jobRecords (now (s .entry)) n tasks from at h ⌝ }
 {
     let count = s[at] as usize;
-    if 16 < job_count(s, n, tasks, from, count, h) {
+    if 16 < job_count(s, tasks, from, count, h) {
         return 12;
     }
     let f = checks::records_fault(s, Section::JobRecords(n, h), count, at + 1);
@@ -55,22 +57,21 @@ fn job_records(s: &[u8], n: usize, tasks: usize, from: usize, at: usize, h: u32)
 
 // From the job count on: 11, then 10, then the jobs.
 fn job_section(s: &[u8], n: usize, tasks: usize, from: usize, at: usize) -> u8
-    requires { ⌜ (from ≤ length (now s)) × (0 ≡ recordsFault (now s) (TaskRecords n) tasks from) × (3 ≤ from) × (from ≤ at) ⌝ }
+    requires { ⌜ SoundTasks (now s) tasks from × (3 ≤ from) × (from ≤ at) ⌝ }
     ensures { λ r. ⌜ r ≡ jobSection (now (s .entry)) n tasks from at ⌝ }
 {
     if s.len() <= at {
         return 1;
     }
-    let count = s[at] as usize;
-    if is_mixed(tasks, base::pair_at(s, 0), count) {
+    if is_mixed(s, tasks, at) {
         return 11;
     }
-    let h = horizon::horizon_of(s, n, tasks, from);
+    let h = horizon::horizon_of(s, tasks, from);
     if h == 0 {
-        return 10;
+        return 10; // no tick
     }
     if 4096 < h {
-        return 10;
+        return 10; // too many ticks
     }
     job_records(s, n, tasks, from, at, h)
 }

@@ -1,6 +1,6 @@
 use borrow.Author.Needs.{needs}
 use mathlib.Core.Path.{_≡_, refl, sym, _∙_}
-use Prim.Native.Nat.{_≤_}
+use Prim.Native.Nat.{_<_, _≤_}
 use native.Mathlib.Omega.{arith}
 use lib.ListN.{length}
 use Rattle.base.proofs.Records.{first-none, first-stop, first-pass}
@@ -27,7 +27,8 @@ record-fault-requires c κs = search needs
 returns : tie.Need-returns Inv-loop μ-loop
 returns c =
     let l = c .before .before .before .loop in
-    first-stop _ _ _ _ _ (c .before .before .loop-test .taken) (c .before .record-fault .ensures) (c .if1 .taken) ∙ sym (l .inv .1)
+    let more : 0 < l .left = omega arith in
+    first-stop _ _ _ _ _ more (c .before .record-fault .ensures) (c .if1 .taken) ∙ sym (l .inv .1)
 
 sub-left : tie.Need-sub-left Inv-loop μ-loop
 sub-left c = search needs
@@ -45,11 +46,15 @@ loop-again : tie.Need-loop-again Inv-loop μ-loop
 loop-again c =
     let l = c .before .before .before .loop in
     let ok = sym (c .if1 .left) ∙ c .before .record-fault .ensures in
+    let more : 0 < l .left = omega arith in
     rw (c .before .before .before .before .size-of .ensures)
-    (record-room _ _ _ (l .inv .0) ok, l .inv .1 ∙ first-pass _ _ _ _ (c .before .before .loop-test .taken) ok)
+    (record-room _ _ _ (l .inv .0) ok, l .inv .1 ∙ first-pass _ _ _ _ more ok)
 
 returns-2 : tie.Need-returns-2 Inv-loop μ-loop
-returns-2 c = first-none _ _ _ _ (c .loop-test .left) ∙ sym (c .before .loop .inv .1)
+returns-2 c =
+    let l = c .before .loop in
+    let none : l .left ≤ 0 = omega arith in
+    first-none _ _ _ _ none ∙ sym (l .inv .1)
 
 pub records-fault-spec : {M : Type 1} → statement M
 records-fault-spec =

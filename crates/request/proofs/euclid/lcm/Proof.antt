@@ -1,6 +1,7 @@
 use borrow.Author.Needs.{needs}
 use native.Mathlib.Omega.{arith}
-use Rattle.request.proofs.Multiples.{gcd-pos, lcm-le}
+use native.Mathlib.Nat.{mul-le-mul, div-le-self, le-trans}
+use Rattle.request.proofs.Multiples.{gcd-pos}
 use Rattle.request.proofs.euclid.lcm.Statement.{statement}
 use Rattle.request.proofs.euclid.lcm.Tie as tie
 
@@ -8,12 +9,12 @@ gcd-requires : tie.Need-gcd-requires
 gcd-requires c κs = search needs
 
 div-result : tie.Need-div-result
-div-result c = omega (arith, c .gcd .ensures, gcd-pos (c .before .args .a) (c .before .args .b) (c .before .pre .2))
+div-result c = rw (c .gcd .ensures) (gcd-pos _ _ (c .before .pre .2))
 
 mul-result : tie.Need-mul-result
 mul-result c =
     let p = c .before in
-    rw (c .gcd .ensures) (omega (arith, lcm-le (p .args .a) (p .args .b) 4096 (p .pre .0) (p .pre .1)))
+    omega (arith, mul-le-mul (le-trans (div-le-self (p .args .a) (c .gcd .result)) (p .pre .0)) (p .pre .1))
 
 returns : tie.Need-returns
 returns c = rw (c .gcd .ensures)

@@ -25,7 +25,7 @@ unfold-requires c κs = search needs
 
 returns-2 : tie.Need-returns-2
 unfolding jobsOf
-returns-2 c = rw (ne-eqb _ _ (c .before .if1 .left), ← c .before .before .before .pre .3) (c .unfold .ensures)
+returns-2 c = rw (ne-eqb _ _ (c .before .if1 .left), ← c .before .before .before .pre .2) (c .unfold .ensures)
 
 pub jobs-of-spec : {M : Type 1} → statement M
 jobs-of-spec =

@@ -11,10 +11,10 @@ use Rattle.request.proofs.jobs.listed_jobs.Statement.{statement}
 use Rattle.request.proofs.jobs.listed_jobs.Tie as tie
 
 abbrev Inv-loop : tie.InvT-loop
-Inv-loop s count from js₀ i₀ js i = (i ≤ count) × (js ≡ packed (listed s i from))
+Inv-loop s count from js₀ j₀ js j = (j ≤ count) × (js ≡ packed (listed s j from))
 
 abbrev μ-loop : tie.MeasureT-loop
-μ-loop s count from js₀ i₀ js i = count - i
+μ-loop s count from js₀ j₀ js j = count - j
 
 no-jobs-requires : tie.Need-no-jobs-requires Inv-loop μ-loop
 no-jobs-requires c κs = search needs
@@ -35,8 +35,8 @@ job-at-requires c κs = search needs
 push-requires : tie.Need-push-requires Inv-loop μ-loop
 push-requires c κs = search needs
 
-add-i : tie.Need-add-i Inv-loop μ-loop
-add-i c = search needs
+add-j : tie.Need-add-j Inv-loop μ-loop
+add-j c = search needs
 
 loop-less : tie.Need-loop-less Inv-loop μ-loop
 loop-less c = search needs
@@ -49,7 +49,7 @@ loop-again c =
 returns : tie.Need-returns Inv-loop μ-loop
 returns c =
     let l = c .before .loop in
-    let all : l .i ≡ c .before .before .before .before .args .count = omega arith in
+    let all : l .j ≡ c .before .before .before .before .args .count = omega arith in
     rw (l .inv .1, all)
 
 pub listed-jobs-spec : {M : Type 1} → statement M
@@ -64,7 +64,7 @@ listed-jobs-spec =
     add-job-at
     job-at-requires
     push-requires
-    add-i
+    add-j
     loop-less
     loop-again
     returns)

@@ -1,41 +1,31 @@
-use Rattle.request.proofs.Checked.{record-at, task-sound}
+-- After i tasks the jobs are those of the ticks before and what these tasks release at t.
 use borrow.Author.Needs.{needs}
 use mathlib.Core.Path.{_≡_}
 use mathlib.Core.List.{_++_, append-nil}
-use Prim.Native.Nat.{_≤_, _+_, _-_, _*_}
+use Prim.Native.Nat.{_≤_, _-_}
 use native.Mathlib.Omega.{arith}
-use lib.ListN.{length}
-use Rattle.request.specs.declared.Section.the-variants.{TaskRecords}
-use Rattle.request.specs.Format.{recordFault, unfolded, releasedAt}
+use Rattle.request.specs.Format.{unfolded, releasedAt}
 use Rattle.request.specs.Held.{packed}
 use Rattle.request.proofs.Packed.{tick-more, unfolded-more}
 use Rattle.request.proofs.jobs.tick.Statement.{statement}
 use Rattle.request.proofs.jobs.tick.Tie as tie
 
 abbrev Inv-loop : tie.InvT-loop
-Inv-loop s n tasks from t js₀ i₀ js i = (i ≤ tasks) × (js ≡ packed (unfolded s tasks from t ++ releasedAt s i from t))
+Inv-loop s tasks from t js₀ i₀ js i = (i ≤ tasks) × (js ≡ packed (unfolded s tasks from t ++ releasedAt s i from t))
 
 abbrev μ-loop : tie.MeasureT-loop
-μ-loop s n tasks from t js₀ i₀ js i = tasks - i
+μ-loop s tasks from t js₀ i₀ js i = tasks - i
 
 loop-holds : tie.Need-loop-holds Inv-loop μ-loop
 unfolding releasedAt
-loop-holds c = (omega arith, rw append-nil (c .before .pre .3))
-
--- the task at hand is not refused
-here : (c : tie.In-loop Inv-loop μ-loop)
-    → (0 ≡ recordFault (c .before .before .before .args .s .now) (TaskRecords (c .before .before .before .args .n)) (c .before .before .before .args .from + c .before .loop .i * 5))
-    × (c .before .before .before .args .from + c .before .loop .i * 5 + 5 ≤ length (c .before .before .before .args .s .now))
-here c =
-    let p = c .before .before .before .pre in
-    record-at _ (TaskRecords _) _ _ _ (p .0) (p .1) (c .loop-test .taken)
+loop-holds c = (omega arith, rw append-nil (c .before .pre .2))
 
 task-of-requires : tie.Need-task-of-requires Inv-loop μ-loop
-task-of-requires c κs = omega (arith, here c .1)
+task-of-requires c κs = omega (arith, c .before .before .before .pre .0 .there)
 
 release-requires : tie.Need-release-requires Inv-loop μ-loop
 release-requires c κs =
-    let p = task-sound _ _ _ (here (c .before) .0) in
+    let p = c .before .before .before .before .pre .0 .periods (c .before .before .loop .i) (c .before .loop-test .taken) in
     rw (c .task-of .ensures) (p .0, omega arith)
 
 add-i : tie.Need-add-i Inv-loop μ-loop

@@ -8,10 +8,10 @@ use Rattle.request.proofs.jobs.unfold.Statement.{statement}
 use Rattle.request.proofs.jobs.unfold.Tie as tie
 
 abbrev Inv-loop : tie.InvT-loop
-Inv-loop s n tasks from h js₀ t₀ js t = (t ≤ h) × (js ≡ packed (unfolded s tasks from t))
+Inv-loop s tasks from h js₀ t₀ js t = (t ≤ h) × (js ≡ packed (unfolded s tasks from t))
 
 abbrev μ-loop : tie.MeasureT-loop
-μ-loop s n tasks from h js₀ t₀ js t = h - t
+μ-loop s tasks from h js₀ t₀ js t = h - t
 
 no-jobs-requires : tie.Need-no-jobs-requires Inv-loop μ-loop
 no-jobs-requires c κs = search needs
@@ -21,7 +21,7 @@ unfolding unfolded
 loop-holds c = (omega arith, c .no-jobs .ensures)
 
 tick-requires : tie.Need-tick-requires Inv-loop μ-loop
-tick-requires c κs = (c .before .before .before .before .pre .0, c .before .before .before .before .pre .1, omega arith, c .before .loop .inv .1)
+tick-requires c κs = (c .before .before .before .before .pre .0, omega arith, c .before .loop .inv .1)
 
 add-t : tie.Need-add-t Inv-loop μ-loop
 add-t c = search needs

@@ -1,5 +1,5 @@
 use borrow.Author.Needs.{needs}
-use mathlib.Core.Path.{_≡_, refl}
+use mathlib.Core.Path.{_≡_}
 use Prim.Native.Nat.{ℕ, _≤_, _+_, _-_, _*_}
 use native.Mathlib.Omega.{arith}
 use Rattle.base.specs.Lists.{upTo, padded}
@@ -10,14 +10,18 @@ use Rattle.request.proofs.layout.devices_of.Statement.{statement}
 use Rattle.request.proofs.layout.devices_of.Tie as tie
 
 abbrev Inv-loop : tie.InvT-loop
-Inv-loop s n list₀ k₀ list k = (k ≤ n) × (list ≡ padded 8 noDevice (upTo (λ i. deviceAt s (3 + i * 7)) k))
+Inv-loop s n devices₀ k₀ devices k =
+    (k ≤ n) × (devices ≡ record { count = 0; list = padded 8 noDevice (upTo (λ i. deviceAt s (3 + i * 7)) k) })
 
 abbrev μ-loop : tie.MeasureT-loop
-μ-loop s n list₀ k₀ list k = n - k
+μ-loop s n devices₀ k₀ devices k = n - k
+
+no-devices-requires : tie.Need-no-devices-requires Inv-loop μ-loop
+no-devices-requires c κs = search needs
 
 loop-holds : tie.Need-loop-holds Inv-loop μ-loop
-unfolding upTo padded
-loop-holds c = (omega arith, refl)
+unfolding upTo
+loop-holds c = (omega arith, c .no-devices .ensures)
 
 mul-device-at : tie.Need-mul-device-at Inv-loop μ-loop
 mul-device-at c = search needs
@@ -28,11 +32,11 @@ add-device-at c = search needs
 device-at-requires : tie.Need-device-at-requires Inv-loop μ-loop
 device-at-requires c κs = search needs
 
-mul-list : tie.Need-mul-list Inv-loop μ-loop
-mul-list c = search needs
+mul-t10 : tie.Need-mul-t10 Inv-loop μ-loop
+mul-t10 c = search needs
 
-array-set-from-list : tie.Need-array-set-from-list Inv-loop μ-loop
-array-set-from-list c = search needs
+element-set-from-devices : tie.Need-element-set-from-devices Inv-loop μ-loop
+element-set-from-devices c = search needs
 
 add-k : tie.Need-add-k Inv-loop μ-loop
 add-k c = search needs
@@ -43,13 +47,13 @@ loop-less c = search needs
 loop-again : tie.Need-loop-again Inv-loop μ-loop
 loop-again c =
     let l = c .before .before .loop in
-    let s = c .before .before .before .before .args .s .now in
-    (omega arith, rw (c .device-at .ensures, l .inv .1) (upTo-fill 8 noDevice (λ (i : ℕ). deviceAt s (3 + i * 7)) (l .k) (omega arith)))
+    let s = c .before .before .before .before .before .args .s .now in
+    (omega arith, rw (c .device-at .ensures, l .inv .1, upTo-fill 8 noDevice (λ (i : ℕ). deviceAt s (3 + i * 7)) (l .k) (omega arith)))
 
 returns : tie.Need-returns Inv-loop μ-loop
 returns c =
     let l = c .before .loop in
-    let all : l .k ≡ c .before .before .before .args .n = omega arith in
+    let all : l .k ≡ c .before .before .before .before .args .n = omega arith in
     rw (l .inv .1, all, length-upTo)
 
 pub devices-of-spec : {M : Type 1} → statement M
@@ -58,12 +62,13 @@ devices-of-spec =
     (tie.spec
     Inv-loop
     μ-loop
+    no-devices-requires
     loop-holds
     mul-device-at
     add-device-at
     device-at-requires
-    mul-list
-    array-set-from-list
+    mul-t10
+    element-set-from-devices
     add-k
     loop-less
     loop-again

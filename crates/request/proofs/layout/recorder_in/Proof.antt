@@ -1,9 +1,11 @@
 use borrow.Author.Needs.{needs}
 use mathlib.Core.Path.{_≡_}
+use Prim.Native.Nat.{_+_}
 use native.Mathlib.Omega.{arith}
 use Rattle.request.specs.declared.Section.the-variants.{DeviceRecords, JobRecords}
-use Rattle.request.specs.Format.{horizonIn, recorderIn}
-use Rattle.request.proofs.Checked.{records-room}
+use Rattle.request.specs.Format.{taskCount, tasksPlace, horizonIn, recorderIn}
+use Rattle.request.specs.Held.{SoundTasks}
+use Rattle.request.proofs.Checked.{records-room, tasks-sound}
 use Rattle.request.proofs.Faultless.{Faultless, faultless, length-jobs}
 use Rattle.request.proofs.Packed.{packed-held}
 use Rattle.request.proofs.layout.recorder_in.Statement.{statement}
@@ -11,6 +13,9 @@ use Rattle.request.proofs.layout.recorder_in.Tie as tie
 
 ok : (c : tie.After-shared-slice-known2) → Faultless (c .before .before .args .s .now)
 ok c = faultless _ (c .before .before .pre)
+
+sound : (c : tie.After-shared-slice-known3) → (let s = c .before .before .before .args .s .now in SoundTasks s (taskCount s) (tasksPlace s + 1))
+sound c = tasks-sound _ _ _ _ (omega (arith, ok (c .before))) (ok (c .before) .task-records)
 
 -- the horizon is not capped
 same : (c : tie.After-horizon-of) → c .horizon-of .result ≡ horizonIn (c .before .before .before .before .args .s .now)
@@ -38,7 +43,7 @@ add-horizon-of : tie.Need-add-horizon-of
 add-horizon-of c = omega (arith, ok (c .before))
 
 horizon-of-requires : tie.Need-horizon-of-requires
-horizon-of-requires c κs = (omega (arith, ok (c .before)), ok (c .before) .task-records, omega arith)
+horizon-of-requires c κs = (sound c, omega arith)
 
 devices-of-requires : tie.Need-devices-of-requires
 devices-of-requires c κs =
@@ -59,13 +64,9 @@ add-jobs-of-3 c = omega (arith, ok (c .before .before .before))
 
 jobs-of-requires : tie.Need-jobs-of-requires
 jobs-of-requires c κs =
-    let k = ok (c .before .before .before) in (
-      omega (arith, k),
-      k .task-records,
-      omega (arith, k .jobs),
-      same (c .before),
-      records-room _ (JobRecords _ _) _ _ (omega (arith, k .jobs .there)) (k .jobs .records),
-    )
+    let k = ok (c .before .before .before) in
+    let room = records-room _ (JobRecords _ _) _ _ (omega (arith, k .jobs .there)) (k .jobs .records) in
+    (sound (c .before .before), omega (arith, k .jobs), same (c .before), room)
 
 cast-t15 : tie.Need-cast-t15
 cast-t15 c = search needs

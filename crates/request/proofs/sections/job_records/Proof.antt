@@ -1,9 +1,8 @@
-use Rattle.base.proofs.Paths.{paths}
-use Prim.Native.Nat.{_≤_, _<_}
-use native.Mathlib.Omega.{arith}
-use Rattle.base.specs.Bytes.{byteAt}
-use Rattle.request.specs.Format.{countOf, jobRecords}
 use borrow.Author.Needs.{needs}
+use native.Mathlib.Omega.{arith}
+use Rattle.base.proofs.Paths.{paths}
+use Rattle.request.specs.Format.{jobRecords}
+use Rattle.request.proofs.Limits.{limits}
 use Rattle.request.proofs.sections.job_records.Statement.{statement}
 use Rattle.request.proofs.sections.job_records.Tie as tie
 
@@ -18,11 +17,7 @@ job-count-requires c κs = search needs
 
 returns : tie.Need-returns
 unfolding jobRecords
-returns c =
-    let z = c .before in
-    let a = z .before .before .before .args in
-    let k : 16 < countOf (a .s .now) (a .tasks) (a .from) (byteAt (a .s .now) (a .at)) (a .h) = omega arith in
-    search paths
+returns c = search (paths, limits)
 
 add-records-fault : tie.Need-add-records-fault
 add-records-fault c = search needs
@@ -32,11 +27,7 @@ records-fault-requires c κs = search needs
 
 returns-2 : tie.Need-returns-2
 unfolding jobRecords
-returns-2 c =
-    let z = c .before .before .before in
-    let a = z .before .before .before .args in
-    let k : countOf (a .s .now) (a .tasks) (a .from) (byteAt (a .s .now) (a .at)) (a .h) ≤ 16 = omega arith in
-    search paths
+returns-2 c = search (paths, limits)
 
 add-if3 : tie.Need-add-if3
 add-if3 c = search needs
@@ -49,19 +40,11 @@ add-if3-2 c = omega (arith, c .before .before .before .before .shared-slice-know
 
 returns-3 : tie.Need-returns-3
 unfolding jobRecords
-returns-3 c =
-    let z = c .before .before .before .before in
-    let a = z .before .before .before .args in
-    let k : countOf (a .s .now) (a .tasks) (a .from) (byteAt (a .s .now) (a .at)) (a .h) ≤ 16 = omega arith in
-    search paths
+returns-3 c = search (paths, limits)
 
 returns-4 : tie.Need-returns-4
 unfolding jobRecords
-returns-4 c =
-    let z = c .before .before .before .before in
-    let a = z .before .before .before .args in
-    let k : countOf (a .s .now) (a .tasks) (a .from) (byteAt (a .s .now) (a .at)) (a .h) ≤ 16 = omega arith in
-    search paths
+returns-4 c = search (paths, limits)
 
 pub job-records-spec : {M : Type 1} → statement M
 job-records-spec =

@@ -2,6 +2,8 @@ use Rattle.base.proofs.Paths.{paths}
 use native.Mathlib.Omega.{arith}
 use Rattle.request.specs.Format.{taskSection}
 use borrow.Author.Needs.{needs}
+use mathlib.Core.Path.{sym, _∙_}
+use Rattle.request.proofs.Checked.{tasks-sound}
 use Rattle.request.proofs.sections.task_section.Statement.{statement}
 use Rattle.request.proofs.sections.task_section.Tie as tie
 
@@ -42,7 +44,9 @@ add-job-section-3 : tie.Need-add-job-section-3
 add-job-section-3 c = search needs
 
 job-section-requires : tie.Need-job-section-requires
-job-section-requires c κs = search needs
+job-section-requires c κs =
+    let ok = sym (c .if3 .left) ∙ c .before .records-fault .ensures in
+    (tasks-sound _ _ _ _ (omega arith) ok, omega arith, omega arith)
 
 returns-4 : tie.Need-returns-4
 unfolding taskSection
