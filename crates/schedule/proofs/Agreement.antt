@@ -24,7 +24,7 @@ use Rattle.schedule.specs.declared.search.Tally.{Tally}
 use Rattle.schedule.specs.Quantities.{Valid, jobs, release, run, uses, deadline}
 use Rattle.schedule.specs.Listing.{place}
 use Rattle.schedule.specs.Visiting as doc
-use Rattle.schedule.specs.Steps.{flagged, lateStep, isLate, late, loadStep, addLoad, load, aheadStep, addAhead, ahead, cutA, endAt, paidAt, lastStart, endStep, paidStep, charged, closeStep, addClose, closed, floorStep, addFloor, floor, improves, offer, cutB, opens, noted, earliest, span, child, placeAt, tryStart, tryJob, visitOf, root, nothing, searched, Kept}
+use Rattle.schedule.specs.Steps.{flagged, lateStep, isLate, late, loadStep, addLoad, load, aheadStep, addAhead, ahead, cutA, endAt, paidAt, lastStart, endStep, paidStep, charged, closeStep, addClose, closed, floorStep, addFloor, floor, improves, offer, cutB, opens, noted, earliest, span, child, placeAt, tryStart, tryJob, visitOf, root, bare, searched, Kept}
 use Rattle.schedule.proofs.Runs.{length-starts}
 use Rattle.schedule.proofs.Tree.{Reached, starts-child, root-reached, child-reached}
 use Rattle.schedule.proofs.Gaps.{paidFrom, paidWhole, last-snoc, paid-snoc, plan-complete}
@@ -368,7 +368,7 @@ module _ (R : Recorder) (valid : Valid R) where
   all-same : SameTally R (searched R) (doc.visited R)
   unfolding searched doc.visited SameBest
   all-same =
-      visit-same R valid (jobs R) (root R) (doc.root R) (omega arith) (root-same R valid) (root-reached R valid) nothing (record { count = 0; best = none })
+      visit-same R valid (jobs R) (root R) (doc.root R) (omega arith) (root-same R valid) (root-reached R valid) (bare 0) (record { count = 0; best = none })
       (record { count = refl; best = refl })
 
   -- The code's search counts the vertices of the visiting order,

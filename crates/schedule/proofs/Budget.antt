@@ -16,6 +16,9 @@ use Rattle.schedule.specs.Steps.{haltedAt, capped}
 abbrev pub going : Tally → Run
 going t = record { stopped = false; tally = t }
 
+abbrev pub stopping : Tally → Run
+stopping t = record { stopped = true; tally = t }
+
 pub capped-within : (b : ℕ) (t : Tally) → t .count ≤ b → capped b t ≡ going t
 unfolding capped
 capped-within b t h = simp (le-leb _ _ h)

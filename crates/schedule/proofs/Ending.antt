@@ -13,7 +13,7 @@ use Rattle.schedule.specs.declared.search.Vertex.{Vertex}
 use Rattle.schedule.specs.declared.search.Tally.{Tally}
 use Rattle.schedule.specs.declared.search.Run.{Run}
 use Rattle.schedule.specs.Quantities.{jobs}
-use Rattle.schedule.specs.Steps.{capped, visitOf, root, nothing, searched, refusal, success, answerOf, copyStart, writtenOf}
+use Rattle.schedule.specs.Steps.{capped, visitOf, root, bare, searched, refusal, success, answerOf, copyStart, writtenOf}
 use Rattle.schedule.proofs.Budget.{capped-stopped, capped-going, going-is}
 
 module _ (R : Recorder) (b : ℕ) (l : List ℕ) where
@@ -31,7 +31,7 @@ module _ (R : Recorder) (b : ℕ) (l : List ℕ) where
   pub is-short : length l < jobs R → Refuses 15 0
   is-short h = (short-answer h, unwritten 15 0 refl (short-answer h))
 
-  module _ (p : Vertex) (t : Tally) (r : Run) (ep : p ≡ root R) (et : t ≡ nothing) (e : r ≡ capped b (visitOf R (p .left) p t)) (h : jobs R ≤ length l) where
+  module _ (p : Vertex) (t : Tally) (r : Run) (ep : p ≡ root R) (et : t ≡ bare 0) (e : r ≡ capped b (visitOf R (p .left) p t)) (h : jobs R ≤ length l) where
     ran : r ≡ capped b (searched R)
     unfolding searched
     ran = e ∙ ap (λ (q : Vertex). capped b (visitOf R (q .left) q t)) ep ∙ ap (λ (u : Tally). capped b (visitOf R (jobs R) (root R) u)) et

@@ -14,7 +14,7 @@ use Rattle.schedule.specs.declared.search.Tally.{Tally}
 use Rattle.schedule.specs.declared.search.Run.{Run}
 use Rattle.schedule.specs.declared.search.Entered.{Entered}
 use Rattle.schedule.specs.Quantities.{Valid, jobs, run}
-use Rattle.schedule.specs.Steps.{flagged, cutA, charged, opens, noted, enteredAt, earliest, span, child, placeAt, tryStart, tryJob, visitOf, capped, Settled, Kept}
+use Rattle.schedule.specs.Steps.{flagged, cutA, charged, counting, opens, noted, enteredAt, earliest, span, child, placeAt, tryStart, tryJob, visitOf, capped, Settled, Kept}
 use Rattle.schedule.proofs.Budget.{Grows, each-grows, going, capped-within}
 use Rattle.schedule.proofs.Charging.{charged-alike, charged-settled}
 
@@ -66,6 +66,17 @@ job-runs R g v j t b r p h = rw (job-open R g v j t p) h
 
 pub job-done : (R : Recorder) (g : Vertex → Tally → Tally) (v : Vertex) (j k : ℕ) (x y : Tally) → flagged (v .placed) j ≡ false → y ≡ each (tryStart R g v j) k x → k ≡ span R v j → y ≡ tryJob R g v j x
 job-done R g v j k x y p e f = rw (job-open R g v j x p, ← f) e
+
+-- A vertex that cut A drops is counted, and no more.
+cut-only : (R : Recorder) (v : Vertex) (t : Tally) → cutA R v ≡ true → (f : ℕ) → visitOf R f v t ≡ counting t
+unfolding visitOf opens noted
+cut-only R v t q zero = simp q
+cut-only R v t q (suc f) = simp q
+
+pub visit-cut :
+    (R : Recorder) (v : Vertex) (t : Tally) (b : Bool) → b ≡ cutA R v → b ≡ true → (n : Tally) → n ≡ counting t → (budget : ℕ) → t .count < budget
+    → going n ≡ capped budget (visitOf R (v .left) v t)
+visit-cut R v t b e q n c budget l = rw (cut-only R v t (sym e ∙ q) (v .left), c) (sym (capped-within budget (counting t) (omega arith)))
 
 -- A vertex that opens has a job left, and its visit is that of its jobs in turn.
 opens-uncut : (R : Recorder) (v : Vertex) (t : Tally) → opens R v t ≡ true → cutA R v ≡ false

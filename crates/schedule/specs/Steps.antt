@@ -15,6 +15,7 @@ use Rattle.schedule.specs.declared.Jobs.{Jobs}
 use Rattle.schedule.specs.declared.Devices.{Devices}
 use Rattle.schedule.specs.declared.Recorder.{Recorder}
 use Rattle.schedule.specs.declared.search.Vertex.{Vertex}
+use Rattle.schedule.specs.declared.search.Fit.{Fit}
 use Rattle.schedule.specs.declared.search.Best.{Best}
 use Rattle.schedule.specs.declared.search.Tally.{Tally}
 use Rattle.schedule.specs.declared.search.Run.{Run}
@@ -55,6 +56,9 @@ addLoad J m j = loadStep (flagged m j) (jobIn J j .run)
 
 unfoldable pub load : Jobs → List Bool → ℕ
 load J m = each (addLoad J m) (J .count) 0
+
+abbrev pub fitOf : Jobs → ℕ → List Bool → Fit
+fitOf J t m = record { late = late J t m; load = load J m }
 
 abbrev pub addAhead : Jobs → List Bool → ℕ → ℕ → ℕ → ℕ
 addAhead J m k j = aheadStep (flagged m j) (getD (jobIn J j .uses) k false) (jobIn J j .run)
@@ -141,6 +145,10 @@ cutB b f = cond (b .found) (leb (b .energy) f) false
 abbrev pub complete : Vertex → Bool
 complete v = eqb (v .left) 0
 
+-- The tally t with one vertex more.
+abbrev pub counting : Tally → Tally
+counting t = record { count = t .count + 1; best = t .best }
+
 -- Whether v's children are examined, at a tally t.
 unfoldable pub opens : Recorder → Vertex → Tally → Bool
 opens R v t = cond (cutA R v) false (cond (complete v) false (not (cutB (t .best) (floor R (charged R v)))))
@@ -199,8 +207,11 @@ visitOf R (suc f) v t = under (opens R v t) (each (tryJob R (visitOf R f) (charg
 abbrev pub noBest : Best
 noBest = record { found = false; energy = 0; starts = replicate 16 0 }
 
+abbrev pub bare : ℕ → Tally
+bare c = record { count = c; best = noBest }
+
 abbrev pub haltedAt : ℕ → Run
-haltedAt b = record { stopped = true; tally = record { count = b; best = noBest } }
+haltedAt b = record { stopped = true; tally = bare b }
 
 -- What a budget of b makes of a tally: the tally, or the word that the budget is too small.
 unfoldable pub capped : ℕ → Tally → Run
@@ -220,12 +231,9 @@ root R =
       paid = replicate 8 0;
     }
 
-abbrev pub nothing : Tally
-nothing = record { count = 0; best = noBest }
-
 -- The whole visit.
 unfoldable pub searched : Recorder → Tally
-searched R = visitOf R (jobs R) (root R) nothing
+searched R = visitOf R (jobs R) (root R) (bare 0)
 
 abbrev pub refusal : ℕ → ℕ → Found
 refusal k c = record { number = k; energy = 0; count = c }

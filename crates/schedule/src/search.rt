@@ -3,11 +3,12 @@ use crate::Device;
 use crate::Jobs;
 use crate::Recorder;
 ghost use mathlib.Core.Path.{_≡_};
+ghost use mathlib.Core.Bool.{false};
 ghost use Prim.Native.Nat.{ℕ, _+_, _-_, _*_, _^_, _<_, _≤_, max};
 ghost use lib.ListN.{length};
 ghost use Rattle.base.specs.Loops.{each};
 ghost use Rattle.schedule.specs.Quantities.{Valid, jobs};
-ghost use Rattle.schedule.specs.Steps.{lateStep, late, loadStep, load, aheadStep, ahead, cutA, paidStep, endStep, charged, closeStep, closed, floorStep, floor, improves, offer, cutB, enteredAt, placeAt, tryJob, visitOf, haltedAt, capped, root, nothing, copyStart, answerOf, writtenOf, Settled, Kept};
+ghost use Rattle.schedule.specs.Steps.{lateStep, loadStep, fitOf, load, aheadStep, ahead, cutA, paidStep, endStep, charged, closeStep, closed, floorStep, floor, improves, offer, cutB, counting, enteredAt, placeAt, tryJob, visitOf, bare, haltedAt, capped, root, copyStart, answerOf, writtenOf, Settled, Kept};
 
 // A vertex: some jobs placed in running order, at the end of the last one. Of device k, `ends[k]` is the end of the last use and `paid[k]` the least energy
 // of the ticks before it. The job placed last is not in these two until the vertex has passed cut A: a vertex that cut A drops costs nothing dearer.
@@ -19,6 +20,12 @@ pub struct Vertex {
     pub last: usize,
     pub ends: [u16; 8],
     pub paid: [u32; 8],
+}
+
+// What the unplaced jobs leave of a vertex: whether one is late, and their running times.
+pub struct Fit {
+    pub late: bool,
+    pub load: u32,
 }
 
 // The best complete vertex so far, if one was found.
@@ -85,6 +92,7 @@ fn late_with(placed: bool, t: u16, a: u16, d: u16, c: u16, found: bool) -> bool
     found
 }
 
+// The sum with this job's running time, if it is unplaced; and the same for the jobs that use a device.
 fn load_with(placed: bool, c: u16, sum: u32) -> u32
     requires { ⌜ sum < 2000000 ⌝ }
     ensures { λ x. ⌜ (x ≡ loadStep placed c sum) × (x ≤ sum + 65535) ⌝ }
@@ -108,34 +116,24 @@ fn ahead_with(placed: bool, used: bool, c: u16, sum: u32) -> u32
     sum
 }
 
-// Whether some unplaced job can no longer meet its deadline.
-fn is_late(jobs: Jobs, t: u16, placed: [bool; 16]) -> bool
+// Of all unplaced jobs: whether one can no longer meet its deadline, and their running times.
+fn fit_of(jobs: Jobs, t: u16, placed: [bool; 16]) -> Fit
     requires { ⌜ jobs .count ≤ 16 ⌝ }
-    ensures { λ x. ⌜ x ≡ late jobs t placed ⌝ }
+    ensures { λ x. ⌜ (x ≡ fitOf jobs t placed) × (x .load < 2000000) ⌝ }
 {
     let mut found = false;
-    let mut j = 0;
-    while j < jobs.count {
-        let job = jobs.list[j];
-        found = late_with(placed[j], t, job.release, job.deadline, job.run, found);
-        j += 1;
-    }
-    found
-}
-
-// The running times of all unplaced jobs.
-fn load_of(jobs: Jobs, placed: [bool; 16]) -> u32
-    requires { ⌜ jobs .count ≤ 16 ⌝ }
-    ensures { λ x. ⌜ (x ≡ load jobs placed) × (x < 2000000) ⌝ }
-{
     let mut sum: u32 = 0;
     let mut j = 0;
     while j < jobs.count {
         let job = jobs.list[j];
+        found = late_with(placed[j], t, job.release, job.deadline, job.run, found);
         sum = load_with(placed[j], job.run, sum);
         j += 1;
     }
-    sum
+    Fit {
+        late: found,
+        load: sum,
+    }
 }
 
 // The ticks for which the unplaced jobs will use device k.
@@ -160,10 +158,11 @@ fn is_cut(r: Recorder, v: Vertex) -> bool
 {
     let jobs = r.jobs;
     let placed = v.placed;
-    if is_late(jobs, v.time, placed) {
+    let f = fit_of(jobs, v.time, placed);
+    if f.late {
         return true;
     }
-    wide(r.horizon) < wide(v.time) + load_of(jobs, placed)
+    wide(r.horizon) < wide(v.time) + f.load
 }
 
 // What device d has cost once a job is charged that starts at s and runs for c ticks.
@@ -216,6 +215,7 @@ fn charge(r: Recorder, v: Vertex) -> Vertex
     next
 }
 
+// The sum with device d's ticks up to the horizon h, where no job is left.
 fn close_with(d: Device, h: u16, paid: u32, end: u16, sum: u32) -> u32
     requires { ⌜ (paid ≤ d .pw * end) × ((end ≤ h) × ((h ≤ 4096) × (sum ≤ 2000000000))) ⌝ }
     ensures { λ x. ⌜ (x ≡ closeStep d h paid end sum) × (x ≤ sum + 268431360) ⌝ }
@@ -241,6 +241,7 @@ fn energy_of(r: Recorder, v: Vertex) -> u32
     sum
 }
 
+// The sum with device d's floor: asleep wherever no use is known.
 fn floor_with(d: Device, h: u16, paid: u32, end: u16, ahead: u32, sum: u32) -> u32
     requires { ⌜ (paid ≤ d .pw * end) × ((end + ahead ≤ h) × ((h ≤ 4096) × (sum ≤ 2000000000))) ⌝ }
     ensures { λ x. ⌜ (x ≡ floorStep d h paid end ahead sum) × (x ≤ sum + 268431360) ⌝ }
@@ -269,6 +270,7 @@ fn floor_of(r: Recorder, v: Vertex) -> u32
     sum
 }
 
+// Complete: it becomes the best if there is no best yet or its energy is smaller.
 fn improves_on(b: Best, e: u32) -> bool
     ensures { λ x. ⌜ x ≡ improves b e ⌝ }
 {
@@ -295,20 +297,22 @@ fn is_beaten(b: Best, floor: u32) -> bool
     if b.found { b.energy <= floor } else { false }
 }
 
-// Counts a vertex, then cut A, then complete, then cut B.
-fn enter(r: Recorder, v: Vertex, t: Tally) -> Entered
-    requires { ⌜ Valid r × (Kept r v × (t .count + 1 < 2 ^ 32)) ⌝ }
-    ensures { λ x. ⌜ x ≡ enteredAt r v t ⌝ }
+// The tally with one vertex more.
+fn counted(t: Tally) -> Tally
+    requires { ⌜ t .count + 1 < 2 ^ 32 ⌝ }
+    ensures { λ x. ⌜ x ≡ counting t ⌝ }
 {
     let mut next = t;
     next.count = t.count + 1;
-    if is_cut(r, v) {
-        return Entered {
-            further: false,
-            tally: next,
-            vertex: v,
-        };
-    }
+    next
+}
+
+// A vertex that has passed cut A: complete, or cut B.
+fn enter(r: Recorder, v: Vertex, t: Tally) -> Entered
+    requires { ⌜ Valid r × (Kept r v × ((cutA r v ≡ false) × (t .count + 1 < 2 ^ 32))) ⌝ }
+    ensures { λ x. ⌜ x ≡ enteredAt r v t ⌝ }
+{
+    let mut next = counted(t);
     let w = charge(r, v);
     let best = t.best;
     if v.left == 0 {
@@ -329,24 +333,30 @@ fn enter(r: Recorder, v: Vertex, t: Tally) -> Entered
     }
 }
 
-fn halted(budget: u32) -> Run
-    ensures { λ x. ⌜ x ≡ haltedAt budget ⌝ }
+// A tally with no best yet.
+fn empty_tally(count: u32) -> Tally
+    ensures { λ x. ⌜ x ≡ bare count ⌝ }
 {
-    let none = Best {
+    let best = Best {
         found: false,
         energy: 0,
         starts: [0u16; 16],
     };
-    let tally = Tally {
-        count: budget,
-        best: none,
-    };
+    Tally { count, best }
+}
+
+// The word that the budget is used up: one value, handed up unchanged.
+fn halted(budget: u32) -> Run
+    ensures { λ x. ⌜ x ≡ haltedAt budget ⌝ }
+{
+    let tally = empty_tally(budget);
     Run {
         stopped: true,
         tally,
     }
 }
 
+// The child where job j, of running time c, starts at s.
 fn place(v: Vertex, j: usize, s: u32, c: u32) -> Vertex
     requires { ⌜ (j < 16) × ((0 < v .left) × (s + c < 65536)) ⌝ }
     ensures { λ x. ⌜ x ≡ placeAt v j s c ⌝ }
@@ -367,6 +377,13 @@ fn visit(r: Recorder, v: Vertex, t: Tally, budget: u32) -> Run
 {
     if t.count == budget {
         return halted(budget);
+    }
+    if is_cut(r, v) {
+        let tally = counted(t);
+        return Run {
+            stopped: false,
+            tally,
+        };
     }
     let e = enter(r, v, t);
     let tally = e.tally;
@@ -412,6 +429,7 @@ fn choices(r: Recorder, v: Vertex, t: Tally, budget: u32) -> Run
     }
 }
 
+// No job placed yet.
 fn root_of(r: Recorder) -> Vertex
     ensures { λ x. ⌜ x ≡ root r ⌝ }
 {
@@ -425,17 +443,6 @@ fn root_of(r: Recorder) -> Vertex
         ends: [0u16; 8],
         paid: [0u32; 8],
     }
-}
-
-fn no_tally() -> Tally
-    ensures { λ x. ⌜ x ≡ nothing ⌝ }
-{
-    let best = Best {
-        found: false,
-        energy: 0,
-        starts: [0u16; 16],
-    };
-    Tally { count: 0, best }
 }
 
 // Writes the first n starts into the lent list.
@@ -465,7 +472,7 @@ pub fn search(r: Recorder, budget: u32, out: &mut [u16]) -> Found
             count: 0,
         };
     }
-    let run = visit(r, root_of(r), no_tally(), budget);
+    let run = visit(r, root_of(r), empty_tally(0), budget);
     if run.stopped {
         return Found {
             number: 20,

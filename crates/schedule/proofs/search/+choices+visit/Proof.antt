@@ -15,7 +15,7 @@ use Rattle.schedule.specs.declared.search.Tally.{Tally}
 use Rattle.schedule.specs.declared.search.Vertex.{Vertex}
 use Rattle.schedule.specs.Steps.{tryStart, tryJob, visitOf, capped}
 use Rattle.schedule.proofs.Charging.{child-kept}
-use Rattle.schedule.proofs.Order.{visit-counts, jobs-grow, starts-grow, job-placed, job-done, job-runs, entered-count, entered-left, entered-more, entered-settled, visit-open, visit-closes, child-is}
+use Rattle.schedule.proofs.Order.{visit-counts, jobs-grow, starts-grow, job-placed, job-done, job-runs, entered-count, entered-left, entered-more, entered-settled, visit-cut, visit-open, visit-closes, child-is}
 use Rattle.schedule.proofs.Budget.{stops-here, goes-on, goes-within, ends, capped-over}
 use Rattle.schedule.proofs.search.choices.Reads as choices
 use Rattle.schedule.proofs.search.choices.Kinds as choices-kinds
@@ -26,6 +26,8 @@ use Rattle.schedule.proofs.search.+choices+visit.Lts-visit as visit-lts
 use Rattle.schedule.proofs.search.earliest_of.Reads as earliest-of-reads
 use Rattle.schedule.proofs.search.enter.Reads as enter-reads
 use Rattle.schedule.proofs.search.halted.Reads as halted-reads
+use Rattle.schedule.proofs.search.is_cut.Reads as is-cut-reads
+use Rattle.schedule.proofs.search.counted.Reads as counted-reads
 use Rattle.schedule.proofs.search.place.Reads as place-reads
 use Rattle.schedule.proofs.search.wide.Reads as wide-reads
 use Rattle.schedule.proofs.search.+choices+visit.{statement}
@@ -53,7 +55,7 @@ abbrev choices-calls : ℕ → choices-lts.Claims
 choices-calls t = (wide-reads.Asked, wide-reads.Learnt, earliest-of-reads.Asked, earliest-of-reads.Learnt, place-reads.Asked, place-reads.Learnt, visit-below t, visit.Post)
 
 abbrev visit-calls : ℕ → visit-lts.Claims
-visit-calls t = (halted-reads.Asked, halted-reads.Learnt, enter-reads.Asked, enter-reads.Learnt, choices-below t, choices.Post)
+visit-calls t = (halted-reads.Asked, halted-reads.Learnt, is-cut-reads.Asked, is-cut-reads.Learnt, counted-reads.Asked, counted-reads.Learnt, enter-reads.Asked, enter-reads.Learnt, choices-below t, choices.Post)
 
 abbrev choices-Inv-loop2 : choices-lts.InvT-loop2
 choices-Inv-loop2 r budget v jobs tally₀ j c d s₀ tally s = (s₀ ≤ s) × (tally ≡ each (tryStart r (visitOf r (v .left - 1)) v j) (s - s₀) tally₀) × (tally .count ≤ budget) × (s - s₀ ≤ (d + 1) - (c + s₀))
@@ -130,20 +132,29 @@ visit-halted-requires t c κs = search needs
 visit-returns : (t : ℕ) → visit-lts.Need-returns (visit-calls t) (visit-at t) visit.Post
 visit-returns t c = c .halted .ensures ∙ sym (capped-over _ _ (omega (arith, visit-counts (c .before .before .before .args .r) (c .before .before .before .args .v .left) (c .before .before .before .args .v) (c .before .before .before .args .t))))
 
-visit-enter-requires : (t : ℕ) → visit-lts.Need-enter-requires (visit-calls t) (visit-at t) visit.Post
-visit-enter-requires t c κs = (c .before .before .pre .1 .0, (c .before .before .pre .1 .1 .0, omega arith))
+visit-is-cut-requires : (t : ℕ) → visit-lts.Need-is-cut-requires (visit-calls t) (visit-at t) visit.Post
+visit-is-cut-requires t c κs = c .before .before .pre .1 .0
 
-visit-choices-requires : (t : ℕ) → visit-lts.Need-choices-requires (visit-calls t) (visit-at t) visit.Post
-visit-choices-requires t c κs = (omega (arith, entered-left _ _ _ _ (c .before .before .before .enter .ensures) (c .if2 .taken)), (c .before .before .before .before .before .before .pre .1 .0, (entered-settled _ _ _ _ (c .before .before .before .enter .ensures) (c .if2 .taken) (c .before .before .before .before .before .before .pre .1 .0) (c .before .before .before .before .before .before .pre .1 .1 .0), (entered-more _ _ _ _ (c .before .before .before .enter .ensures) (c .if2 .taken), omega (arith, entered-count _ _ _ _ (c .before .before .before .enter .ensures))))))
+visit-counted-requires : (t : ℕ) → visit-lts.Need-counted-requires (visit-calls t) (visit-at t) visit.Post
+visit-counted-requires t c κs = omega arith
 
 visit-returns-2 : (t : ℕ) → visit-lts.Need-returns-2 (visit-calls t) (visit-at t) visit.Post
-visit-returns-2 t c = c .choices .ensures ∙ ap (capped _) (sym (visit-open _ _ _ _ (c .before .before .before .before .enter .ensures) (search needs)))
+visit-returns-2 t c = visit-cut _ _ _ _ (c .before .before .is-cut .ensures) (c .before .if2 .taken) _ (c .counted .ensures) _ (omega arith)
+
+visit-enter-requires : (t : ℕ) → visit-lts.Need-enter-requires (visit-calls t) (visit-at t) visit.Post
+visit-enter-requires t c κs = (c .before .before .before .before .pre .1 .0, (c .before .before .before .before .pre .1 .1 .0, (sym (c .before .is-cut .ensures) ∙ c .if2 .left, omega arith)))
+
+visit-choices-requires : (t : ℕ) → visit-lts.Need-choices-requires (visit-calls t) (visit-at t) visit.Post
+visit-choices-requires t c κs = (omega (arith, entered-left _ _ _ _ (c .before .before .before .enter .ensures) (c .if3 .taken)), (c .before .before .before .before .before .before .before .before .pre .1 .0, (entered-settled _ _ _ _ (c .before .before .before .enter .ensures) (c .if3 .taken) (c .before .before .before .before .before .before .before .before .pre .1 .0) (c .before .before .before .before .before .before .before .before .pre .1 .1 .0), (entered-more _ _ _ _ (c .before .before .before .enter .ensures) (c .if3 .taken), omega (arith, entered-count _ _ _ _ (c .before .before .before .enter .ensures))))))
 
 visit-returns-3 : (t : ℕ) → visit-lts.Need-returns-3 (visit-calls t) (visit-at t) visit.Post
-visit-returns-3 t c = visit-closes _ _ _ _ (c .before .before .before .enter .ensures) _ (search needs) (omega (arith, entered-count _ _ _ _ (c .before .before .before .enter .ensures)))
+visit-returns-3 t c = c .choices .ensures ∙ ap (capped _) (sym (visit-open _ _ _ _ (c .before .before .before .before .enter .ensures) (search needs)))
+
+visit-returns-4 : (t : ℕ) → visit-lts.Need-returns-4 (visit-calls t) (visit-at t) visit.Post
+visit-returns-4 t c = visit-closes _ _ _ _ (c .before .before .before .enter .ensures) _ (search needs) (omega (arith, entered-count _ _ _ _ (c .before .before .before .enter .ensures)))
 
 pub +choices+visit-spec : {M : Type 1} → statement M
 +choices+visit-spec =
     close μ-choices μ-visit
     (λ t. choices-lts.spec (choices-calls t) (choices-at t) choices.Post choices-Inv-loop2 choices-μ-loop2 choices-Inv-loop choices-μ-loop (choices-loop-holds t) (choices-element-copy-out-if1 t) (choices-mul-job t) (choices-element-copy-out-job t) (choices-wide-requires t) (choices-wide-requires-2 t) (choices-earliest-of-requires t) (choices-loop2-holds t) (choices-add-loop2 t) (choices-place-requires t) (choices-visit-requires t) (choices-returns t) (choices-add-s t) (choices-loop2-less t) (choices-loop2-again t) (choices-add-j t) (choices-loop-less t) (choices-loop-again t) (choices-returns-2 t))
-    (λ t. visit-lts.spec (visit-calls t) (visit-at t) visit.Post (visit-halted-requires t) (visit-returns t) (visit-enter-requires t) (visit-choices-requires t) (visit-returns-2 t) (visit-returns-3 t))
+    (λ t. visit-lts.spec (visit-calls t) (visit-at t) visit.Post (visit-halted-requires t) (visit-returns t) (visit-is-cut-requires t) (visit-counted-requires t) (visit-returns-2 t) (visit-enter-requires t) (visit-choices-requires t) (visit-returns-3 t) (visit-returns-4 t))

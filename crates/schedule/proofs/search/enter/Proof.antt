@@ -2,51 +2,43 @@
 -- Assumes nothing.
 use borrow.Author.Needs.{needs}
 use Rattle.schedule.proofs.Charging.{charged-settled}
-use Rattle.schedule.proofs.Entry.{charged-fits, enter-cut, enter-complete, enter-on}
+use Rattle.schedule.proofs.Entry.{charged-fits, enter-complete, enter-on}
 use Rattle.schedule.proofs.search.enter.Statement.{statement}
 use Rattle.schedule.proofs.search.enter.Tie as tie
 
-add-next : tie.Need-add-next
-add-next c = search needs
-
-is-cut-requires : tie.Need-is-cut-requires
-is-cut-requires c κs = search needs
-
-returns : tie.Need-returns
-returns c = enter-cut _ _ _ _ (c .before .is-cut .ensures) (c .if1 .taken)
+counted-requires : tie.Need-counted-requires
+counted-requires c κs = search needs
 
 charge-requires : tie.Need-charge-requires
 charge-requires c κs = search needs
 
 energy-of-requires : tie.Need-energy-of-requires
-energy-of-requires c κs = (c .before .before .before .before .before .before .before .before .pre .0, rw (c .before .before .before .before .charge .ensures) (charged-settled _ _ (c .before .before .before .before .before .before .before .before .pre .0) (c .before .before .before .before .before .before .before .before .pre .1 .0)))
+energy-of-requires c κs = (c .before .before .before .before .before .before .pre .0, rw (c .before .before .before .before .charge .ensures) (charged-settled _ _ (c .before .before .before .before .before .before .pre .0) (c .before .before .before .before .before .before .pre .1 .0)))
 
 offered-requires : tie.Need-offered-requires
 offered-requires c κs = search needs
 
-returns-2 : tie.Need-returns-2
-returns-2 c = enter-complete _ _ _ _ (c .before .before .before .before .before .before .before .before .is-cut .ensures) (c .before .before .before .before .before .before .before .if1 .left) _ (c .before .before .before .before .before .before .charge .ensures) (c .before .before .before .if2 .taken) _ (c .before .energy-of .ensures) _ (c .offered .ensures)
+returns : tie.Need-returns
+returns c = enter-complete _ _ _ (c .before .before .before .before .before .before .before .before .pre .1 .1 .0) _ (c .before .before .before .before .before .before .charge .ensures) _ (c .before .before .before .before .before .before .before .counted .ensures) (c .before .before .before .if1 .taken) _ (c .before .energy-of .ensures) _ (c .offered .ensures)
 
 floor-of-requires : tie.Need-floor-of-requires
-floor-of-requires c κs = (c .before .before .before .before .before .before .before .pre .0, (rw (c .before .before .before .charge .ensures) (charged-settled _ _ (c .before .before .before .before .before .before .before .pre .0) (c .before .before .before .before .before .before .before .pre .1 .0)), charged-fits _ _ _ (c .before .before .before .before .before .is-cut .ensures) (c .before .before .before .before .if1 .left) _ (c .before .before .before .charge .ensures)))
+floor-of-requires c κs = (c .before .before .before .before .before .pre .0, (rw (c .before .before .before .charge .ensures) (charged-settled _ _ (c .before .before .before .before .before .pre .0) (c .before .before .before .before .before .pre .1 .0)), charged-fits _ _ (c .before .before .before .before .before .pre .1 .1 .0) _ (c .before .before .before .charge .ensures)))
 
 is-beaten-requires : tie.Need-is-beaten-requires
 is-beaten-requires c κs = search needs
 
-returns-3 : tie.Need-returns-3
-returns-3 c = enter-on _ _ _ _ (c .before .before .before .before .before .before .before .is-cut .ensures) (c .before .before .before .before .before .before .if1 .left) _ (c .before .before .before .before .before .charge .ensures) (c .before .before .if2 .left) _ (c .before .floor-of .ensures) _ (c .is-beaten .ensures)
+returns-2 : tie.Need-returns-2
+returns-2 c = enter-on _ _ _ (c .before .before .before .before .before .before .before .pre .1 .1 .0) _ (c .before .before .before .before .before .charge .ensures) _ (c .before .before .before .before .before .before .counted .ensures) (c .before .before .if1 .left) _ (c .before .floor-of .ensures) _ (c .is-beaten .ensures)
 
 pub enter-spec : {M : Type 1} → statement M
 enter-spec =
     tie.close
     (tie.spec
-    add-next
-    is-cut-requires
-    returns
+    counted-requires
     charge-requires
     energy-of-requires
     offered-requires
-    returns-2
+    returns
     floor-of-requires
     is-beaten-requires
-    returns-3)
+    returns-2)

@@ -5,11 +5,11 @@ use Rattle.schedule.proofs.Entry.{cut-late, cut-over}
 use Rattle.schedule.proofs.search.is_cut.Statement.{statement}
 use Rattle.schedule.proofs.search.is_cut.Tie as tie
 
-is-late-requires : tie.Need-is-late-requires
-is-late-requires c κs = search needs
+fit-of-requires : tie.Need-fit-of-requires
+fit-of-requires c κs = search needs
 
 returns : tie.Need-returns
-returns c = cut-late _ _ _ (c .before .is-late .ensures) (c .if1 .taken)
+returns c = cut-late _ _ _ (c .before .fit-of .ensures .0) (c .if1 .taken)
 
 wide-requires : tie.Need-wide-requires
 wide-requires c κs = search needs
@@ -17,23 +17,12 @@ wide-requires c κs = search needs
 wide-requires-2 : tie.Need-wide-requires-2
 wide-requires-2 c κs = search needs
 
-load-of-requires : tie.Need-load-of-requires
-load-of-requires c κs = search needs
-
 add-result : tie.Need-add-result
 add-result c = search needs
 
 returns-2 : tie.Need-returns-2
-returns-2 c = cut-over _ _ _ (c .before .before .before .before .is-late .ensures) (c .before .before .before .if1 .left) _ _ _ (c .before .before .wide .ensures .0) (c .before .wide2 .ensures .0) (c .load-of .ensures .0)
+returns-2 c = cut-over _ _ _ (c .before .before .before .before .fit-of .ensures .0) (c .before .before .before .if1 .left) _ _ (c .before .before .wide .ensures .0) (c .before .wide2 .ensures .0)
 
 pub is-cut-spec : {M : Type 1} → statement M
 is-cut-spec =
-    tie.close
-    (tie.spec
-    is-late-requires
-    returns
-    wide-requires
-    wide-requires-2
-    load-of-requires
-    add-result
-    returns-2)
+    tie.close (tie.spec fit-of-requires returns wide-requires wide-requires-2 add-result returns-2)

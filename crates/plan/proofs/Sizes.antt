@@ -1,0 +1,30 @@
+-- The size of a signed number fits its place, where it is negative and where it is not.
+-- Assumes nothing.
+use mathlib.Core.Path.{_≡_, refl, sym}
+use mathlib.Core.Bool.{Bool, true, false, true≢false}
+use Prim.Native.Nat.{ℕ, zero, suc, _+_, _<_, _^_}
+use native.Mathlib.Omega.{arith}
+use lib.Dec.{T}
+use lib.IntN.{ℤ, pos, negsuc, natAbs, _-ℤ_}
+use lib.Signed.{ltZ, nonNeg}
+use borrow.Author.Tests.{ltb-true}
+use mir.Syntax.{w32, w64}
+use mir.Val.{Fits, SFits}
+
+pub size-pos : (z : ℤ) → SFits w32 z → ltZ z (pos 0) ≡ false → T (nonNeg z) × Fits w64 (natAbs z)
+size-pos (pos n) f e = (tt, record { fits = omega (arith, f .sfits) })
+size-pos (negsuc n) f e = absurd (true≢false e)
+
+pub record Negated (z : ℤ) : Type 0 where
+  pub wide : SFits w64 z
+  pub fits : SFits w64 (pos 0 -ℤ z)
+  pub size : T (nonNeg (pos 0 -ℤ z)) × Fits w64 (natAbs (pos 0 -ℤ z))
+
+pub size-neg : (z : ℤ) → SFits w32 z → ltZ z (pos 0) ≡ true → Negated z
+size-neg (pos n) f e = absurd (omega (arith, ltb-true n 0 e))
+size-neg (negsuc n) f e =
+    record {
+      wide = record { sfits = omega (arith, f .sfits) };
+      fits = record { sfits = omega (arith, f .sfits) };
+      size = (tt, record { fits = omega (arith, f .sfits) });
+    }
