@@ -14,13 +14,13 @@ use Rattle.base.proofs.Cases.{cond-cases}
 use Rattle.base.proofs.Arrays.{upTo-take}
 use Rattle.base.proofs.Stores.{stored-is}
 use Rattle.schedule.specs.declared.Recorder.{Recorder}
-use Rattle.schedule.specs.declared.search.Found.{Found}
+use Rattle.visit.specs.declared.Found.{Found}
 use Rattle.schedule.specs.Quantities.{jobs, Valid}
 use Rattle.schedule.specs.Listing.{FirstLeast}
 use Rattle.schedule.specs.Visiting.{vertices, planEnergy}
-use Rattle.schedule.specs.Steps.{searched, answerOf, copyStart, writtenOf}
-use Rattle.schedule.specs.Steps as Steps
-use Rattle.schedule.proofs.Agreement.{searched-count, searched-none, searched-best}
+use Rattle.visit.specs.Steps.{searched, answerOf, copyStart, writtenOf}
+use Rattle.visit.specs.Steps as Steps
+use Rattle.visit.proofs.Agreement.{searched-count, searched-none, searched-best}
 use Rattle.schedule.proofs.Outcome.{visited-first, visited-none}
 use Rattle.request.proofs.Accepted.{accepted-valid}
 use Rattle.planner.specs.declared.Answer.{Answer}

@@ -89,13 +89,13 @@ pub fn rows(file: &[u8], starts: &[u16], out: &mut [u8]) -> Answer
     if out.len() < recorder.devices.count * h {
         return refusal(15);
     }
-    let verdict = judge(recorder, starts);
-    if verdict.number != 0 {
-        return refusal_at(verdict.number, verdict.job);
+    let judged = judge(recorder, starts);
+    if judged.number != 0 {
+        return refusal_at(judged.number, judged.job);
     }
     write_rows(recorder, starts, out);
-    let energy = plan_energy(recorder, starts);
-    success(recorder.horizon, energy, 0)
+    let total = plan_energy(recorder, starts);
+    success(recorder.horizon, total, 0)
 }
 
 // Writes the start times of the first of the least-energy schedules that meet all deadlines, if the budget covers the vertices of the search.
@@ -107,7 +107,7 @@ pub fn search(file: &[u8], budget: u32, starts: &mut [u16]) -> Answer
         return refusal(request.number);
     }
     let recorder = request.recorder;
-    let found = schedule::search::search(recorder, budget, starts);
+    let found = visit::search(recorder, budget, starts);
     if found.number != 0 {
         return refusal_after(found.number, found.count);
     }

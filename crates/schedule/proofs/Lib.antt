@@ -6,12 +6,5 @@ pub mod Floors
 pub mod Outcome
 pub mod Judgements
 pub mod Signs
-pub mod Charging
-pub mod Entry
-pub mod Budget
-pub mod Order
-pub mod Ending
 pub mod Usage
 pub mod Laying
-pub mod Flags
-pub mod Agreement

@@ -4,7 +4,6 @@ use device::Device;
 mod judging; // judging.rt: the first fault of start times
 mod margins; // margins.rt: the margins of start times
 mod rows; // rows.rt: the rows of a plan and its energy
-pub mod search; // search.rt: the search for the cheapest schedule
 mod using; // using.rt: the uses of one device, in running order
 
 pub use crate::judging::Verdict;

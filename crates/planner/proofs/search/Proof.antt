@@ -13,7 +13,7 @@ use Rattle.planner.proofs.answers.refusal.Reads as refusal-reads
 use Rattle.planner.proofs.answers.refusal_after.Reads as refusal-after-reads
 use Rattle.planner.proofs.answers.success.Reads as success-reads
 use Rattle.request.proofs.read.Reads as read-reads
-use Rattle.schedule.proofs.search.search.Reads as search-reads
+use Rattle.visit.proofs.search.Reads as search-reads
 
 -- The file is read as the recorder.
 recorded : (c : tie.Else1) → Reads (c .before .before .before .before .before .args .file .now) (c .before .before .read .result .recorder)
@@ -45,7 +45,7 @@ same-length c = search needs
 
 -- src/lib.rt:112:9
 returns-2 : tie.Need-returns-2
-returns-2 c = rw (c .refusal-after .ensures) (search-refused _ _ _ (recorded (c .before .before .before .before .before .before .before .before)) _ _ (c .before .before .before .before .before .search .ensures .0) (c .before .before .before .before .before .search .ensures .1) (c .before .if2 .taken))
+returns-2 c = rw (c .refusal-after .ensures) (search-refused _ _ _ (recorded (c .before .before .before .before .before .before .before .before)) (c .before .before .before .before .before .search .result) (c .before .before .before .before .before .search .last .1 .1 .0) (c .before .before .before .before .before .search .ensures .0) (c .before .before .before .before .before .search .ensures .1) (c .before .if2 .taken))
 
 -- src/lib.rt:114:5
 success-requires : tie.Need-success-requires
@@ -57,7 +57,7 @@ same-length-2 c = search needs
 
 -- src/lib.rt:102:1
 returns-3 : tie.Need-returns-3
-returns-3 c = rw (c .success .ensures) (search-found _ _ _ (recorded (c .before .before .before .before .before .before .before .before)) _ _ (c .before .before .before .before .before .search .ensures .0) (c .before .before .before .before .before .search .ensures .1) (c .before .if2 .left))
+returns-3 c = rw (c .success .ensures) (search-found _ _ _ (recorded (c .before .before .before .before .before .before .before .before)) (c .before .before .before .before .before .search .result) (c .before .before .before .before .before .search .last .1 .1 .0) (c .before .before .before .before .before .search .ensures .0) (c .before .before .before .before .before .search .ensures .1) (c .before .if2 .left))
 
 pub search-spec : {M : Type 1} → statement M
 search-spec =

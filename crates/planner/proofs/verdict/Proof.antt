@@ -1,4 +1,4 @@
-use mathlib.Core.Path.{_≡_, refl, sym, ap, _∙_}
+use mathlib.Core.Path.{_≡_, sym, subst}
 use mathlib.Core.List.{List}
 use Prim.Native.Nat.{ℕ, _≤_, _<_, _*_}
 use native.Mathlib.Nat.{mul-le-mul}
@@ -72,7 +72,10 @@ success-requires c κs = search needs
 
 -- src/lib.rt:56:1
 returns-4 : tie.Need-returns-4
-returns-4 c = rw (c .success .ensures, c .before .plan-energy .ensures) (P.Judged.feasible (recorded (c .before .before .before .before .before .before .before .before)) (judgement-feasible _ _ (c .before .before .before .before .judge .ensures) (c .before .before .if3 .left)) (plan-costs _ (within (c .before .before .before .before .before .before .before .before)) _))
+returns-4 c =
+    let valid = within (c .before .before .before .before .before .before .before .before) in
+    let cost = subst (Costs (c .before .before .before .before .before .before .before .before .before .before .read .result .recorder) (c .before .before .before .before .before .before .before .before .before .before .before .before .before .args .starts .now)) (sym (c .before .plan-energy .ensures)) (plan-costs _ valid _) in
+    rw (c .success .ensures) (P.Judged.feasible (recorded (c .before .before .before .before .before .before .before .before)) (judgement-feasible _ _ (c .before .before .before .before .judge .ensures) (c .before .before .if3 .left)) cost)
 
 pub verdict-spec : {M : Type 1} → statement M
 verdict-spec =

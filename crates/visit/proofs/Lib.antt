@@ -1,0 +1,7 @@
+pub mod Flags
+pub mod Charging
+pub mod Entry
+pub mod Budget
+pub mod Order
+pub mod Ending
+pub mod Agreement

@@ -1,0 +1,278 @@
+-- The steps of the code's search (src/search.rt), over its own structs and without a budget. These are the code's steps, and nobody need believe them:
+-- proofs/Agreement shows that they are Visiting's.
+-- Assumes nothing.
+use mathlib.Core.Path.{_≡_}
+use mathlib.Core.Bool.{Bool, true, false, not, cond}
+use mathlib.Core.List.{List}
+use Prim.Native.Nat.{ℕ, zero, suc, _+_, _-_, _*_, _≤_, _<_, max}
+use lib.Dec.{leb, ltb, eqb}
+use lib.ListN.{getD, set, replicate, length}
+use Rattle.base.specs.Loops.{each, under}
+use Rattle.device.specs.Row.{energy, gapRow}
+use Rattle.device.specs.declared.Device.{Device}
+use Rattle.schedule.specs.declared.Job.{Job}
+use Rattle.schedule.specs.declared.Jobs.{Jobs}
+use Rattle.schedule.specs.declared.Devices.{Devices}
+use Rattle.schedule.specs.declared.Recorder.{Recorder}
+use Rattle.visit.specs.declared.Vertex.{Vertex}
+use Rattle.visit.specs.declared.Fit.{Fit}
+use Rattle.visit.specs.declared.Best.{Best}
+use Rattle.visit.specs.declared.Tally.{Tally}
+use Rattle.visit.specs.declared.Run.{Run}
+use Rattle.visit.specs.declared.Entered.{Entered}
+use Rattle.visit.specs.declared.Found.{Found}
+use Rattle.schedule.specs.Quantities.{noJob, noDevice, job, device, jobs, release, deadline, run}
+
+-- ---- the sums over the unplaced jobs
+
+abbrev pub flagged : List Bool → ℕ → Bool
+flagged m j = getD m j false
+
+abbrev pub jobIn : Jobs → ℕ → Job
+jobIn J j = getD (J .list) j noJob
+
+abbrev pub deviceIn : Devices → ℕ → Device
+deviceIn D k = getD (D .list) k noDevice
+
+-- A job with release a, deadline d and running time c, placed or not, at the time t: is it late, or was one before it?
+unfoldable pub lateStep : Bool → ℕ → ℕ → ℕ → ℕ → Bool → Bool
+lateStep p t a d c b = cond p b (cond (ltb d (max t a + c)) true b)
+
+unfoldable pub loadStep : Bool → ℕ → ℕ → ℕ
+loadStep p c x = cond p x (x + c)
+
+-- The same sum over the jobs that use a device.
+unfoldable pub aheadStep : Bool → Bool → ℕ → ℕ → ℕ
+aheadStep p u c x = cond p x (cond u (x + c) x)
+
+abbrev pub isLate : Jobs → ℕ → List Bool → ℕ → Bool → Bool
+isLate J t m j = lateStep (flagged m j) t (jobIn J j .release) (jobIn J j .deadline) (jobIn J j .run)
+
+unfoldable pub late : Jobs → ℕ → List Bool → Bool
+late J t m = each (isLate J t m) (J .count) false
+
+abbrev pub addLoad : Jobs → List Bool → ℕ → ℕ → ℕ
+addLoad J m j = loadStep (flagged m j) (jobIn J j .run)
+
+unfoldable pub load : Jobs → List Bool → ℕ
+load J m = each (addLoad J m) (J .count) 0
+
+abbrev pub fitOf : Jobs → ℕ → List Bool → Fit
+fitOf J t m = record { late = late J t m; load = load J m }
+
+abbrev pub addAhead : Jobs → List Bool → ℕ → ℕ → ℕ → ℕ
+addAhead J m k j = aheadStep (flagged m j) (getD (jobIn J j .uses) k false) (jobIn J j .run)
+
+unfoldable pub ahead : Jobs → List Bool → ℕ → ℕ
+ahead J m k = each (addAhead J m k) (J .count) 0
+
+unfoldable pub cutA : Recorder → Vertex → Bool
+cutA R v = cond (late (R .jobs) (v .time) (v .placed)) true (ltb (R .horizon) (v .time + load (R .jobs) (v .placed)))
+
+-- ---- the last placed job, charged to its devices
+
+abbrev pub lastStart : Vertex → ℕ
+lastStart v = getD (v .starts) (v .last) 0
+
+abbrev pub endAt : Vertex → ℕ → ℕ
+endAt v k = getD (v .ends) k 0
+
+abbrev pub paidAt : Vertex → ℕ → ℕ
+paidAt v k = getD (v .paid) k 0
+
+-- What a device costs over a gap of g ticks.
+abbrev pub gapCost : Device → ℕ → ℕ
+gapCost d g = energy d (gapRow (d .t) g)
+
+-- A job that starts at s and runs for c ticks, and uses a device d or not, whose last use ended at e and which had cost b by then.
+unfoldable pub paidStep : Bool → Device → ℕ → ℕ → ℕ → ℕ → ℕ
+paidStep u d b e s c = cond u (b + (gapCost d (s - e) + d .pw * c)) b
+
+unfoldable pub endStep : Bool → ℕ → ℕ → ℕ → ℕ
+endStep u e s c = cond u (s + c) e
+
+unfoldable pub payEnd : Vertex → Job → ℕ → ℕ → List ℕ → List ℕ
+payEnd v j s k l = set l k (endStep (getD (j .uses) k false) (endAt v k) s (j .run))
+
+unfoldable pub payOne : Devices → Vertex → Job → ℕ → ℕ → List ℕ → List ℕ
+payOne D v j s k l = set l k (paidStep (getD (j .uses) k false) (deviceIn D k) (paidAt v k) (endAt v k) s (j .run))
+
+abbrev pub withPaid : Vertex → List ℕ → List ℕ → Vertex
+withPaid v e p = record { time = v .time; left = v .left; placed = v .placed; starts = v .starts; last = v .last; ends = e; paid = p }
+
+-- At the root there is nothing to charge.
+unfoldable pub charged : Recorder → Vertex → Vertex
+charged R v =
+    let j = job R (v .last) in
+    let s = lastStart v in
+    cond (eqb (v .left) (jobs R)) v
+    (withPaid v (each (payEnd v j s) (R .devices .count) (v .ends)) (each (payOne (R .devices) v j s) (R .devices .count) (v .paid)))
+
+-- ---- the energy of a complete vertex, and the floor of another
+
+-- A device that had cost b by the end e of its last use, up to the horizon h.
+unfoldable pub closeStep : Device → ℕ → ℕ → ℕ → ℕ → ℕ
+closeStep d h b e x = x + (b + gapCost d (h - e))
+
+abbrev pub addClose : Devices → ℕ → Vertex → ℕ → ℕ → ℕ
+addClose D h v k = closeStep (deviceIn D k) h (paidAt v k) (endAt v k)
+
+unfoldable pub closed : Recorder → Vertex → ℕ
+closed R v = each (addClose (R .devices) (R .horizon) v) (R .devices .count) 0
+
+-- The same device, where a ticks of use are still to come.
+unfoldable pub floorStep : Device → ℕ → ℕ → ℕ → ℕ → ℕ → ℕ
+floorStep d h b e a x = x + (b + (d .pw * a + d .ps * (h - e - a)))
+
+abbrev pub addFloor : Devices → Jobs → ℕ → Vertex → ℕ → ℕ → ℕ
+addFloor D J h v k = floorStep (deviceIn D k) h (paidAt v k) (endAt v k) (ahead J (v .placed) k)
+
+unfoldable pub floor : Recorder → Vertex → ℕ
+floor R v = each (addFloor (R .devices) (R .jobs) (R .horizon) v) (R .devices .count) 0
+
+-- ---- entering a vertex
+
+unfoldable pub improves : Best → ℕ → Bool
+improves b e = cond (b .found) (ltb e (b .energy)) true
+
+unfoldable pub offer : Best → ℕ → List ℕ → Best
+offer b e s = cond (improves b e) (record { found = true; energy = e; starts = s }) b
+
+-- Where f is the floor of a vertex.
+unfoldable pub cutB : Best → ℕ → Bool
+cutB b f = cond (b .found) (leb (b .energy) f) false
+
+abbrev pub complete : Vertex → Bool
+complete v = eqb (v .left) 0
+
+-- The tally t with one vertex more.
+abbrev pub counting : Tally → Tally
+counting t = record { count = t .count + 1; best = t .best }
+
+-- Whether v's children are examined, at a tally t.
+unfoldable pub opens : Recorder → Vertex → Tally → Bool
+opens R v t = cond (cutA R v) false (cond (complete v) false (not (cutB (t .best) (floor R (charged R v)))))
+
+-- The tally t with v counted, and v the best where it is complete and better.
+unfoldable pub noted : Recorder → Vertex → Tally → Tally
+noted R v t =
+    record {
+      count = t .count + 1;
+      best = cond (cutA R v) (t .best) (cond (complete v) (offer (t .best) (closed R (charged R v)) (v .starts)) (t .best));
+    }
+
+unfoldable pub enteredAt : Recorder → Vertex → Tally → Entered
+enteredAt R v t = record { further = opens R v t; tally = noted R v t; vertex = cond (cutA R v) v (charged R v) }
+
+-- ---- the visit
+
+abbrev pub earliest : Recorder → Vertex → ℕ → ℕ
+earliest R v j = max (v .time) (release R j)
+
+-- How many starts job j has after v.
+abbrev pub span : Recorder → Vertex → ℕ → ℕ
+span R v j = (deadline R j + 1) - (run R j + earliest R v j)
+
+-- v with job j, of running time c, at s.
+abbrev pub placeAt : Vertex → ℕ → ℕ → ℕ → Vertex
+placeAt v j s c =
+    record {
+      time = s + c;
+      left = v .left - 1;
+      placed = set (v .placed) j true;
+      starts = set (v .starts) j s;
+      last = j;
+      ends = v .ends;
+      paid = v .paid;
+    }
+
+abbrev pub child : Recorder → Vertex → ℕ → ℕ → Vertex
+child R v j k = placeAt v j (earliest R v j + k) (run R j)
+
+-- The child of v that places job j at its k-th start, by g.
+unfoldable pub tryStart : Recorder → (Vertex → Tally → Tally) → Vertex → ℕ → ℕ → Tally → Tally
+tryStart R g v j k t = g (child R v j k) t
+
+-- The children of v that place job j, in turn.
+unfoldable pub tryJob : Recorder → (Vertex → Tally → Tally) → Vertex → ℕ → Tally → Tally
+tryJob R g v j t = under (not (flagged (v .placed) j)) (each (tryStart R g v j) (span R v j)) t
+
+-- The vertex v and all below it, at most f jobs deep.
+unfoldable pub visitOf : Recorder → ℕ → Vertex → Tally → Tally
+visitOf R zero v t = noted R v t
+visitOf R (suc f) v t = under (opens R v t) (each (tryJob R (visitOf R f) (charged R v)) (jobs R)) (noted R v t)
+
+-- ---- the budget
+
+abbrev pub noBest : Best
+noBest = record { found = false; energy = 0; starts = replicate 16 0 }
+
+abbrev pub bare : ℕ → Tally
+bare c = record { count = c; best = noBest }
+
+abbrev pub haltedAt : ℕ → Run
+haltedAt b = record { stopped = true; tally = bare b }
+
+-- What a budget of b makes of a tally: the tally, or the word that the budget is too small.
+unfoldable pub capped : ℕ → Tally → Run
+capped b t = cond (leb (t .count) b) (record { stopped = false; tally = t }) (haltedAt b)
+
+-- ---- the answer
+
+abbrev pub root : Recorder → Vertex
+root R =
+    record {
+      time = 0;
+      left = jobs R;
+      placed = replicate 16 false;
+      starts = replicate 16 0;
+      last = 0;
+      ends = replicate 8 0;
+      paid = replicate 8 0;
+    }
+
+-- The whole visit.
+unfoldable pub searched : Recorder → Tally
+searched R = visitOf R (jobs R) (root R) (bare 0)
+
+abbrev pub refusal : ℕ → ℕ → Found
+refusal k c = record { number = k; energy = 0; count = c }
+
+abbrev pub success : Tally → Found
+success t = record { number = 0; energy = t .best .energy; count = t .count }
+
+-- 15 where the list is too short, then 20, then 19.
+unfoldable pub answerOf : Recorder → ℕ → ℕ → Found
+answerOf R b len =
+    cond (ltb len (jobs R)) (refusal 15 0)
+    (cond (ltb b (searched R .count)) (refusal 20 b)
+    (cond (searched R .best .found) (success (searched R)) (refusal 19 (searched R .count))))
+
+unfoldable pub copyStart : List ℕ → ℕ → List ℕ → List ℕ
+copyStart s j l = set l j (getD s j 0)
+
+-- The lent list after the search: the starts by job number on success, and else as it was.
+unfoldable pub writtenOf : Recorder → ℕ → List ℕ → List ℕ
+writtenOf R b l = under (eqb (answerOf R b (length l) .number) 0) (each (copyStart (searched R .best .starts)) (jobs R)) l
+
+-- ---- what every vertex that is reached has, so that no sum of the code wraps
+
+-- What device k has cost so far, with its powers: at most working all the time.
+pub record Settled (R : Recorder) (v : Vertex) : Type 0 where
+  pub within : v .time ≤ R .horizon
+  pub ended : (k : ℕ) → endAt v k ≤ v .time
+  pub cheap : (k : ℕ) → k < R .devices .count → paidAt v k ≤ device R k .pw * endAt v k
+  pub sixteen : length (v .starts) ≡ 16
+  pub eight : length (v .ends) ≡ 8
+  pub eight-paid : length (v .paid) ≡ 8
+
+-- The same before the last placed job is charged.
+pub record Kept (R : Recorder) (v : Vertex) : Type 0 where
+  pub within : v .time ≤ R .horizon
+  pub ended : (k : ℕ) → endAt v k ≤ lastStart v
+  pub cheap : (k : ℕ) → k < R .devices .count → paidAt v k ≤ device R k .pw * endAt v k
+  pub started : lastStart v ≤ v .time
+  pub placed : (v .left ≡ jobs R → ⊥) → (v .last < jobs R) × (lastStart v + run R (v .last) ≡ v .time)
+  pub sixteen : length (v .starts) ≡ 16
+  pub eight : length (v .ends) ≡ 8
+  pub eight-paid : length (v .paid) ≡ 8

@@ -1,0 +1,21 @@
+//! Says where the proved search is, if it is asked for.
+
+use std::env;
+use std::path::Path;
+
+fn main() {
+    println!("cargo:rerun-if-changed=build.rs");
+    if env::var_os("CARGO_FEATURE_PROVED").is_none() {
+        return;
+    }
+    let here = env::var("CARGO_MANIFEST_DIR").expect("cargo names the folder of the manifest");
+    let folder = Path::new(&here).join("../../target/staticlib");
+    let library = folder.join("libbench.a");
+    assert!(
+        library.exists(),
+        "there is no target/staticlib/libbench.a: build it first by `rt staticlib bench`"
+    );
+    println!("cargo:rerun-if-changed={}", library.display());
+    println!("cargo:rustc-link-search=native={}", folder.display());
+    println!("cargo:rustc-link-lib=static=bench");
+}

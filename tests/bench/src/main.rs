@@ -1,0 +1,121 @@
+//! Plans requests of some million vertices with a plain search in Rust and, if it is linked, with the
+//! proved search, and prints vertices per second of each and their ratio.
+//!
+//! `cargo run --release` runs the plain search alone, `--features proved` both.
+
+#[cfg(feature = "proved")]
+mod proved;
+mod requests;
+
+use std::process::ExitCode;
+use std::time::{Duration, Instant};
+
+/// Rounds per request. The best of them counts: whatever else the machine does only slows down.
+const ROUNDS: usize = 3;
+
+/// Every request is planned to its end.
+const BUDGET: u32 = u32::MAX;
+
+#[derive(Clone, Copy, Debug, PartialEq, Eq)]
+pub struct Outcome {
+    number: u8,
+    energy: u32,
+    count: u32,
+}
+
+fn plain(file: &[u8], budget: u32) -> Outcome {
+    let found = outside::plain::search(file, budget);
+    Outcome {
+        number: found.number,
+        energy: found.energy,
+        count: found.count,
+    }
+}
+
+/// A search and the best time it has had.
+struct Racer {
+    name: &'static str,
+    search: fn(&[u8], u32) -> Outcome,
+    total: Duration,
+}
+
+fn racers() -> Vec<Racer> {
+    let racer = |name, search| Racer {
+        name,
+        search,
+        total: Duration::ZERO,
+    };
+    vec![
+        racer("plain", plain),
+        #[cfg(feature = "proved")]
+        racer("proved", proved::search),
+    ]
+}
+
+/// The racers take turns, so that a slow spell of the machine meets them all.
+fn race(racers: &[Racer], file: &[u8]) -> Result<(Outcome, Vec<Duration>), String> {
+    let mut best = vec![Duration::MAX; racers.len()];
+    let mut agreed: Option<Outcome> = None;
+    for _ in 0..ROUNDS {
+        for (racer, best) in racers.iter().zip(&mut best) {
+            let begin = Instant::now();
+            let outcome = (racer.search)(file, BUDGET);
+            *best = begin.elapsed().min(*best);
+            let agreed = *agreed.get_or_insert(outcome);
+            if outcome != agreed {
+                return Err(format!("{}: {outcome:?}, not {agreed:?}", racer.name));
+            }
+        }
+    }
+    agreed
+        .map(|outcome| (outcome, best))
+        .ok_or("no racer".into())
+}
+
+fn millions(vertices: u64, time: Duration) -> f64 {
+    vertices as f64 / time.as_secs_f64() / 1e6
+}
+
+/// One line: vertices, then millions of them per second for each racer, then the ratio of the last
+/// to the first.
+fn line(name: &str, vertices: u64, times: &[Duration], racers: &[Racer]) -> String {
+    let mut line = format!("{name:30} {vertices:>11} vertices");
+    for (racer, time) in racers.iter().zip(times) {
+        let speed = millions(vertices, *time);
+        line += &format!("  {} {speed:6.1} M/s", racer.name);
+    }
+    if let [plain, proved] = times {
+        let ratio = plain.as_secs_f64() / proved.as_secs_f64();
+        line += &format!("  proved/plain {ratio:.2}");
+    }
+    line
+}
+
+fn bench() -> Result<(), String> {
+    let mut racers = racers();
+    let mut vertices = 0;
+    for request in requests::all() {
+        let (outcome, times) = race(&racers, &request.file)?;
+        println!(
+            "{}",
+            line(request.name, outcome.count.into(), &times, &racers)
+        );
+        vertices += u64::from(outcome.count);
+        for (racer, time) in racers.iter_mut().zip(times) {
+            racer.total += time;
+        }
+    }
+    let totals: Vec<Duration> = racers.iter().map(|racer| racer.total).collect();
+    println!("{}", line("all", vertices, &totals, &racers));
+    Ok(())
+}
+
+fn main() -> ExitCode {
+    match bench() {
+        Ok(()) => ExitCode::SUCCESS,
+        Err(reason) => {
+            println!("bench: FAILED: {reason}");
+            ExitCode::FAILURE
+        }
+    }
+}

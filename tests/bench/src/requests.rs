@@ -1,0 +1,117 @@
+//! The requests that are raced: each some million vertices, each heavy in another place.
+
+use outside::tables::{device_a, job, task, DeviceRecord, JobRecord, Tables};
+
+pub struct Named {
+    pub name: &'static str,
+    pub file: Vec<u8>,
+}
+
+fn device(transition: u8, working: u16, sleeping: u16, moving: u16) -> DeviceRecord {
+    DeviceRecord {
+        transition,
+        working,
+        sleeping,
+        moving,
+    }
+}
+
+/// Hardly any sums: the loop over starts.
+fn many_starts() -> Tables {
+    Tables {
+        horizon: 600,
+        devices: vec![device(3, 9, 1, 6), device(5, 7, 2, 4)],
+        tasks: Vec::new(),
+        jobs: (0..3)
+            .map(|n| job(0, 600, 2 + 3 * n, 1 << (n % 2)))
+            .collect(),
+    }
+}
+
+/// In the manner of document 001's Table 6: two tasks with a device each.
+fn two_tasks(second: u16, running: u16) -> Tables {
+    Tables {
+        devices: vec![device_a(); 2],
+        tasks: vec![task(5, 1, 0b01), task(second, running, 0b10)],
+        ..Tables::default()
+    }
+}
+
+/// The longest sums over unplaced jobs, in windows that slide along.
+fn sixteen_jobs() -> Tables {
+    let sliding = |n: u16| -> JobRecord {
+        let window = 4 - n % 2;
+        let set = [0b01, 0b10, 0b11, 0b00][usize::from(n % 4)];
+        job(3 * n, 3 * n + window, 1 + n % 2, set)
+    };
+    let jobs: Vec<JobRecord> = (0..16).map(sliding).collect();
+    Tables {
+        horizon: 48,
+        devices: vec![device_a(), device(2, 9, 1, 4)],
+        tasks: Vec::new(),
+        jobs,
+    }
+}
+
+/// The most sums over devices.
+fn eight_devices() -> Tables {
+    let sets = [0x81, 0x42, 0x24, 0x18, 0x11, 0x88];
+    Tables {
+        horizon: 16,
+        devices: (0..8u8)
+            .map(|k| device(1 + k % 2, 9 + u16::from(k), 1, 4))
+            .collect(),
+        tasks: Vec::new(),
+        jobs: sets.map(|set| job(0, 16, 1, set)).to_vec(),
+    }
+}
+
+/// Ten jobs in any order: floors that hardly ever cut.
+fn many_orders() -> Tables {
+    Tables {
+        horizon: 12,
+        devices: vec![device_a(); 2],
+        tasks: Vec::new(),
+        jobs: (0..10).map(|n| job(0, 12, 1, 1 + n % 2)).collect(),
+    }
+}
+
+pub fn all() -> Vec<Named> {
+    let named = |name, tables: Tables| Named {
+        name,
+        file: tables.bytes(),
+    };
+    vec![
+        named("3 jobs, 2 devices, 600 ticks", many_starts()),
+        named("12 jobs of tasks 5 and 7", two_tasks(7, 2)),
+        named("13 jobs of tasks 5 and 8", two_tasks(8, 3)),
+        named("16 jobs, 2 devices", sixteen_jobs()),
+        named("6 jobs, 8 devices", eight_devices()),
+        named("10 jobs, 2 devices, any order", many_orders()),
+    ]
+}
+
+#[cfg(test)]
+mod tests {
+    use super::*;
+    use outside::plain::search;
+    use outside::request::read;
+    use outside::visit::visit;
+
+    /// The race is about these vertices: the plain search must count and find what the oracle's
+    /// visit does, on the very requests that are raced.
+    #[test]
+    fn the_plain_search_agrees_with_the_visit_on_every_request() {
+        for request in all() {
+            let found = search(&request.file, u32::MAX);
+            let visited = visit(&read(&request.file).unwrap(), u64::MAX);
+            assert_eq!(u64::from(found.count), visited.count, "{}", request.name);
+            assert_eq!(Some(found.energy.into()), visited.best, "{}", request.name);
+            assert!(
+                (2_000_000..=20_000_000).contains(&found.count),
+                "{}",
+                request.name
+            );
+        }
+    }
+}

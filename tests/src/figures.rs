@@ -1,0 +1,190 @@
+//! The oracle itself, held to document 01's figures P1 to P12 and to a few worked out by hand or
+//! taken from documents 001 and 002.
+
+use crate::expect::{search, text, Outcome, BUDGET};
+use crate::listing::{energy, uses};
+use crate::request::{read, Request};
+use crate::rows::{least_row, Energies};
+use crate::tables::{device_a, job, task, JobRecord, Tables, TaskRecord};
+
+fn listed(horizon: u16, devices: usize, jobs: Vec<JobRecord>) -> Vec<u8> {
+    Tables {
+        horizon,
+        devices: vec![device_a(); devices],
+        tasks: Vec::new(),
+        jobs,
+    }
+    .bytes()
+}
+
+fn periodic(devices: usize, tasks: Vec<TaskRecord>) -> Vec<u8> {
+    Tables {
+        horizon: 0,
+        devices: vec![device_a(); devices],
+        tasks,
+        jobs: Vec::new(),
+    }
+    .bytes()
+}
+
+fn planned(file: &[u8]) -> (Outcome, Vec<u32>, u64) {
+    let outcome = search(file, BUDGET);
+    let (_, schedule) = outcome.plan.as_ref().expect("a plan");
+    let (starts, energy) = (schedule.starts.clone(), schedule.energy);
+    (outcome, starts, energy)
+}
+
+fn cost(request: &Request, starts: &[u32]) -> u64 {
+    energy(request, starts, &mut Energies::new(&request.devices))
+}
+
+/// The row of device 0 and the energy of all devices for given starts.
+fn row(file: &[u8], starts: &[u32]) -> (String, u64) {
+    let request = read(file).unwrap();
+    let uses = uses(&request, starts, 0);
+    let row = least_row(&request.devices[0], &uses, request.horizon);
+    (row, cost(&request, starts))
+}
+
+fn p3() -> Vec<u8> {
+    listed(5, 1, vec![job(0, 5, 2, 1)])
+}
+
+fn p9() -> Vec<u8> {
+    listed(
+        6,
+        1,
+        vec![job(0, 6, 1, 1), job(0, 6, 1, 0), job(0, 6, 1, 1)],
+    )
+}
+
+#[test]
+fn p1_the_shortest_files() {
+    assert_eq!(read(&[]), Err(1));
+    let (outcome, starts, energy) = planned(&[0, 1, 0, 0, 0]);
+    assert_eq!((outcome.count, starts, energy), (1, vec![], 0));
+    assert_eq!(read(&[0, 1, 0, 0, 0, 0]), Err(2));
+    assert_eq!(read(&[0; 5]), Err(10));
+}
+
+#[test]
+fn p2_a_device_alone() {
+    let alone = |horizon| row(&listed(horizon, 1, vec![]), &[]);
+    assert_eq!(alone(1), ("W".to_string(), 5));
+    assert_eq!(alone(2), ("DU".to_string(), 6));
+    assert_eq!(alone(5), ("DSSSU".to_string(), 9));
+}
+
+#[test]
+fn p3_one_job_and_the_printed_block() {
+    let file = [
+        0x00, 0x05, 0x01, 0x01, 0x00, 0x05, 0x00, 0x01, 0x00, 0x03, 0x00, 0x01, 0x00, 0x00, 0x00,
+        0x05, 0x00, 0x02, 0x01,
+    ];
+    assert_eq!(p3(), file);
+    let request = read(&file).unwrap();
+    let costs: Vec<u64> = (0..4).map(|start| cost(&request, &[start])).collect();
+    assert_eq!(costs, [17, 21, 21, 17]);
+    let printed = "energy 17\nvertices 5\njob 0 start 0 margin 3\ndevice 0 WWDSU\n";
+    assert_eq!(text(&search(&file, BUDGET)), printed);
+}
+
+#[test]
+fn p4_a_budget_of_one_too_few() {
+    let outcome = search(&p3(), 4);
+    assert_eq!((outcome.number, outcome.count), (20, 4));
+    assert_eq!(search(&p3(), 5).number, 0);
+}
+
+#[test]
+fn p5_and_p6_no_schedule() {
+    let p5 = search(
+        &listed(4, 0, vec![job(0, 2, 2, 0), job(0, 2, 2, 0)]),
+        BUDGET,
+    );
+    assert_eq!((p5.number, p5.count), (19, 3));
+    let p6 = search(
+        &listed(2, 0, vec![job(0, 2, 2, 0), job(0, 2, 1, 0)]),
+        BUDGET,
+    );
+    assert_eq!((p6.number, p6.count), (19, 1));
+}
+
+#[test]
+fn p7_and_p8_a_gap_of_one_and_of_two() {
+    let p7 = listed(3, 1, vec![job(0, 1, 1, 1), job(2, 3, 1, 1)]);
+    assert_eq!(row(&p7, &[0, 2]), ("WWW".to_string(), 15));
+    let p8 = listed(4, 1, vec![job(0, 1, 1, 1), job(3, 4, 1, 1)]);
+    assert_eq!(row(&p8, &[0, 3]), ("WDUW".to_string(), 16));
+}
+
+#[test]
+fn p9_the_earliest_starts_are_not_the_best() {
+    let (outcome, starts, energy) = planned(&p9());
+    assert_eq!((starts, energy), (vec![0, 1, 5], 18));
+    // X2: the count of P9's visit.
+    assert_eq!(outcome.count, 95);
+    let request = read(&p9()).unwrap();
+    assert_eq!(cost(&request, &[0, 1, 2]), 22);
+    assert_eq!(cost(&request, &[0, 2, 1]), 18);
+}
+
+#[test]
+fn p10_unfolding() {
+    let request = read(&periodic(0, vec![task(4, 1, 0), task(6, 2, 0)])).unwrap();
+    let column =
+        |of: fn(&crate::request::Job) -> u32| -> Vec<u32> { request.jobs.iter().map(of).collect() };
+    assert_eq!(request.horizon, 12);
+    assert_eq!(column(|job| job.release), [0, 0, 4, 6, 8]);
+    assert_eq!(column(|job| job.deadline), [4, 6, 8, 12, 12]);
+    assert_eq!(column(|job| job.running), [1, 2, 1, 2, 1]);
+}
+
+#[test]
+fn p11_margins() {
+    let request = read(&p3()).unwrap();
+    let margins = [0, 3, 65_535].map(|start| request.jobs[0].margin(start));
+    assert_eq!(margins, [3, 0, -65_532]);
+}
+
+#[test]
+fn p12_periods_that_are_too_long_or_too_many() {
+    let long = periodic(0, vec![task(4095, 1, 0), task(4096, 1, 0)]);
+    assert_eq!(read(&long), Err(10));
+    let many = periodic(0, vec![task(64, 1, 0), task(4096, 1, 0)]);
+    assert_eq!(read(&many), Err(12));
+}
+
+#[test]
+fn x1_jobs_out_of_release_order() {
+    let jobs = vec![job(2, 5, 2, 0), job(4, 7, 2, 1), job(0, 2, 1, 1)];
+    let (outcome, starts, energy) = planned(&listed(7, 1, jobs));
+    assert_eq!((starts, energy, outcome.count), (vec![2, 5, 0], 23, 14));
+}
+
+/// The two tasks of document 001's Table 3, with device A each.
+#[test]
+fn x3_table_3_of_document_001() {
+    let file = periodic(2, vec![task(4, 1, 0b01), task(5, 3, 0b10)]);
+    let (outcome, _, energy) = planned(&file);
+    let (request, _) = outcome.plan.as_ref().unwrap();
+    assert_eq!((request.horizon, energy, outcome.count), (20, 136, 3_144));
+}
+
+/// The eight jobs of document 002's Table 2, with device A as k1 to k5. The horizon is 45: the paper
+/// states 1125 units for five devices that work throughout at 5.
+#[test]
+fn x4_table_2_of_document_002() {
+    let jobs = vec![
+        job(0, 5, 3, 0b00100),
+        job(2, 10, 7, 0b00010),
+        job(11, 20, 6, 0b10001),
+        job(20, 25, 4, 0b01000),
+        job(20, 30, 5, 0b10101),
+        job(30, 35, 3, 0),
+        job(31, 38, 4, 0b10011),
+        job(40, 45, 2, 0),
+    ];
+    let (outcome, _, energy) = planned(&listed(45, 5, jobs));
+    assert_eq!((energy, outcome.count), (497, 660));
+}

@@ -1,0 +1,299 @@
+//! The oracle's own reader of a request file: bytes to a request, or the number that refuses them.
+//!
+//! Document 01 reads the file from left to right and lets the first fault decide. The reader is
+//! therefore a cursor that only moves forward, and every judgement stands at the place in the file
+//! where the document makes it.
+
+/// One of document 01's refusal numbers.
+pub type Refusal = u8;
+
+pub const MOST_DEVICES: u8 = 8;
+pub const MOST_TASKS: u8 = 8;
+pub const MOST_JOBS: usize = 16;
+pub const LONGEST_HORIZON: u32 = 4096;
+
+#[derive(Clone, Debug, PartialEq, Eq)]
+pub struct Device {
+    pub transition: u32,
+    pub working: u32,
+    pub sleeping: u32,
+    pub moving: u32,
+}
+
+/// A task is known only to the reader: what is planned are the jobs that it unfolds into.
+struct Task {
+    period: u32,
+    running: u32,
+    devices: u8,
+}
+
+#[derive(Clone, Debug, PartialEq, Eq)]
+pub struct Job {
+    pub release: u32,
+    pub deadline: u32,
+    pub running: u32,
+    pub devices: u8,
+}
+
+impl Job {
+    pub fn uses(&self, device: usize) -> bool {
+        self.devices >> device & 1 == 1
+    }
+
+    /// The last tick at which the job can start and still be in time.
+    pub fn latest(&self) -> u32 {
+        self.deadline - self.running
+    }
+
+    /// Spare ticks for a start: negative is late. Any 16-bit start may be asked for.
+    pub fn margin(&self, start: u32) -> i64 {
+        i64::from(self.deadline) - (i64::from(start) + i64::from(self.running))
+    }
+}
+
+#[derive(Clone, Debug, PartialEq, Eq)]
+pub struct Request {
+    pub horizon: u32,
+    pub devices: Vec<Device>,
+    pub jobs: Vec<Job>,
+}
+
+/// What is left of the file.
+struct Cursor<'a> {
+    rest: &'a [u8],
+}
+
+impl<'a> Cursor<'a> {
+    /// A whole record: number 1 stands before every judgement on the record's fields.
+    fn take(&mut self, length: usize) -> Result<&'a [u8], Refusal> {
+        if self.rest.len() < length {
+            return Err(1);
+        }
+        let (record, rest) = self.rest.split_at(length);
+        self.rest = rest;
+        Ok(record)
+    }
+
+    fn byte(&mut self) -> Result<u8, Refusal> {
+        Ok(self.take(1)?[0])
+    }
+}
+
+/// The two-byte number at a place of a record, widened so that no later sum can wrap.
+fn pair(record: &[u8], place: usize) -> u32 {
+    u32::from(record[place]) * 256 + u32::from(record[place + 1])
+}
+
+pub fn read(file: &[u8]) -> Result<Request, Refusal> {
+    let mut cursor = Cursor { rest: file };
+    let field = pair(cursor.take(2)?, 0);
+    let devices = read_devices(&mut cursor)?;
+    let tasks = read_tasks(&mut cursor, devices.len())?;
+    let job_count = cursor.byte()?;
+    if !tasks.is_empty() && (field != 0 || job_count != 0) {
+        return Err(11);
+    }
+    let horizon = if tasks.is_empty() {
+        given_horizon(field)?
+    } else {
+        common_horizon(&tasks)?
+    };
+    let jobs = if tasks.is_empty() {
+        read_jobs(&mut cursor, job_count, horizon, devices.len())?
+    } else {
+        unfold(&tasks, horizon)?
+    };
+    if !cursor.rest.is_empty() {
+        return Err(2);
+    }
+    Ok(Request {
+        horizon,
+        devices,
+        jobs,
+    })
+}
+
+fn read_devices(cursor: &mut Cursor) -> Result<Vec<Device>, Refusal> {
+    let count = cursor.byte()?;
+    if count > MOST_DEVICES {
+        return Err(3);
+    }
+    (0..count).map(|_| read_device(cursor)).collect()
+}
+
+fn read_device(cursor: &mut Cursor) -> Result<Device, Refusal> {
+    let record = cursor.take(7)?;
+    let device = Device {
+        transition: u32::from(record[0]),
+        working: pair(record, 1),
+        sleeping: pair(record, 3),
+        moving: pair(record, 5),
+    };
+    if device.transition == 0 {
+        return Err(4);
+    }
+    if !(device.sleeping < device.moving && device.moving < device.working) {
+        return Err(5);
+    }
+    Ok(device)
+}
+
+fn read_tasks(cursor: &mut Cursor, devices: usize) -> Result<Vec<Task>, Refusal> {
+    let count = cursor.byte()?;
+    if count > MOST_TASKS {
+        return Err(6);
+    }
+    (0..count).map(|_| read_task(cursor, devices)).collect()
+}
+
+fn read_task(cursor: &mut Cursor, devices: usize) -> Result<Task, Refusal> {
+    let record = cursor.take(5)?;
+    let task = Task {
+        period: pair(record, 0),
+        running: pair(record, 2),
+        devices: record[4],
+    };
+    if !(1..=LONGEST_HORIZON).contains(&task.period) {
+        return Err(7);
+    }
+    if !(1..=task.period).contains(&task.running) {
+        return Err(8);
+    }
+    if names_missing_device(task.devices, devices) {
+        return Err(9);
+    }
+    Ok(task)
+}
+
+fn names_missing_device(set: u8, devices: usize) -> bool {
+    (devices..8).any(|device| set >> device & 1 == 1)
+}
+
+fn given_horizon(field: u32) -> Result<u32, Refusal> {
+    if (1..=LONGEST_HORIZON).contains(&field) {
+        Ok(field)
+    } else {
+        Err(10)
+    }
+}
+
+/// The least common multiple, by its definition: the first length that every period divides. A
+/// longer one than the limit is refused, so there is no need to know it.
+fn common_horizon(tasks: &[Task]) -> Result<u32, Refusal> {
+    (1..=LONGEST_HORIZON)
+        .find(|length| tasks.iter().all(|task| length % task.period == 0))
+        .ok_or(10)
+}
+
+/// Jobs by release, and for one release by task number: ticks outside, tasks inside.
+fn unfold(tasks: &[Task], horizon: u32) -> Result<Vec<Job>, Refusal> {
+    let mut jobs = Vec::new();
+    for release in 0..horizon {
+        for task in tasks.iter().filter(|task| release % task.period == 0) {
+            jobs.push(Job {
+                release,
+                deadline: release + task.period,
+                running: task.running,
+                devices: task.devices,
+            });
+        }
+    }
+    if jobs.len() > MOST_JOBS {
+        return Err(12);
+    }
+    Ok(jobs)
+}
+
+fn read_jobs(
+    cursor: &mut Cursor,
+    count: u8,
+    horizon: u32,
+    devices: usize,
+) -> Result<Vec<Job>, Refusal> {
+    if usize::from(count) > MOST_JOBS {
+        return Err(12);
+    }
+    (0..count)
+        .map(|_| read_job(cursor, horizon, devices))
+        .collect()
+}
+
+fn read_job(cursor: &mut Cursor, horizon: u32, devices: usize) -> Result<Job, Refusal> {
+    let record = cursor.take(7)?;
+    let job = Job {
+        release: pair(record, 0),
+        deadline: pair(record, 2),
+        running: pair(record, 4),
+        devices: record[6],
+    };
+    if names_missing_device(job.devices, devices) {
+        return Err(9);
+    }
+    if job.running == 0 || job.release + job.running > job.deadline || job.deadline > horizon {
+        return Err(13);
+    }
+    Ok(job)
+}
+
+#[cfg(test)]
+mod tests {
+    use super::*;
+
+    const A: [u8; 7] = [1, 0, 5, 0, 1, 0, 3];
+
+    fn refusal(sections: &[&[u8]]) -> Refusal {
+        read(&sections.concat()).expect_err("a refusal")
+    }
+
+    #[test]
+    fn a_missing_byte_comes_before_the_faults_of_its_record() {
+        assert_eq!(refusal(&[&[0]]), 1);
+        assert_eq!(refusal(&[&[0, 0]]), 1);
+        assert_eq!(refusal(&[&[0, 9, 1, 0, 0, 5, 0, 1, 0]]), 1);
+        assert_eq!(refusal(&[&[0, 9, 0, 1, 0, 0, 0, 0]]), 1);
+        assert_eq!(refusal(&[&[0, 9, 0, 0, 1, 0, 0, 0, 0, 0, 0]]), 1);
+    }
+
+    #[test]
+    fn a_fault_comes_before_bytes_that_are_missing_later() {
+        assert_eq!(refusal(&[&[0, 9, 9]]), 3);
+        assert_eq!(refusal(&[&[0, 9, 2, 0, 0, 5, 0, 1, 0, 3]]), 4);
+        assert_eq!(refusal(&[&[0, 9, 0, 9]]), 6);
+        assert_eq!(refusal(&[&[0, 9, 0, 0, 17]]), 12);
+        assert_eq!(refusal(&[&[0, 9, 0, 0, 2, 0, 0, 0, 9, 0, 0, 0]]), 13);
+    }
+
+    #[test]
+    fn in_one_record_the_lower_number_decides() {
+        assert_eq!(refusal(&[&[0, 9, 1, 0, 0, 1, 0, 1, 0, 1]]), 4);
+        assert_eq!(refusal(&[&[0, 0, 0, 1, 0, 0, 0, 0, 1, 0]]), 7);
+        assert_eq!(refusal(&[&[0, 0, 0, 1, 0, 4, 0, 5, 1, 0]]), 8);
+        assert_eq!(refusal(&[&[0, 0, 0, 1, 0, 4, 0, 4, 1, 0]]), 9);
+        assert_eq!(refusal(&[&[0, 9, 1], &A, &[0, 1, 0, 0, 0, 9, 0, 0, 2]]), 9);
+        assert_eq!(refusal(&[&[0, 9, 1], &A, &[0, 1, 0, 0, 0, 9, 0, 0, 1]]), 13);
+    }
+
+    /// 11, 10 and 12 wait for the job count, and then come in this order.
+    #[test]
+    fn after_the_job_count() {
+        let (long, many) = (
+            [15, 255, 0, 1, 0, 16, 0, 0, 1, 0],
+            [0, 1, 0, 1, 0, 0, 16, 0, 1, 0],
+        );
+        assert_eq!(refusal(&[&[0, 0, 0, 2], &long]), 1);
+        assert_eq!(refusal(&[&[0, 9, 0, 2], &long, &[0]]), 11);
+        assert_eq!(refusal(&[&[0, 0, 0, 2], &long, &[17]]), 11);
+        assert_eq!(refusal(&[&[0, 0, 0, 2], &long, &[0, 99]]), 10);
+        assert_eq!(refusal(&[&[0, 0, 0, 2], &many, &[0, 99]]), 12);
+        assert_eq!(refusal(&[&[0, 0, 0, 2], &many, &[1]]), 11);
+        assert_eq!(refusal(&[&[0, 0, 0, 0, 17]]), 10);
+        assert_eq!(refusal(&[&[16, 1, 0, 0, 17]]), 10);
+    }
+
+    #[test]
+    fn sums_do_not_wrap_at_16_bits() {
+        let job = |record: [u8; 7]| read(&[&[0, 9, 0, 0, 1], &record[..]].concat());
+        assert_eq!(job([255, 255, 0, 9, 0, 2, 0]), Err(13));
+        assert!(job([0, 7, 0, 9, 0, 2, 0]).is_ok());
+    }
+}

@@ -1,0 +1,110 @@
+//! What the run has met, and where the program and the oracle part.
+
+use crate::cases::Kind;
+use std::collections::BTreeMap;
+use std::fmt::Write;
+
+/// The refusals that a search on a file can give. 0 is added to them below.
+const REFUSALS: [u8; 15] = [1, 2, 3, 4, 5, 6, 7, 8, 9, 10, 11, 12, 13, 19, 20];
+
+#[derive(Default)]
+pub struct Tally {
+    kinds: BTreeMap<Kind, u64>,
+    outcomes: BTreeMap<u8, u64>,
+    in_pieces: u64,
+}
+
+impl Tally {
+    pub fn add(&mut self, kind: Kind, number: u8, pieces: usize) {
+        *self.kinds.entry(kind).or_default() += 1;
+        *self.outcomes.entry(number).or_default() += 1;
+        self.in_pieces += u64::from(pieces > 1);
+    }
+
+    /// Numbers that no case has met. A run that misses one has not tested it.
+    pub fn never_met(&self) -> Vec<u8> {
+        let mut numbers = vec![0];
+        numbers.extend(REFUSALS);
+        numbers.retain(|number| !self.outcomes.contains_key(number));
+        numbers
+    }
+
+    pub fn report(&self) -> String {
+        let mut text = String::from("random cases by kind:\n");
+        for (kind, count) in &self.kinds {
+            text += &format!("{count:7}  {}\n", kind.name());
+        }
+        text += "random cases by outcome:\n";
+        for (number, count) in &self.outcomes {
+            let said = if *number == 0 { "a plan" } else { "refused" };
+            text += &format!("{count:7}  {number:2} {said}\n");
+        }
+        text + &format!("random cases fed in pieces: {}\n", self.in_pieces)
+    }
+}
+
+pub struct Mismatch {
+    pub name: String,
+    pub file: Vec<u8>,
+    pub expected: String,
+    pub got: Result<Vec<u8>, String>,
+}
+
+impl Mismatch {
+    pub fn report(&self) -> String {
+        let got = match &self.got {
+            Ok(output) => format!("{:?}", String::from_utf8_lossy(output)),
+            Err(fault) => format!("a failure: {fault}"),
+        };
+        format!(
+            "MISMATCH in {}\n  file of {} bytes: {}\n  expected {:?}\n  got      {got}\n",
+            self.name,
+            self.file.len(),
+            hex(&self.file),
+            self.expected
+        )
+    }
+}
+
+/// In the form of the examples; the tail of a very long file says nothing more.
+fn hex(file: &[u8]) -> String {
+    const SHOWN: usize = 400;
+    let mut text = String::new();
+    for byte in file.iter().take(SHOWN) {
+        let _ = write!(text, "{byte:02X} ");
+    }
+    if file.len() > SHOWN {
+        text += "...";
+    }
+    text.trim_end().to_string()
+}
+
+#[cfg(test)]
+mod tests {
+    use super::*;
+
+    #[test]
+    fn a_number_that_was_not_met_is_missed() {
+        let mut tally = Tally::default();
+        for number in (0..=13).chain([20]) {
+            tally.add(Kind::Jobs, number, 1);
+        }
+        assert_eq!(tally.never_met(), [19]);
+        tally.add(Kind::Tight, 19, 2);
+        assert!(tally.never_met().is_empty());
+    }
+
+    #[test]
+    fn a_mismatch_shows_the_file_and_both_texts() {
+        let mismatch = Mismatch {
+            name: "case 3".to_string(),
+            file: vec![0, 255],
+            expected: "refused 1\n".to_string(),
+            got: Ok(b"refused 2\n".to_vec()),
+        };
+        let report = mismatch.report();
+        for part in ["case 3", "00 FF", "refused 1", "refused 2"] {
+            assert!(report.contains(part), "{part}");
+        }
+    }
+}
