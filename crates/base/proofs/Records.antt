@@ -1,12 +1,11 @@
 -- Laws of `firstOf`, the first refusal of a row of records, for whatever a record is.
-use mathlib.Core.Path.{_≡_, refl, sym, _∙_, ap}
-use mathlib.Core.Bool.{Bool, true, false, cond}
+use mathlib.Core.Path.{_≡_, refl}
 use Prim.Native.Nat.{ℕ, zero, suc, _+_, _-_, _*_, _<_, _≤_}
 use native.Mathlib.Omega.{arith}
 use native.Mathlib.Numerals.{sub-one}
 use native.Mathlib.Nat.{suc-mul, zero-mul, add-zero}
-use lib.Dec.{eqb, eqb·suc-zero}
-use borrow.Author.Tests.{eq-eqb, ne-eqb, eqb-true, eqb-false}
+use lib.Dec.{eqb·suc-zero}
+use borrow.Author.Tests.{ne-eqb}
 use Rattle.base.specs.Refusals.{firstOf, orElse}
 
 pub orElse-zero : (f r : ℕ) → 0 ≡ orElse f r → (0 ≡ f) × (0 ≡ r)

@@ -1,8 +1,8 @@
 -- Laws of loops. A loop's invariant says what the turns so far made: `x ≡ each g k a`. The first three laws close its start, its turn and its end.
 -- Assumes nothing.
-use mathlib.Core.Path.{_≡_, refl, sym, ap, _∙_}
+use mathlib.Core.Path.{_≡_, refl}
 use mathlib.Core.List.{List, [], _∷_, _++_}
-use Prim.Native.Nat.{ℕ, zero, suc, _+_}
+use Prim.Native.Nat.{ℕ, _+_}
 use native.Mathlib.Numerals.{add-one}
 use Rattle.base.specs.Loops.{each, through}
 

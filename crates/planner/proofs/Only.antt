@@ -1,23 +1,21 @@
 -- No second outcome satisfies a promise: for every input each of the five relations has one answer, and one state of the lent memory.
 -- Assumes nothing.
 use mathlib.Core.Path.{_≡_, refl, sym, ap, subst, _∙_}
-use mathlib.Core.List.{List, [], _∷_, _++_, map}
-use Prim.Native.Nat.{ℕ, zero, suc, _*_, _≤_, _<_}
+use mathlib.Core.List.{List, _++_}
+use Prim.Native.Nat.{ℕ, zero, suc, _*_, _<_}
 use native.Mathlib.Omega.{arith}
 use lib.IntN.{ℤ}
-use lib.ListN.{length, drop}
+use lib.ListN.{drop}
 use Rattle.base.specs.Lists.{upTo}
 use Rattle.base.specs.Sums.{sum}
 use Rattle.base.proofs.Additions.{sum-same}
-use Rattle.device.specs.Row.{Letter, byteOf, energy, rowOf}
+use Rattle.device.specs.Row.{Letter, energy}
 use Rattle.schedule.specs.declared.Recorder.{Recorder}
 use Rattle.schedule.specs.Quantities.{device, jobs, Valid}
 use Rattle.schedule.specs.Listing.{Feasible, Fault, Rows, Costs, FirstLeast, laid, margin}
 use Rattle.schedule.specs.Visiting.{vertices}
 use Rattle.schedule.proofs.Judgements.{fault-one, fault-infeasible}
 use Rattle.schedule.proofs.Outcome.{costs-only, rows-only, one-first-least}
-use Rattle.request.specs.Format.{Reading}
-use Rattle.request.specs.Format as Format
 use Rattle.request.proofs.Accepted.{accepted-valid}
 use Rattle.planner.specs.declared.Answer.{Answer}
 use Rattle.planner.specs.Promises.{success, refusal, refusalAt, refusalAfter, Refused, Reads, Checked, Margined, Judged, Rowed, Searched}

@@ -1,15 +1,14 @@
 -- The search of a recorder, as crate schedule gives it, keeps the promise of `search`; and a larger budget changes no other result.
 -- Assumes nothing.
-use mathlib.Core.Path.{_≡_, refl, sym, ap, subst, _∙_}
-use mathlib.Core.Bool.{Bool, true, false, cond}
+use mathlib.Core.Path.{_≡_, sym, ap, subst, _∙_}
+use mathlib.Core.Bool.{true, false, cond}
 use mathlib.Core.List.{List, _++_}
-use Prim.Native.Nat.{ℕ, _≤_, _<_}
+use Prim.Native.Nat.{ℕ, _≤_}
 use native.Mathlib.Omega.{arith}
 use lib.Dec.{ltb, eqb}
-use lib.ListN.{length, take, drop, set, getD, length-take}
+use lib.ListN.{length, take, drop, getD, length-take}
 use borrow.Author.Tests.{ltb-true, ltb-false, eq-eqb, ne-eqb}
 use Rattle.base.specs.Loops.{each, under}
-use Rattle.base.specs.Lists.{upTo}
 use Rattle.base.proofs.Cases.{cond-cases}
 use Rattle.base.proofs.Arrays.{upTo-take}
 use Rattle.base.proofs.Stores.{stored-is}
@@ -17,7 +16,7 @@ use Rattle.schedule.specs.declared.Recorder.{Recorder}
 use Rattle.visit.specs.declared.Found.{Found}
 use Rattle.schedule.specs.Quantities.{jobs, Valid}
 use Rattle.schedule.specs.Listing.{FirstLeast}
-use Rattle.schedule.specs.Visiting.{vertices, planEnergy}
+use Rattle.schedule.specs.Visiting.{vertices}
 use Rattle.visit.specs.Steps.{searched, answerOf, copyStart, writtenOf}
 use Rattle.visit.specs.Steps as Steps
 use Rattle.visit.proofs.Agreement.{searched-count, searched-none, searched-best}

@@ -1,23 +1,21 @@
 -- Document 01, 'Figures to reproduce', P1 to P12, and X1 to X3: one table of cases, and one statement over it, computed by the checker from the definitions.
 -- Assumes nothing.
 use mathlib.Core.Path.{_≡_, refl}
-use mathlib.Core.Bool.{Bool, true, false, cond}
-use mathlib.Core.List.{List, [], _∷_, _++_, map}
-use mathlib.Core.Logic.{_⊎_, inl, inr}
+use mathlib.Core.Bool.{cond}
+use mathlib.Core.List.{List, [], _∷_, _++_}
+use mathlib.Core.Logic.{inl, inr}
 use mathlib.Core.Option.{Option, none, some}
-use Prim.Native.Nat.{ℕ, zero, suc, _+_, _≤_, _<_}
+use Prim.Native.Nat.{ℕ, _+_}
 use native.Mathlib.Omega.{arith}
-use lib.Dec.{ltb, eqb}
+use lib.Dec.{ltb}
 use lib.IntN.{ℤ, pos, negsuc}
-use lib.ListN.{length}
-use Rattle.base.specs.Lists.{upTo, upFrom, padded, remove}
+use Rattle.base.specs.Lists.{upTo, padded, remove}
 use Rattle.base.specs.Refusals.{firstOf}
 use Rattle.device.specs.Row.{Letter, W, D, S, U, rowOf}
-use Rattle.schedule.specs.declared.Job.{Job}
 use Rattle.schedule.specs.declared.Recorder.{Recorder}
 use Rattle.schedule.specs.Quantities.{device, jobs, release, deadline}
 use Rattle.schedule.specs.Listing.{margin, used, usesOf, soonest, ordered, Earlier}
-use Rattle.schedule.specs.Visiting.{written, starts, choices, late, cutA, planEnergy, better, lastEnd, deviceFloor, floor, cutB, complete, examine, visit, visited, vertices}
+use Rattle.schedule.specs.Visiting.{written, starts, choices, late, cutA, planEnergy, better, lastEnd, deviceFloor, floor, cutB, complete, examine, visit, visited}
 use Rattle.request.specs.Euclid.{euclid, gcdOf}
 use Rattle.request.specs.Format.{deviceTable, lacks, taskTable, jobTable, recordTable, recordFault, lcmFrom, horizonOf, releasedAt, unfolded, jobsOf, mixed, countOf, jobRecords, jobSection, taskSection, faultOf, recorderIn}
 

@@ -14,7 +14,7 @@ use Rattle.schedule.specs.declared.Recorder.{Recorder}
 use Rattle.schedule.specs.Quantities.{device, jobs}
 use Rattle.schedule.specs.Listing.{Feasible, Fault, Rows, Costs, FirstLeast, laid, margin}
 use Rattle.schedule.specs.Visiting.{vertices}
-use Rattle.request.specs.Format.{Reading, readOf}
+use Rattle.request.specs.Format.{readOf}
 use Rattle.request.specs.Format as Format
 use Rattle.planner.specs.declared.Answer.{Answer}
 

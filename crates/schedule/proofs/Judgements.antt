@@ -1,7 +1,7 @@
 -- Laws of judging: what a job's own test and the tests of two jobs say.
 -- Assumes nothing.
 use mathlib.Core.Path.{_≡_, refl, sym, ap, subst}
-use mathlib.Core.Bool.{Bool, true, false, cond, true≢false}
+use mathlib.Core.Bool.{Bool, true, false, true≢false}
 use mathlib.Core.List.{List, []}
 use mathlib.Core.Logic.{by-cases}
 use Prim.Native.Nat.{ℕ, _+_, _≤_, _<_, max}
@@ -14,9 +14,9 @@ use Rattle.base.proofs.Cases.{cond-cases}
 use Rattle.schedule.specs.declared.Jobs.{Jobs}
 use Rattle.schedule.specs.declared.Recorder.{Recorder}
 use Rattle.schedule.specs.declared.judging.Verdict.{Verdict}
-use Rattle.schedule.specs.Quantities.{jobs, release, deadline, run, Valid}
+use Rattle.schedule.specs.Quantities.{jobs, release, deadline, run}
 use Rattle.schedule.specs.Listing.{start, Released, InTime, Runs, Feasible, Overlaps, Met, Fault, early, late, overlap}
-use Rattle.schedule.specs.Judging.{verdict, Judgement, faulty, feasible, Windows, missed, met, windowFault, clashes, Decides, holds, fails}
+use Rattle.schedule.specs.Judging.{Judgement, faulty, feasible, Windows, missed, met, windowFault, clashes, Decides, holds, fails}
 
 -- A recorder of these jobs: what a loop over them says of it, it says of every recorder that holds them.
 abbrev pub holding : Jobs → Recorder

@@ -1,14 +1,14 @@
 -- Rows laid out one after the other.
 -- Assumes nothing.
-use mathlib.Core.Path.{_≡_, refl, sym, ap, subst, _∙_}
-use mathlib.Core.List.{List, [], _++_, map}
-use Prim.Native.Nat.{ℕ, _+_, _-_, _*_, _≤_, _<_}
+use mathlib.Core.Path.{_≡_, sym, ap, subst, _∙_}
+use mathlib.Core.List.{List, _++_, map}
+use Prim.Native.Nat.{ℕ, _+_, _-_, _*_, _≤_}
 use native.Mathlib.Nat.{add-mul, one-mul, zero-mul}
 use native.Mathlib.Numerals.{add-one}
 use native.Mathlib.Omega.{arith}
 use lib.ListN.{length, take, drop, length-map}
 use borrow.Rule.Slice.PartMut.{putMid}
-use Rattle.device.specs.Row.{Letter, byteOf, rowOf}
+use Rattle.device.specs.Row.{Letter, byteOf}
 use Rattle.device.proofs.Least.{length-row}
 use Rattle.device.proofs.Parts.{Written, written-tail}
 use Rattle.device.proofs.Pattern.{length-pattern}

@@ -7,7 +7,7 @@ use mathlib.Core.List.{List}
 use Prim.Native.Nat.{ℕ, _<_}
 use native.Mathlib.Omega.{arith}
 use Rattle.base.proofs.Additions.{sum-same}
-use Rattle.device.specs.Row.{Letter, energy, energyOf, rowOf}
+use Rattle.device.specs.Row.{Letter, energy, energyOf}
 use Rattle.device.proofs.Least.{row-least, least-is-row, least-energy}
 use Rattle.schedule.specs.declared.Recorder.{Recorder}
 use Rattle.schedule.specs.Quantities.{device, Valid}

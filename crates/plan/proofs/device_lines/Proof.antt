@@ -1,14 +1,13 @@
+-- `plan::device_lines` meets its contract.
+-- Assumes nothing.
 use borrow.Author.Needs.{needs}
-use mathlib.Core.Path.{_≡_, refl}
+use mathlib.Core.Path.{_≡_}
 use Prim.Native.Nat.{_≤_, _-_, _+_, _*_}
-use native.Mathlib.Nat.{mul-le-mul-right, add-mul, one-mul, zero-mul}
+use native.Mathlib.Nat.{mul-le-mul-right, add-mul, one-mul}
 use native.Mathlib.Omega.{arith}
 use lib.ListN.{length}
 use Rattle.plan.proofs.device_lines.Statement.{statement}
 use Rattle.plan.proofs.device_lines.Tie as tie
-use Rattle.plan.proofs.device_lines.Reads as reads
-use Rattle.plan.proofs.device_lines.Lts as lts
-use Rattle.plan.proofs.device_line.Reads as device-line-reads
 
 abbrev Inv-loop : tie.InvT-loop
 Inv-loop rows h count k₀ at₀ k at = (k ≤ count) × (at ≡ k * h)
@@ -16,7 +15,6 @@ Inv-loop rows h count k₀ at₀ k at = (k ≤ count) × (at ≡ k * h)
 abbrev μ-loop : tie.MeasureT-loop
 μ-loop rows h count k₀ at₀ k at = count - k
 
--- src/main.rt:59:5
 loop-holds : tie.Need-loop-holds Inv-loop μ-loop
 loop-holds c = search needs
 
@@ -27,39 +25,30 @@ room c =
     let next : (c .before .loop .k + 1) * s .args .h ≤ s .args .count * s .args .h = mul-le-mul-right (s .args .h) (omega arith) in
     omega (arith, s .pre, add-mul (c .before .loop .k) 1 (s .args .h), one-mul (s .args .h))
 
--- src/main.rt:60:19
 add-end : tie.Need-add-end Inv-loop μ-loop
 add-end c = omega (arith, room c)
 
--- src/main.rt:61:24
 sub-device-line : tie.Need-sub-device-line Inv-loop μ-loop
 sub-device-line c = search needs
 
--- src/main.rt:61:24
 part-device-line-start : tie.Need-part-device-line-start Inv-loop μ-loop
 part-device-line-start c = search needs
 
--- src/main.rt:61:24
 part-device-line-end : tie.Need-part-device-line-end Inv-loop μ-loop
 part-device-line-end c = omega (arith, room c)
 
--- src/main.rt:61:9
 device-line-requires : tie.Need-device-line-requires Inv-loop μ-loop
 device-line-requires c κs = search needs
 
--- src/main.rt:63:9
 add-k : tie.Need-add-k Inv-loop μ-loop
 add-k c = search needs
 
--- src/main.rt:59:5
 loop-less : tie.Need-loop-less Inv-loop μ-loop
 loop-less c = search needs
 
--- src/main.rt:59:5
 loop-again : tie.Need-loop-again Inv-loop μ-loop
 loop-again c = search needs
 
--- src/main.rt:54:1
 returns : tie.Need-returns Inv-loop μ-loop
 returns c = search needs
 

@@ -1,12 +1,10 @@
+-- `plan::job_lines` meets its contract.
+-- Assumes nothing.
 use borrow.Author.Needs.{needs}
 use Prim.Native.Nat.{_≤_, _-_}
-use native.Mathlib.Omega.{arith}
 use lib.ListN.{length}
 use Rattle.plan.proofs.job_lines.Statement.{statement}
 use Rattle.plan.proofs.job_lines.Tie as tie
-use Rattle.plan.proofs.job_lines.Reads as reads
-use Rattle.plan.proofs.job_lines.Lts as lts
-use Rattle.plan.proofs.job_line.Reads as job-line-reads
 
 abbrev Inv-loop : tie.InvT-loop
 Inv-loop starts margins j₀ j = j ≤ length starts
@@ -14,43 +12,33 @@ Inv-loop starts margins j₀ j = j ≤ length starts
 abbrev μ-loop : tie.MeasureT-loop
 μ-loop starts margins j₀ j = length starts - j
 
--- src/main.rt:47:5
 loop-holds : tie.Need-loop-holds Inv-loop μ-loop
 loop-holds c = search needs
 
--- src/main.rt:48:32
 mul-job-line : tie.Need-mul-job-line Inv-loop μ-loop
 mul-job-line c = search needs
 
--- src/main.rt:48:32
 shared-slice-read-job-line : tie.Need-shared-slice-read-job-line Inv-loop μ-loop
 shared-slice-read-job-line c = search needs
 
--- src/main.rt:48:43
 mul-job-line-2 : tie.Need-mul-job-line-2 Inv-loop μ-loop
 mul-job-line-2 c = search needs
 
--- src/main.rt:48:43
 shared-slice-copy-out-job-line : tie.Need-shared-slice-copy-out-job-line Inv-loop μ-loop
 shared-slice-copy-out-job-line c = search needs
 
--- src/main.rt:48:9
 job-line-requires : tie.Need-job-line-requires Inv-loop μ-loop
 job-line-requires c κs = search needs
 
--- src/main.rt:49:9
 add-j : tie.Need-add-j Inv-loop μ-loop
 add-j c = search needs
 
--- src/main.rt:47:5
 loop-less : tie.Need-loop-less Inv-loop μ-loop
 loop-less c = search needs
 
--- src/main.rt:47:5
 loop-again : tie.Need-loop-again Inv-loop μ-loop
 loop-again c = search needs
 
--- src/main.rt:43:1
 returns : tie.Need-returns Inv-loop μ-loop
 returns c = search needs
 

@@ -1,25 +1,12 @@
-use mathlib.Core.Path.{_≡_, refl, sym, ap, _∙_}
-use mathlib.Core.List.{List}
-use Prim.Native.Nat.{ℕ, _≤_, _<_, _*_}
-use native.Mathlib.Nat.{mul-le-mul}
-use native.Mathlib.Omega.{arith}
-use lib.ListN.{length}
-use Rattle.schedule.specs.Quantities.{jobs, Valid}
-use Rattle.schedule.specs.Listing.{Feasible, Costs}
-use Rattle.schedule.proofs.Judgements.{judgement-fault, judgement-feasible}
-use Rattle.schedule.proofs.Outcome.{plan-costs}
+-- `planner::margins` meets its contract.
+-- Assumes nothing.
+use Rattle.schedule.specs.Quantities.{Valid}
 use Rattle.request.proofs.Accepted.{read-accepted, read-refused, accepted-valid}
 use Rattle.planner.specs.Promises as P
 use Rattle.planner.specs.Promises.{Reads}
 use borrow.Author.Needs.{needs}
 use Rattle.planner.proofs.margins.Statement.{statement}
 use Rattle.planner.proofs.margins.Tie as tie
-use Rattle.planner.proofs.margins.Reads as reads
-use Rattle.planner.proofs.margins.Lts as lts
-use Rattle.planner.proofs.answers.refusal.Reads as refusal-reads
-use Rattle.planner.proofs.answers.success.Reads as success-reads
-use Rattle.request.proofs.read.Reads as read-reads
-use Rattle.schedule.proofs.write_margins.Reads as write-margins-reads
 
 -- The file is read as the recorder.
 recorded : (c : tie.Else1) → Reads (c .before .before .before .before .before .args .file .now) (c .before .before .read .result .recorder)
@@ -28,47 +15,36 @@ recorded c = read-accepted _ _ (c .before .before .read .ensures) (c .if1 .left)
 within : (c : tie.Else1) → Valid (c .before .before .read .result .recorder)
 within c = accepted-valid _ _ (recorded c)
 
--- src/lib.rt:40:9
 read-requires : tie.Need-read-requires
 read-requires c κs = search needs
 
--- src/lib.rt:42:9
 refusal-requires : tie.Need-refusal-requires
 refusal-requires c κs = search needs
 
--- src/lib.rt:42:9
 returns : tie.Need-returns
 returns c = rw (c .refusal .ensures) (P.Margined.refused (read-refused _ _ (c .before .before .before .read .ensures) (c .before .if1 .taken)))
 
--- src/lib.rt:46:9
 refusal-requires-2 : tie.Need-refusal-requires-2
 refusal-requires-2 c κs = search needs
 
--- src/lib.rt:46:9
 returns-2 : tie.Need-returns-2
 returns-2 c = rw (c .refusal2 .ensures) (P.Margined.unequal (recorded (c .before .before .before .before)) (c .before .if2 .taken))
 
--- src/lib.rt:49:9
 refusal-requires-3 : tie.Need-refusal-requires-3
 refusal-requires-3 c κs = search needs
 
--- src/lib.rt:49:9
 returns-3 : tie.Need-returns-3
 returns-3 c = rw (c .refusal3 .ensures) (P.Margined.short (recorded (c .before .before .before .before .before .before)) (c .before .before .before .if2 .left) (c .before .if3 .taken))
 
--- src/lib.rt:51:5
 write-margins-requires : tie.Need-write-margins-requires
 write-margins-requires c κs = (within (c .before .before .before .before .before .before), c .before .before .before .if2 .left, c .before .if3 .left)
 
--- src/lib.rt:52:5
 success-requires : tie.Need-success-requires
 success-requires c κs = search needs
 
--- src/lib.rt:37:1
 same-length : tie.Need-same-length
 same-length c = search needs
 
--- src/lib.rt:37:1
 returns-4 : tie.Need-returns-4
 returns-4 c = rw (c .success .ensures, c .before .before .write-margins .ensures) (P.Margined.given (recorded (c .before .before .before .before .before .before .before .before .before)) (c .before .before .before .before .before .before .if2 .left) (c .before .before .before .before .if3 .left))
 

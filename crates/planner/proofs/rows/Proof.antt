@@ -1,11 +1,8 @@
-use mathlib.Core.Path.{_≡_, refl, sym, ap, _∙_}
-use mathlib.Core.List.{List}
-use Prim.Native.Nat.{ℕ, _≤_, _<_, _*_}
+-- `planner::rows` meets its contract.
+-- Assumes nothing.
 use native.Mathlib.Nat.{mul-le-mul}
 use native.Mathlib.Omega.{arith}
-use lib.ListN.{length}
-use Rattle.schedule.specs.Quantities.{jobs, Valid}
-use Rattle.schedule.specs.Listing.{Feasible, Costs}
+use Rattle.schedule.specs.Quantities.{Valid}
 use Rattle.schedule.specs.Visiting.{planEnergy}
 use Rattle.schedule.proofs.Judgements.{judgement-fault, judgement-feasible}
 use Rattle.schedule.proofs.Outcome.{plan-rows}
@@ -15,15 +12,6 @@ use Rattle.planner.specs.Promises.{Reads}
 use borrow.Author.Needs.{needs}
 use Rattle.planner.proofs.rows.Statement.{statement}
 use Rattle.planner.proofs.rows.Tie as tie
-use Rattle.planner.proofs.rows.Reads as reads
-use Rattle.planner.proofs.rows.Lts as lts
-use Rattle.planner.proofs.answers.refusal.Reads as refusal-reads
-use Rattle.planner.proofs.answers.refusal_at.Reads as refusal-at-reads
-use Rattle.planner.proofs.answers.success.Reads as success-reads
-use Rattle.request.proofs.read.Reads as read-reads
-use Rattle.schedule.proofs.judge.Reads as judge-reads
-use Rattle.schedule.proofs.plan_energy.Reads as plan-energy-reads
-use Rattle.schedule.proofs.write_rows.Reads as write-rows-reads
 
 -- The file is read as the recorder.
 recorded : (c : tie.Else1) → Reads (c .before .before .before .before .before .before .args .file .now) (c .before .before .read .result .recorder)
@@ -32,71 +20,54 @@ recorded c = read-accepted _ _ (c .before .before .read .ensures) (c .if1 .left)
 within : (c : tie.Else1) → Valid (c .before .before .read .result .recorder)
 within c = accepted-valid _ _ (recorded c)
 
--- src/lib.rt:79:9
 read-requires : tie.Need-read-requires
 read-requires c κs = search needs
 
--- src/lib.rt:81:9
 refusal-requires : tie.Need-refusal-requires
 refusal-requires c κs = search needs
 
--- src/lib.rt:81:9
 returns : tie.Need-returns
 returns c = rw (c .refusal .ensures) (P.Rowed.refused (read-refused _ _ (c .before .before .before .read .ensures) (c .before .if1 .taken)))
 
--- src/lib.rt:85:9
 refusal-requires-2 : tie.Need-refusal-requires-2
 refusal-requires-2 c κs = search needs
 
--- src/lib.rt:85:9
 returns-2 : tie.Need-returns-2
 returns-2 c = rw (c .refusal2 .ensures) (P.Rowed.unequal (recorded (c .before .before .before .before)) (c .before .if2 .taken))
 
--- src/lib.rt:87:13
 cast-h : tie.Need-cast-h
 cast-h c = search needs
 
--- src/lib.rt:88:20
 mul-if3 : tie.Need-mul-if3
 mul-if3 c = let v = within (c .before .before .before .before .before) in omega (arith, mul-le-mul (v .few-devices) (v .few-ticks))
 
--- src/lib.rt:89:9
 refusal-requires-3 : tie.Need-refusal-requires-3
 refusal-requires-3 c κs = search needs
 
--- src/lib.rt:89:9
 returns-3 : tie.Need-returns-3
 returns-3 c = rw (c .refusal3 .ensures) (P.Rowed.short (recorded (c .before .before .before .before .before .before .before)) (c .before .before .before .before .if2 .left) (c .before .if3 .taken))
 
--- src/lib.rt:91:9
 judge-requires : tie.Need-judge-requires
 judge-requires c κs = (within (c .before .before .before .before .before .before), c .before .before .before .if2 .left)
 
--- src/lib.rt:93:9
 refusal-at-requires : tie.Need-refusal-at-requires
 refusal-at-requires c κs = search needs
 
--- src/lib.rt:93:9
 returns-4 : tie.Need-returns-4
 returns-4 c = rw (c .refusal-at .ensures) (P.Rowed.faulty (recorded (c .before .before .before .before .before .before .before .before .before .before)) (c .before .before .before .before .before .before .before .if2 .left) (c .before .before .before .before .if3 .left) (judgement-fault _ _ (c .before .before .before .judge .ensures) (c .before .if4 .taken)))
 
--- src/lib.rt:95:5
 write-rows-requires : tie.Need-write-rows-requires
 write-rows-requires c κs = (within (c .before .before .before .before .before .before .before .before .before .before), judgement-feasible _ _ (c .before .before .before .judge .ensures) (c .before .if4 .left), c .before .before .before .before .if3 .left)
 
--- src/lib.rt:96:9
 plan-energy-requires : tie.Need-plan-energy-requires
 plan-energy-requires c κs = (within (c .before .before .before .before .before .before .before .before .before .before .before .before .before), judgement-feasible _ _ (c .before .before .before .before .before .before .judge .ensures) (c .before .before .before .before .if4 .left))
 
--- src/lib.rt:97:5
 success-requires : tie.Need-success-requires
 success-requires c κs = search needs
 
--- src/lib.rt:76:1
 same-length : tie.Need-same-length
 same-length c = search needs
 
--- src/lib.rt:76:1
 returns-5 : tie.Need-returns-5
 unfolding planEnergy
 returns-5 c = rw (c .success .ensures, c .before .plan-energy .ensures, c .before .before .before .before .write-rows .ensures) (P.Rowed.given (recorded (c .before .before .before .before .before .before .before .before .before .before .before .before .before .before .before)) (c .before .before .before .before .before .before .before .before .before .if3 .left) (judgement-feasible _ _ (c .before .before .before .before .before .before .before .before .judge .ensures) (c .before .before .before .before .before .before .if4 .left)) (plan-rows _ (within (c .before .before .before .before .before .before .before .before .before .before .before .before .before .before .before)) _))

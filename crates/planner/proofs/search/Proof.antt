@@ -1,5 +1,5 @@
-use mathlib.Core.Path.{_≡_, refl, sym, ap, _∙_}
-use Rattle.schedule.specs.Quantities.{Valid}
+-- `planner::search` meets its contract.
+-- Assumes nothing.
 use Rattle.request.proofs.Accepted.{read-accepted, read-refused, accepted-valid}
 use Rattle.planner.specs.Promises as P
 use Rattle.planner.specs.Promises.{Reads}
@@ -7,55 +7,38 @@ use Rattle.planner.proofs.Searching.{search-refused, search-found}
 use borrow.Author.Needs.{needs}
 use Rattle.planner.proofs.search.Statement.{statement}
 use Rattle.planner.proofs.search.Tie as tie
-use Rattle.planner.proofs.search.Reads as reads
-use Rattle.planner.proofs.search.Lts as lts
-use Rattle.planner.proofs.answers.refusal.Reads as refusal-reads
-use Rattle.planner.proofs.answers.refusal_after.Reads as refusal-after-reads
-use Rattle.planner.proofs.answers.success.Reads as success-reads
-use Rattle.request.proofs.read.Reads as read-reads
-use Rattle.visit.proofs.search.Reads as search-reads
 
 -- The file is read as the recorder.
 recorded : (c : tie.Else1) → Reads (c .before .before .before .before .before .args .file .now) (c .before .before .read .result .recorder)
 recorded c = read-accepted _ _ (c .before .before .read .ensures) (c .if1 .left)
 
--- src/lib.rt:105:9
 read-requires : tie.Need-read-requires
 read-requires c κs = search needs
 
--- src/lib.rt:107:9
 refusal-requires : tie.Need-refusal-requires
 refusal-requires c κs = search needs
 
--- src/lib.rt:107:9
 returns : tie.Need-returns
 returns c = rw (c .refusal .ensures) (P.Searched.refused (read-refused _ _ (c .before .before .before .read .ensures) (c .before .if1 .taken)))
 
--- src/lib.rt:110:9
 search-requires : tie.Need-search-requires
 search-requires c κs = accepted-valid _ _ (recorded (c .before .before))
 
--- src/lib.rt:112:9
 refusal-after-requires : tie.Need-refusal-after-requires
 refusal-after-requires c κs = search needs
 
--- src/lib.rt:112:9
 same-length : tie.Need-same-length
 same-length c = search needs
 
--- src/lib.rt:112:9
 returns-2 : tie.Need-returns-2
 returns-2 c = rw (c .refusal-after .ensures) (search-refused _ _ _ (recorded (c .before .before .before .before .before .before .before .before)) (c .before .before .before .before .before .search .result) (c .before .before .before .before .before .search .last .1 .1 .0) (c .before .before .before .before .before .search .ensures .0) (c .before .before .before .before .before .search .ensures .1) (c .before .if2 .taken))
 
--- src/lib.rt:114:5
 success-requires : tie.Need-success-requires
 success-requires c κs = search needs
 
--- src/lib.rt:102:1
 same-length-2 : tie.Need-same-length-2
 same-length-2 c = search needs
 
--- src/lib.rt:102:1
 returns-3 : tie.Need-returns-3
 returns-3 c = rw (c .success .ensures) (search-found _ _ _ (recorded (c .before .before .before .before .before .before .before .before)) (c .before .before .before .before .before .search .result) (c .before .before .before .before .before .search .last .1 .1 .0) (c .before .before .before .before .before .search .ensures .0) (c .before .before .before .before .before .search .ensures .1) (c .before .if2 .left))
 

@@ -1,11 +1,8 @@
-use mathlib.Core.Path.{_≡_, sym, subst}
-use mathlib.Core.List.{List}
-use Prim.Native.Nat.{ℕ, _≤_, _<_, _*_}
-use native.Mathlib.Nat.{mul-le-mul}
-use native.Mathlib.Omega.{arith}
-use lib.ListN.{length}
-use Rattle.schedule.specs.Quantities.{jobs, Valid}
-use Rattle.schedule.specs.Listing.{Feasible, Costs}
+-- `planner::verdict` meets its contract.
+-- Assumes nothing.
+use mathlib.Core.Path.{sym, subst}
+use Rattle.schedule.specs.Quantities.{Valid}
+use Rattle.schedule.specs.Listing.{Costs}
 use Rattle.schedule.proofs.Judgements.{judgement-fault, judgement-feasible}
 use Rattle.schedule.proofs.Outcome.{plan-costs}
 use Rattle.request.proofs.Accepted.{read-accepted, read-refused, accepted-valid}
@@ -14,14 +11,6 @@ use Rattle.planner.specs.Promises.{Reads}
 use borrow.Author.Needs.{needs}
 use Rattle.planner.proofs.verdict.Statement.{statement}
 use Rattle.planner.proofs.verdict.Tie as tie
-use Rattle.planner.proofs.verdict.Reads as reads
-use Rattle.planner.proofs.verdict.Lts as lts
-use Rattle.planner.proofs.answers.refusal.Reads as refusal-reads
-use Rattle.planner.proofs.answers.refusal_at.Reads as refusal-at-reads
-use Rattle.planner.proofs.answers.success.Reads as success-reads
-use Rattle.request.proofs.read.Reads as read-reads
-use Rattle.schedule.proofs.judge.Reads as judge-reads
-use Rattle.schedule.proofs.plan_energy.Reads as plan-energy-reads
 
 -- The file is read as the recorder.
 recorded : (c : tie.Else1) → Reads (c .before .before .before .before .before .args .file .now) (c .before .before .read .result .recorder)
@@ -30,47 +19,36 @@ recorded c = read-accepted _ _ (c .before .before .read .ensures) (c .if1 .left)
 within : (c : tie.Else1) → Valid (c .before .before .read .result .recorder)
 within c = accepted-valid _ _ (recorded c)
 
--- src/lib.rt:59:9
 read-requires : tie.Need-read-requires
 read-requires c κs = search needs
 
--- src/lib.rt:61:9
 refusal-requires : tie.Need-refusal-requires
 refusal-requires c κs = search needs
 
--- src/lib.rt:61:9
 returns : tie.Need-returns
 returns c = rw (c .refusal .ensures) (P.Judged.refused (read-refused _ _ (c .before .before .before .read .ensures) (c .before .if1 .taken)))
 
--- src/lib.rt:65:9
 refusal-requires-2 : tie.Need-refusal-requires-2
 refusal-requires-2 c κs = search needs
 
--- src/lib.rt:65:9
 returns-2 : tie.Need-returns-2
 returns-2 c = rw (c .refusal2 .ensures) (P.Judged.unequal (recorded (c .before .before .before .before)) (c .before .if2 .taken))
 
--- src/lib.rt:67:9
 judge-requires : tie.Need-judge-requires
 judge-requires c κs = (within (c .before .before .before), c .if2 .left)
 
--- src/lib.rt:69:9
 refusal-at-requires : tie.Need-refusal-at-requires
 refusal-at-requires c κs = search needs
 
--- src/lib.rt:69:9
 returns-3 : tie.Need-returns-3
 returns-3 c = rw (c .refusal-at .ensures) (P.Judged.faulty (recorded (c .before .before .before .before .before .before .before)) (c .before .before .before .before .if2 .left) (judgement-fault _ _ (c .before .before .before .judge .ensures) (c .before .if3 .taken)))
 
--- src/lib.rt:71:9
 plan-energy-requires : tie.Need-plan-energy-requires
 plan-energy-requires c κs = (within (c .before .before .before .before .before .before), judgement-feasible _ _ (c .before .before .judge .ensures) (c .if3 .left))
 
--- src/lib.rt:72:5
 success-requires : tie.Need-success-requires
 success-requires c κs = search needs
 
--- src/lib.rt:56:1
 returns-4 : tie.Need-returns-4
 returns-4 c =
     let valid = within (c .before .before .before .before .before .before .before .before) in

@@ -1,3 +1,5 @@
+-- `request::read` meets its contract.
+-- Assumes nothing.
 use borrow.Author.Needs.{needs}
 use mathlib.Core.Path.{sym, _∙_}
 use Rattle.request.specs.Format.{handedOn}

@@ -1,3 +1,5 @@
+-- `request::checks::device_check` meets its contract.
+-- Assumes nothing.
 use Rattle.request.specs.Format.{deviceTable}
 use Rattle.base.proofs.Paths.{paths}
 use Rattle.request.proofs.checks.device_check.Statement.{statement}

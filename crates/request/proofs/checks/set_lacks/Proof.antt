@@ -1,3 +1,5 @@
+-- `request::checks::set_lacks` meets its contract.
+-- Assumes nothing.
 use mathlib.Core.Path.{sym}
 use Prim.Native.Nat.{_≤_, _<_, _^_}
 use native.Mathlib.Omega.{arith}

@@ -1,3 +1,5 @@
+-- `request::checks::task_check` meets its contract.
+-- Assumes nothing.
 use Rattle.request.specs.Format.{taskTable}
 use Rattle.base.proofs.Paths.{paths}
 use borrow.Author.Needs.{needs}

@@ -1,3 +1,5 @@
+-- `request::horizon::horizon_of` meets its contract.
+-- Assumes nothing.
 use borrow.Author.Tests.{eq-eqb, ne-eqb}
 use Rattle.request.specs.Format.{horizonOf}
 use borrow.Author.Needs.{needs}

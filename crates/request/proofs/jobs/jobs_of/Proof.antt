@@ -1,3 +1,5 @@
+-- `request::jobs::jobs_of` meets its contract.
+-- Assumes nothing.
 use borrow.Author.Tests.{eq-eqb, ne-eqb}
 use Rattle.request.specs.Format.{jobsOf}
 use borrow.Author.Needs.{needs}

@@ -1,3 +1,5 @@
+-- `request::jobs::push` meets its contract.
+-- Assumes nothing.
 use Rattle.base.proofs.Paths.{paths}
 use Rattle.request.specs.Held.{pushed}
 use borrow.Author.Needs.{needs}

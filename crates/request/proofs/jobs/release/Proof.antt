@@ -1,3 +1,5 @@
+-- `request::jobs::release` meets its contract.
+-- Assumes nothing.
 use Rattle.base.proofs.Paths.{paths}
 use Rattle.request.specs.Held.{releasedTo}
 use borrow.Author.Needs.{needs}

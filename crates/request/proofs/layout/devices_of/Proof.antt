@@ -1,3 +1,5 @@
+-- `request::layout::devices_of` meets its contract.
+-- Assumes nothing.
 use borrow.Author.Needs.{needs}
 use mathlib.Core.Path.{_≡_}
 use Prim.Native.Nat.{ℕ, _≤_, _+_, _-_, _*_}

@@ -1,3 +1,5 @@
+-- `request::layout::no_devices` meets its contract.
+-- Assumes nothing.
 use mathlib.Core.Path.{refl}
 use Rattle.base.specs.Lists.{padded}
 use Rattle.request.proofs.layout.no_devices.Statement.{statement}

@@ -1,3 +1,5 @@
+-- `request::layout::no_recorder` meets its contract.
+-- Assumes nothing.
 use borrow.Author.Needs.{needs}
 use Rattle.request.proofs.Packed.{packed-none}
 use Rattle.request.proofs.layout.no_recorder.Statement.{statement}

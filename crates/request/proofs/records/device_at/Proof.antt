@@ -1,3 +1,5 @@
+-- `request::records::device_at` meets its contract.
+-- Assumes nothing.
 use borrow.Author.Needs.{needs}
 use Rattle.request.proofs.records.device_at.Statement.{statement}
 use Rattle.request.proofs.records.device_at.Tie as tie

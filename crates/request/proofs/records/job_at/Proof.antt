@@ -1,3 +1,5 @@
+-- `request::records::job_at` meets its contract.
+-- Assumes nothing.
 use borrow.Author.Needs.{needs}
 use Rattle.request.proofs.records.job_at.Statement.{statement}
 use Rattle.request.proofs.records.job_at.Tie as tie

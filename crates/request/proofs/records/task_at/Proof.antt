@@ -1,3 +1,5 @@
+-- `request::records::task_at` meets its contract.
+-- Assumes nothing.
 use borrow.Author.Needs.{needs}
 use Rattle.request.proofs.records.task_at.Statement.{statement}
 use Rattle.request.proofs.records.task_at.Tie as tie

@@ -1,3 +1,5 @@
+-- `request::sections::fault_of` meets its contract.
+-- Assumes nothing.
 use Rattle.base.proofs.Paths.{paths}
 use mathlib.Core.Path.{sym, _∙_}
 use native.Mathlib.Omega.{arith}

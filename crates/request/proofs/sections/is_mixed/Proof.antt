@@ -1,3 +1,5 @@
+-- `request::sections::is_mixed` meets its contract.
+-- Assumes nothing.
 use borrow.Author.Needs.{needs}
 use borrow.Author.Tests.{eq-eqb, ne-eqb}
 use Rattle.request.specs.Format.{mixed}

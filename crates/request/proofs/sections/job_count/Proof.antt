@@ -1,3 +1,5 @@
+-- `request::sections::job_count` meets its contract.
+-- Assumes nothing.
 use borrow.Author.Tests.{eq-eqb, ne-eqb}
 use native.Mathlib.Omega.{arith}
 use Rattle.request.specs.Format.{countOf}

@@ -1,3 +1,5 @@
+-- `request::sections::job_records` meets its contract.
+-- Assumes nothing.
 use borrow.Author.Needs.{needs}
 use native.Mathlib.Omega.{arith}
 use Rattle.base.proofs.Paths.{paths}

@@ -1,3 +1,5 @@
+-- `request::sections::job_section` meets its contract.
+-- Assumes nothing.
 use borrow.Author.Needs.{needs}
 use Rattle.base.proofs.Paths.{paths}
 use Rattle.request.specs.Format.{jobSection}

@@ -1,3 +1,5 @@
+-- `request::sections::task_section` meets its contract.
+-- Assumes nothing.
 use Rattle.base.proofs.Paths.{paths}
 use native.Mathlib.Omega.{arith}
 use Rattle.request.specs.Format.{taskSection}

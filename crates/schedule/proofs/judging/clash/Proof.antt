@@ -1,3 +1,5 @@
+-- `schedule::judging::clash` meets its contract.
+-- Assumes nothing.
 use borrow.Author.Needs.{needs}
 use Rattle.base.proofs.Paths.{paths}
 use Rattle.schedule.specs.Judging.{clashes}

@@ -1,17 +1,16 @@
-use mathlib.Core.Path.{_≡_, refl, sym, _∙_}
-use Prim.Native.Nat.{ℕ, _≤_, _<_, _+_, _-_}
+-- `schedule::judging::first_missed` meets its contract.
+-- Assumes nothing.
+use mathlib.Core.Path.{sym, _∙_}
+use Prim.Native.Nat.{_≤_, _-_}
 use native.Mathlib.Omega.{arith}
 use borrow.Author.Count.{below-none, below-more}
 use borrow.Author.Needs.{needs}
 use Rattle.schedule.specs.Quantities.{jobs}
-use Rattle.schedule.specs.Listing.{Met, Released, InTime}
+use Rattle.schedule.specs.Listing.{Met}
 use Rattle.schedule.specs.Judging.{missed, met}
 use Rattle.schedule.proofs.Judgements.{holding, window-missed, window-met}
 use Rattle.schedule.proofs.judging.first_missed.Statement.{statement}
 use Rattle.schedule.proofs.judging.first_missed.Tie as tie
-use Rattle.schedule.proofs.judging.first_missed.Reads as reads
-use Rattle.schedule.proofs.judging.first_missed.Lts as lts
-use Rattle.schedule.proofs.judging.window_fault.Reads as window-fault-reads
 
 abbrev Inv-loop : tie.InvT-loop
 Inv-loop starts jobs j₀ j = (j ≤ jobs .count) × Met (holding jobs) starts j
@@ -19,47 +18,36 @@ Inv-loop starts jobs j₀ j = (j ≤ jobs .count) × Met (holding jobs) starts j
 abbrev μ-loop : tie.MeasureT-loop
 μ-loop starts jobs j₀ j = jobs .count - j
 
--- src/judging.rt:37:5
 loop-holds : tie.Need-loop-holds Inv-loop μ-loop
 loop-holds c = (omega arith, below-none _)
 
--- src/judging.rt:38:19
 mul-job : tie.Need-mul-job Inv-loop μ-loop
 mul-job c = omega (arith, c .before .before .before .before .pre)
 
--- src/judging.rt:38:19
 element-copy-out-job : tie.Need-element-copy-out-job Inv-loop μ-loop
 element-copy-out-job c = omega (arith, c .before .before .before .before .pre)
 
--- src/judging.rt:39:70
 mul-window-fault : tie.Need-mul-window-fault Inv-loop μ-loop
 mul-window-fault c = omega (arith, c .before .before .before .before .before .pre)
 
--- src/judging.rt:39:70
 shared-slice-read-window-fault : tie.Need-shared-slice-read-window-fault Inv-loop μ-loop
 shared-slice-read-window-fault c = omega (arith, c .before .before .before .before .before .before .pre)
 
--- src/judging.rt:39:13
 window-fault-requires : tie.Need-window-fault-requires Inv-loop μ-loop
 window-fault-requires c κs = search needs
 
--- src/judging.rt:41:13
 returns : tie.Need-returns Inv-loop μ-loop
 returns c = let l = c .before .before .before .before .before .loop in missed (window-missed _ _ _ _ (omega arith) (l .inv .1) (c .before .window-fault .ensures) (c .if1 .taken))
 
--- src/judging.rt:46:9
 add-j : tie.Need-add-j Inv-loop μ-loop
 add-j c = omega arith
 
--- src/judging.rt:37:5
 loop-less : tie.Need-loop-less Inv-loop μ-loop
 loop-less c = omega arith
 
--- src/judging.rt:37:5
 loop-again : tie.Need-loop-again Inv-loop μ-loop
 loop-again c = let l = c .before .before .before .before .before .loop in (omega arith, below-more _ _ (l .inv .1) (window-met (c .before .before .before .before .before .before .before .before .args .r) (c .before .before .before .before .before .before .before .before .args .starts .now) (l .j) (sym (c .if1 .left) ∙ c .before .window-fault .ensures)))
 
--- src/judging.rt:31:1
 returns-2 : tie.Need-returns-2 Inv-loop μ-loop
 returns-2 c = met (λ i h. c .before .loop .inv .1 i (omega arith))
 

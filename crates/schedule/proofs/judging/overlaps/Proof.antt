@@ -1,5 +1,7 @@
-use mathlib.Core.Path.{_≡_, refl, sym, _∙_}
-use Prim.Native.Nat.{ℕ, _≤_, _<_, _+_, _-_}
+-- `schedule::judging::overlaps` meets its contract.
+-- Assumes nothing.
+use mathlib.Core.Path.{sym, _∙_}
+use Prim.Native.Nat.{_≤_, _<_, _-_}
 use native.Mathlib.Omega.{arith}
 use borrow.Author.Count.{below-none, below-more}
 use borrow.Author.Needs.{needs}
@@ -8,9 +10,6 @@ use Rattle.schedule.specs.Judging.{holds, fails}
 use Rattle.schedule.proofs.Judgements.{holding, Apart, apart-none, clash-overlaps, clash-apart}
 use Rattle.schedule.proofs.judging.overlaps.Statement.{statement}
 use Rattle.schedule.proofs.judging.overlaps.Tie as tie
-use Rattle.schedule.proofs.judging.overlaps.Reads as reads
-use Rattle.schedule.proofs.judging.overlaps.Lts as lts
-use Rattle.schedule.proofs.judging.clash.Reads as clash-reads
 
 abbrev Inv-loop : tie.InvT-loop
 Inv-loop starts j jobs own i₀ i = (i ≤ jobs .count) × Apart (holding jobs) starts j i
@@ -18,63 +17,48 @@ Inv-loop starts j jobs own i₀ i = (i ≤ jobs .count) × Apart (holding jobs) 
 abbrev μ-loop : tie.MeasureT-loop
 μ-loop starts j jobs own i₀ i = jobs .count - i
 
--- src/judging.rt:73:15
 mul-own : tie.Need-mul-own Inv-loop μ-loop
 mul-own c = omega (arith, c .before .before .pre .0)
 
--- src/judging.rt:73:15
 element-copy-out-own : tie.Need-element-copy-out-own Inv-loop μ-loop
 element-copy-out-own c = omega (arith, c .before .before .pre .0)
 
--- src/judging.rt:75:5
 loop-holds : tie.Need-loop-holds Inv-loop μ-loop
 loop-holds c = (omega arith, below-none _)
 
--- src/judging.rt:76:21
 mul-other : tie.Need-mul-other Inv-loop μ-loop
 mul-other c = omega (arith, c .before .before .before .before .before .pre .0)
 
--- src/judging.rt:76:21
 element-copy-out-other : tie.Need-element-copy-out-other Inv-loop μ-loop
 element-copy-out-other c = omega (arith, c .before .before .before .before .before .pre .0)
 
--- src/judging.rt:77:21
 mul-clash : tie.Need-mul-clash Inv-loop μ-loop
 mul-clash c = omega (arith, c .before .before .before .before .before .before .pre .0)
 
--- src/judging.rt:77:21
 shared-slice-read-clash : tie.Need-shared-slice-read-clash Inv-loop μ-loop
 shared-slice-read-clash c = omega (arith, c .before .before .before .before .before .before .before .pre)
 
--- src/judging.rt:77:46
 mul-clash-2 : tie.Need-mul-clash-2 Inv-loop μ-loop
 mul-clash-2 c = omega (arith, c .before .before .before .before .before .before .before .pre .0)
 
--- src/judging.rt:77:46
 shared-slice-read-clash-2 : tie.Need-shared-slice-read-clash-2 Inv-loop μ-loop
 shared-slice-read-clash-2 c = omega (arith, c .before .before .before .before .before .before .before .before .pre)
 
--- src/judging.rt:77:12
 clash-requires : tie.Need-clash-requires Inv-loop μ-loop
 clash-requires c κs = search needs
 
--- src/judging.rt:78:13
 returns : tie.Need-returns Inv-loop μ-loop
 returns c = let p = c .before .before .before .before .before .before .before .before .before .before .pre in let l = c .before .before .before .before .before .before .loop in let i : l .i < jobs (c .before .before .before .before .before .before .before .before .before .before .args .r) = omega arith in holds (clash-overlaps (c .before .before .before .before .before .before .before .before .before .before .args .r) (c .before .before .before .before .before .before .before .before .before .before .args .starts .now) (l .i) (c .before .before .before .before .before .before .before .before .before .before .args .j) i (p .0 .runs _ i) (p .0 .runs _ (p .2)) (sym (c .before .clash .ensures) ∙ c .if1 .taken))
 
--- src/judging.rt:80:9
 add-i : tie.Need-add-i Inv-loop μ-loop
 add-i c = omega (arith, c .before .before .before .before .before .before .before .before .before .before .pre .0)
 
--- src/judging.rt:75:5
 loop-less : tie.Need-loop-less Inv-loop μ-loop
 loop-less c = omega arith
 
--- src/judging.rt:75:5
 loop-again : tie.Need-loop-again Inv-loop μ-loop
 loop-again c = let l = c .before .before .before .before .before .before .loop in (omega arith, below-more _ _ (l .inv .1) (clash-apart (c .before .before .before .before .before .before .before .before .before .before .args .r) (c .before .before .before .before .before .before .before .before .before .before .args .starts .now) (l .i) (c .before .before .before .before .before .before .before .before .before .before .args .j) (sym (c .before .clash .ensures) ∙ c .if1 .left)))
 
--- src/judging.rt:68:1
 returns-2 : tie.Need-returns-2 Inv-loop μ-loop
 returns-2 c = fails (apart-none _ _ _ (λ i h. c .before .loop .inv .1 i (omega arith)))
 

@@ -1,12 +1,13 @@
-use mathlib.Core.Path.{_≡_, refl, sym, ap, _∙_}
+-- `schedule::margins::write_margins` meets its contract.
+-- Assumes nothing.
+use mathlib.Core.Path.{_≡_}
 use mathlib.Core.List.{_++_}
-use Prim.Native.Nat.{ℕ, _≤_, _<_, _+_, _-_, _^_}
+use Prim.Native.Nat.{_≤_, _<_, _+_, _-_, _^_}
 use native.Mathlib.Omega.{arith}
 use borrow.Author.Needs.{needs}
 use lib.ListN.{length, drop}
-use lib.IntN.{subℕ}
 use mir.Syntax.{w32}
-use mir.Val.{SFits, toZ, ofZ}
+use mir.Val.{toZ, ofZ}
 use mir.Facts.{toZ-ofZ}
 use Rattle.base.specs.Lists.{upTo}
 use Rattle.base.proofs.Arrays.{filled-none, filled-more, filled-length}
@@ -16,9 +17,6 @@ use Rattle.schedule.proofs.Judgements.{holding}
 use Rattle.schedule.proofs.Signs.{difference-fits}
 use Rattle.schedule.proofs.margins.write_margins.Statement.{statement}
 use Rattle.schedule.proofs.margins.write_margins.Tie as tie
-use Rattle.schedule.proofs.margins.write_margins.Reads as reads
-use Rattle.schedule.proofs.margins.write_margins.Lts as lts
-use Rattle.schedule.proofs.margins.margin_of.Reads as margin-of-reads
 
 abbrev Inv-loop : tie.InvT-loop
 Inv-loop starts out₀ jobs j₀ out j = (j ≤ jobs .count) × (jobs .count ≤ length out₀) × (out ≡ upTo (margin (holding jobs) starts) j ++ drop j out₀)
@@ -38,55 +36,42 @@ stored c =
     let e : start s j + run R j < 2 ^ 31 = omega (arith, valid .fits j l, valid .ends j l, c .before .shared-slice-known2 .given j) in
     rw (c .margin-of .ensures) (toZ-ofZ (difference-fits (deadline R j) (start s j + run R j) d e))
 
--- src/margins.rt:26:5
 loop-holds : tie.Need-loop-holds Inv-loop μ-loop
 loop-holds c = (omega arith, c .before .before .pre .2, filled-none _ _)
 
--- src/margins.rt:27:19
 mul-job : tie.Need-mul-job Inv-loop μ-loop
 mul-job c = omega (arith, c .before .before .before .before .pre .0)
 
--- src/margins.rt:27:19
 element-copy-out-job : tie.Need-element-copy-out-job Inv-loop μ-loop
 element-copy-out-job c = omega (arith, c .before .before .before .before .pre .0)
 
--- src/margins.rt:28:42
 mul-margin-of : tie.Need-mul-margin-of Inv-loop μ-loop
 mul-margin-of c = omega (arith, c .before .before .before .before .before .pre .0)
 
--- src/margins.rt:28:42
 shared-slice-read-margin-of : tie.Need-shared-slice-read-margin-of Inv-loop μ-loop
 shared-slice-read-margin-of c = omega (arith, c .before .before .before .before .before .before .pre)
 
--- src/margins.rt:28:18
 margin-of-requires : tie.Need-margin-of-requires Inv-loop μ-loop
 margin-of-requires c κs = search needs
 
--- src/margins.rt:28:9
 mul-t15 : tie.Need-mul-t15 Inv-loop μ-loop
 mul-t15 c = omega (arith, c .before .before .before .before .before .before .before .pre .0)
 
--- src/margins.rt:28:9
 slice-set-from-out : tie.Need-slice-set-from-out Inv-loop μ-loop
 slice-set-from-out c = let i = c .before .before .before .before .loop .inv in omega (arith, filled-length _ (c .before .before .before .before .loop .out) (c .before .before .before .before .before .before .before .args .out .now) (c .before .before .before .before .loop .j) (i .2) (omega arith))
 
--- src/margins.rt:29:9
 add-j : tie.Need-add-j Inv-loop μ-loop
 add-j c = omega (arith, c .before .before .before .before .before .before .before .pre .0)
 
--- src/margins.rt:26:5
 loop-less : tie.Need-loop-less Inv-loop μ-loop
 loop-less c = omega arith
 
--- src/margins.rt:26:5
 loop-again : tie.Need-loop-again Inv-loop μ-loop
 loop-again c = let i = c .before .before .before .before .loop .inv in (omega arith, i .1, filled-more _ _ _ _ _ (i .2) (omega arith) (stored c))
 
--- src/margins.rt:20:1
 same-length : tie.Need-same-length Inv-loop μ-loop
 same-length c = let i = c .before .loop .inv in filled-length _ _ _ _ (i .2) (omega arith)
 
--- src/margins.rt:20:1
 returns : tie.Need-returns Inv-loop μ-loop
 returns c = let i = c .before .loop .inv in let e : c .before .loop .j ≡ jobs (c .before .before .before .before .args .r) = omega arith in rw (i .2, e)
 

@@ -1,22 +1,17 @@
-use mathlib.Core.Path.{_≡_, refl, sym, ap, _∙_}
-use Prim.Native.Nat.{ℕ, _≤_, _<_, _+_, _-_, _*_}
+-- `schedule::rows::plan_energy` meets its contract.
+-- Assumes nothing.
+use mathlib.Core.Path.{_≡_, refl, ap, _∙_}
+use Prim.Native.Nat.{ℕ, _≤_, _-_, _*_}
 use native.Mathlib.Omega.{arith}
-use borrow.Author.Needs.{needs}
 use Rattle.base.specs.Sums.{sum}
-use Rattle.base.proofs.Additions.{sum-more, sum-most}
-use Rattle.device.specs.Row.{energyOf, pattern}
-use Rattle.device.specs.Uses.{usedIn}
-use Rattle.schedule.specs.declared.Recorder.{Recorder}
+use Rattle.base.proofs.Additions.{sum-more}
+use Rattle.device.specs.Row.{energyOf}
 use Rattle.schedule.specs.Quantities.{device}
 use Rattle.schedule.specs.Listing.{usesOf}
 use Rattle.schedule.specs.Visiting.{planEnergy}
 use Rattle.schedule.proofs.Usage.{pattern-uses}
 use Rattle.schedule.proofs.rows.plan_energy.Statement.{statement}
 use Rattle.schedule.proofs.rows.plan_energy.Tie as tie
-use Rattle.schedule.proofs.rows.plan_energy.Reads as reads
-use Rattle.schedule.proofs.rows.plan_energy.Lts as lts
-use Rattle.device.proofs.energy_of.Reads as energy-of-reads
-use Rattle.schedule.proofs.using.uses_of.Reads as uses-of-reads
 
 abbrev Inv-loop : tie.InvT-loop
 Inv-loop r starts devices sum₀ k₀ made k = (k ≤ r .devices .count) × (made ≡ sum k (λ k. energyOf (device r k) (usesOf r starts k))) × (made ≤ 268431360 * k)
@@ -24,39 +19,30 @@ Inv-loop r starts devices sum₀ k₀ made k = (k ≤ r .devices .count) × (mad
 abbrev μ-loop : tie.MeasureT-loop
 μ-loop r starts devices sum₀ k₀ made k = r .devices .count - k
 
--- src/rows.rt:22:5
 loop-holds : tie.Need-loop-holds Inv-loop μ-loop
 loop-holds c = (omega arith, refl, omega arith)
 
--- src/rows.rt:23:13
 uses-of-requires : tie.Need-uses-of-requires Inv-loop μ-loop
 uses-of-requires c κs = let p = c .before .before .before .before .pre in (p .0, p .1, omega arith)
 
--- src/rows.rt:24:26
 mul-energy-of : tie.Need-mul-energy-of Inv-loop μ-loop
 mul-energy-of c = omega (arith, c .before .before .before .before .before .pre .0)
 
--- src/rows.rt:24:26
 element-copy-out-energy-of : tie.Need-element-copy-out-energy-of Inv-loop μ-loop
 element-copy-out-energy-of c = omega (arith, c .before .before .before .before .before .pre .0)
 
--- src/rows.rt:24:16
 energy-of-requires : tie.Need-energy-of-requires Inv-loop μ-loop
 energy-of-requires c κs = c .before .uses-of .ensures .spaced
 
--- src/rows.rt:24:9
 add-sum : tie.Need-add-sum Inv-loop μ-loop
 add-sum c = omega (arith, c .before .before .before .before .before .before .before .pre .0, c .energy-of .ensures .1)
 
--- src/rows.rt:25:9
 add-k : tie.Need-add-k Inv-loop μ-loop
 add-k c = omega (arith, c .before .before .before .before .before .before .before .pre .0)
 
--- src/rows.rt:22:5
 loop-less : tie.Need-loop-less Inv-loop μ-loop
 loop-less c = omega arith
 
--- src/rows.rt:22:5
 loop-again : tie.Need-loop-again Inv-loop μ-loop
 loop-again c =
     let R = c .before .before .before .before .before .before .before .args .r in
@@ -65,7 +51,6 @@ loop-again c =
     let here : c .energy-of .result ≡ energyOf (device R k) (usesOf R s k) = c .energy-of .ensures .0 ∙ ap (energyOf (device R k)) (pattern-uses (c .before .before .uses-of .ensures)) in
     (omega arith, omega (arith, here, c .before .before .before .before .loop .inv .1, sum-more k (λ i. energyOf (device R i) (usesOf R s i))), omega (arith, c .before .before .before .before .before .before .before .pre .0, c .energy-of .ensures .1))
 
--- src/rows.rt:15:1
 returns : tie.Need-returns Inv-loop μ-loop
 unfolding planEnergy
 returns c =

@@ -1,10 +1,11 @@
-use mathlib.Core.Path.{_≡_, refl, sym, ap, _∙_}
+-- `schedule::rows::write_rows` meets its contract.
+-- Assumes nothing.
+use mathlib.Core.Path.{_≡_, ap, _∙_}
 use mathlib.Core.Bool.{Bool}
 use mathlib.Core.List.{List, _++_, map}
-use Prim.Native.Nat.{ℕ, _≤_, _<_, _+_, _-_, _*_}
+use Prim.Native.Nat.{ℕ, _≤_, _+_, _-_, _*_}
 use native.Mathlib.Nat.{mul-le-mul-right, mul-le-mul}
 use native.Mathlib.Omega.{arith}
-use borrow.Author.Needs.{needs}
 use lib.ListN.{length, take, drop, length-take, length-drop}
 use Rattle.device.specs.Row.{byteOf, rowOf}
 use Rattle.device.proofs.Parts.{Written, written-length}
@@ -15,10 +16,6 @@ use Rattle.schedule.proofs.Laying.{laid-none, laid-row}
 use Rattle.schedule.proofs.Usage.{pattern-uses}
 use Rattle.schedule.proofs.rows.write_rows.Statement.{statement}
 use Rattle.schedule.proofs.rows.write_rows.Tie as tie
-use Rattle.schedule.proofs.rows.write_rows.Reads as reads
-use Rattle.schedule.proofs.rows.write_rows.Lts as lts
-use Rattle.device.proofs.write_row.Reads as write-row-reads
-use Rattle.schedule.proofs.using.uses_of.Reads as uses-of-reads
 
 abbrev Inv-loop : tie.InvT-loop
 Inv-loop r starts out₀ devices h k₀ out k = (k ≤ r .devices .count) × Written out₀ (k * r .horizon) (laid (planRow r starts) k) out
@@ -40,63 +37,48 @@ roomy c =
     let most : k * h ≤ 8 * 4096 = mul-le-mul few (s .pre .0 .few-ticks) in
     omega (arith, s .pre .2)
 
--- src/rows.rt:36:13
 cast-h : tie.Need-cast-h Inv-loop μ-loop
 cast-h c = omega (arith, c .before .before .before .before .pre .0)
 
--- src/rows.rt:38:5
 loop-holds : tie.Need-loop-holds Inv-loop μ-loop
 loop-holds c = (omega arith, laid-none (c .before .before .before .before .args .r) (c .before .before .before .before .args .starts .now) (c .before .before .before .before .args .out .now))
 
--- src/rows.rt:39:13
 uses-of-requires : tie.Need-uses-of-requires Inv-loop μ-loop
 uses-of-requires c κs = let p = c .before .before .before .before .before .before .pre in (p .0, p .1, omega arith)
 
--- src/rows.rt:40:18
 mul-at : tie.Need-mul-at Inv-loop μ-loop
 mul-at c = omega (arith, roomy (c .before))
 
--- src/rows.rt:41:19
 mul-write-row : tie.Need-mul-write-row Inv-loop μ-loop
 mul-write-row c = omega (arith, c .before .before .before .before .before .before .before .pre .0)
 
--- src/rows.rt:41:19
 element-copy-out-write-row : tie.Need-element-copy-out-write-row Inv-loop μ-loop
 element-copy-out-write-row c = omega (arith, c .before .before .before .before .before .before .before .pre .0)
 
--- src/rows.rt:41:53
 sub-write-row : tie.Need-sub-write-row Inv-loop μ-loop
 sub-write-row c = omega (arith, roomy (c .before .before))
 
--- src/rows.rt:41:53
 part-write-row-start : tie.Need-part-write-row-start Inv-loop μ-loop
 part-write-row-start c = omega (arith, roomy (c .before .before))
 
--- src/rows.rt:41:53
 part-write-row-end : tie.Need-part-write-row-end Inv-loop μ-loop
 part-write-row-end c = omega (arith, roomy (c .before .before))
 
--- src/rows.rt:41:9
 write-row-requires : tie.Need-write-row-requires Inv-loop μ-loop
 write-row-requires c κs = (c .before .before .uses-of .ensures .spaced, simp (length-take, length-drop) (omega (arith, roomy (c .before .before .before))))
 
--- src/rows.rt:42:9
 add-k : tie.Need-add-k Inv-loop μ-loop
 add-k c = omega (arith, c .before .before .before .before .before .before .before .before .before .before .before .before .pre .0)
 
--- src/rows.rt:38:5
 loop-less : tie.Need-loop-less Inv-loop μ-loop
 loop-less c = omega arith
 
--- src/rows.rt:38:5
 loop-again : tie.Need-loop-again Inv-loop μ-loop
 loop-again c = (omega arith, laid-row (c .before .before .before .before .before .before .before .before .before .before .before .before .args .r) (c .before .before .before .before .before .before .before .before .before .before .before .before .args .starts .now) (c .before .before .before .before .before .before .before .loop .k) (c .before .before .before .before .before .before .before .loop .inv .1) (roomy (c .before .before .before .before .before .before) .0) (c .before .before .write-row .last .1 .1 .1 .0) (c .before .before .write-row .ensures ∙ ap (λ (u : List Bool). map byteOf (rowOf (device (c .before .before .before .before .before .before .before .before .before .before .before .before .args .r) (c .before .before .before .before .before .before .before .loop .k)) u) ++ drop (c .before .before .before .before .before .before .before .before .before .before .before .before .args .r .horizon) (take (length (c .before .before .before .before .before .before .before .loop .out) - c .before .before .before .before .before .before .before .loop .k * c .before .before .before .before .before .before .before .before .before .before .before .before .args .r .horizon) (drop (c .before .before .before .before .before .before .before .loop .k * c .before .before .before .before .before .before .before .before .before .before .before .before .args .r .horizon) (c .before .before .before .before .before .before .before .loop .out)))) (pattern-uses (c .before .before .before .before .before .uses-of .ensures))))
 
--- src/rows.rt:31:1
 same-length : tie.Need-same-length Inv-loop μ-loop
 same-length c = written-length (c .before .loop .inv .1) (omega (arith, mul-le-mul-right (c .before .before .before .before .before .before .args .r .horizon) (c .before .loop .inv .0), c .before .before .before .before .before .before .pre .2))
 
--- src/rows.rt:31:1
 returns : tie.Need-returns Inv-loop μ-loop
 returns c = let R = c .before .before .before .before .before .before .args .r in let all : c .before .loop .k ≡ R .devices .count = omega arith in c .before .loop .inv .1 .is ∙ ap (λ (n : ℕ). laid (planRow R (c .before .before .before .before .before .before .args .starts .now)) n ++ drop (n * R .horizon) (c .before .before .before .before .before .before .args .out .now)) all
 
