@@ -1,3 +1,5 @@
+pub mod Shapes
+pub mod Cells
 pub mod Flags
 pub mod Charging
 pub mod Entry

@@ -14,7 +14,9 @@ use Rattle.visit.specs.declared.Tally.{Tally}
 use Rattle.visit.specs.declared.Run.{Run}
 use Rattle.visit.specs.declared.Entered.{Entered}
 use Rattle.schedule.specs.Quantities.{Valid, jobs, run}
-use Rattle.visit.specs.Steps.{flagged, cutA, charged, counting, opens, noted, enteredAt, earliest, span, child, placeAt, tryStart, tryJob, visitOf, capped, Settled, Kept}
+use lib.ListN.{set}
+use lib.Seq.{set-set}
+use Rattle.visit.specs.Steps.{flagged, cutA, charged, counting, opens, noted, enteredAt, earliest, span, child, openFor, placeAt, tryStart, tryJob, visitOf, capped, Settled, Kept}
 use Rattle.visit.proofs.Budget.{Grows, each-grows, going, capped-within}
 use Rattle.visit.proofs.Charging.{charged-alike, charged-settled}
 
@@ -144,3 +146,37 @@ unfolding tryStart
 child-is R v j s c k p x b r e ec es h =
     let f : p ≡ child R v j k = e ∙ ap (λ (z : ℕ). placeAt v j s z) ec ∙ ap (λ (z : ℕ). placeAt v j z (run R j)) es in
     h ∙ ap (λ (q : Vertex). capped b (visitOf R (q .left) q x)) f
+
+-- ---- the children that place the same job
+
+-- x is a child of v that places job j, at any start.
+pub record Placing (v : Vertex) (j : ℕ) (x : Vertex) : Type 0 where
+  pub left : x .left ≡ v .left - 1
+  pub placed : x .placed ≡ set (v .placed) j true
+  pub starts : (s : ℕ) → set (x .starts) j s ≡ set (v .starts) j s
+  pub last : x .last ≡ j
+  pub ends : x .ends ≡ v .ends
+  pub paid : x .paid ≡ v .paid
+
+-- x with its start set to s, where the job runs for c ticks.
+abbrev pub startedAt : Vertex → ℕ → ℕ → ℕ → Vertex
+startedAt x j s c =
+    record { time = s + c; left = x .left; placed = x .placed; starts = set (x .starts) j s; last = x .last; ends = x .ends; paid = x .paid }
+
+pub placing-open : (v : Vertex) (j : ℕ) (x : Vertex) → x ≡ openFor v j → Placing v j x
+placing-open v j x e = rw e (record { left = refl; placed = refl; starts = λ s. refl; last = refl; ends = refl; paid = refl })
+
+module _ (v : Vertex) (j : ℕ) (x : Vertex) (p : Placing v j x) (s c : ℕ) where
+  pub placing-start : startedAt x j s c ≡ placeAt v j s c
+  placing-start = rw (p .left, p .placed, p .starts s, p .last, p .ends, p .paid)
+
+  pub placing-on : Placing v j (startedAt x j s c)
+  placing-on =
+      record {
+        left = p .left;
+        placed = p .placed;
+        starts = λ y. set-set (x .starts) j s y ∙ p .starts y;
+        last = p .last;
+        ends = p .ends;
+        paid = p .paid;
+      }

@@ -186,6 +186,19 @@ placeAt v j s c =
       paid = v .paid;
     }
 
+-- v with job j placed and its start still to be set.
+abbrev pub openFor : Vertex → ℕ → Vertex
+openFor v j =
+    record {
+      time = v .time;
+      left = v .left - 1;
+      placed = set (v .placed) j true;
+      starts = v .starts;
+      last = j;
+      ends = v .ends;
+      paid = v .paid;
+    }
+
 abbrev pub child : Recorder → Vertex → ℕ → ℕ → Vertex
 child R v j k = placeAt v j (earliest R v j + k) (run R j)
 

@@ -1,4 +1,4 @@
--- `schedule::search::enter` meets its contract. Each way out is one law of Entry.
+-- `visit::enter` meets its contract. Each way out is one law of Entry.
 -- Assumes nothing.
 use borrow.Author.Needs.{needs}
 use Rattle.visit.proofs.Charging.{charged-settled}

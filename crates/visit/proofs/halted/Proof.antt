@@ -1,4 +1,4 @@
--- `schedule::search::halted` meets its contract.
+-- `visit::halted` meets its contract.
 -- Assumes nothing.
 use mathlib.Core.Path.{ap}
 use borrow.Author.Needs.{needs}

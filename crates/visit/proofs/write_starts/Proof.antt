@@ -1,4 +1,4 @@
--- `schedule::search::write_starts` meets its contract. The loop's invariant: the list is what the turns so far stored.
+-- `visit::write_starts` meets its contract. The loop's invariant: the list is what the turns so far stored.
 -- Assumes nothing.
 use mathlib.Core.Path.{_≡_, refl}
 use Prim.Native.Nat.{_≤_, _-_}

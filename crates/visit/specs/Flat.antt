@@ -1,0 +1,44 @@
+-- The recorder laid flat: sixteen rows of sixteen numbers, which the search lends, so that nothing of it is copied at a vertex.
+-- Rows 0 to 2 hold each job's release, deadline and running time; rows 3 to 10, one for each device, 1 for a job that uses it and 0 for another;
+-- rows 11 to 14 each device's transition time, which has one byte, and its powers Pw, Ps and P0; row 15 the horizon and the numbers of jobs and of devices.
+-- Assumes nothing.
+use mathlib.Core.Bool.{false, cond}
+use mathlib.Core.List.{List}
+use Prim.Native.Nat.{ℕ, _+_, _-_, _*_, _%_}
+use lib.Dec.{eqb, ltb}
+use lib.ListN.{getD}
+use Rattle.base.specs.Lists.{upTo}
+use Rattle.device.specs.declared.Device.{Device}
+use Rattle.schedule.specs.declared.Job.{Job}
+use Rattle.schedule.specs.declared.Recorder.{Recorder}
+use Rattle.schedule.specs.Quantities.{job, device}
+
+abbrev pub cell : List ℕ → ℕ → ℕ → ℕ
+cell l i k = getD l (16 * i + k) 0
+
+unfoldable pub jobAt : List ℕ → ℕ → Job
+jobAt l j = record { release = cell l 0 j; deadline = cell l 1 j; run = cell l 2 j; uses = upTo (λ k. eqb (cell l (3 + k) j) 1) 8 }
+
+unfoldable pub deviceAt : List ℕ → ℕ → Device
+deviceAt l k = record { t = cell l 11 k % 256; pw = cell l 12 k; ps = cell l 13 k; p0 = cell l 14 k }
+
+unfoldable pub recorderIn : List ℕ → Recorder
+recorderIn l =
+    record {
+      horizon = cell l 15 0;
+      devices = record { count = cell l 15 2; list = upTo (deviceAt l) 8 };
+      jobs = record { count = cell l 15 1; list = upTo (jobAt l) 16 };
+    }
+
+-- What a job has in its column, and what a device has in its.
+unfoldable pub jobNumber : Job → ℕ → ℕ
+jobNumber j i = cond (eqb i 0) (j .release) (cond (eqb i 1) (j .deadline) (cond (eqb i 2) (j .run) (cond (getD (j .uses) (i - 3) false) 1 0)))
+
+unfoldable pub deviceNumber : Device → ℕ → ℕ
+deviceNumber d i = cond (eqb i 11) (d .t) (cond (eqb i 12) (d .pw) (cond (eqb i 13) (d .ps) (d .p0)))
+
+-- What flat_of writes in a row and a column.
+unfoldable pub numberOf : Recorder → ℕ → ℕ → ℕ
+numberOf R i k =
+    cond (ltb i 11) (jobNumber (job R k) i)
+    (cond (ltb i 15) (cond (ltb k 8) (deviceNumber (device R k) i) 0) (cond (eqb k 0) (R .horizon) (cond (eqb k 1) (R .jobs .count) (R .devices .count))))

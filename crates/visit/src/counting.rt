@@ -1,0 +1,48 @@
+// The tally of a search: the vertices counted and the best so far.
+use crate::Best;
+use crate::Tally;
+ghost use mathlib.Core.Path.{_≡_};
+ghost use Prim.Native.Nat.{_+_, _^_, _<_};
+ghost use Rattle.visit.specs.Steps.{improves, offer, counting, bare};
+
+// Complete: it becomes the best if there is no best yet or its energy is smaller.
+fn improves_on(b: Best, e: u32) -> bool
+    ensures { λ x. ⌜ x ≡ improves b e ⌝ }
+{
+    if b.found { e < b.energy } else { true }
+}
+
+pub fn offered(b: Best, e: u32, starts: [u16; 16]) -> Best
+    ensures { λ x. ⌜ x ≡ offer b e starts ⌝ }
+{
+    if improves_on(b, e) {
+        return Best {
+            found: true,
+            energy: e,
+            starts,
+        };
+    }
+    b
+}
+
+// The tally with one vertex more.
+pub fn counted(t: Tally) -> Tally
+    requires { ⌜ t .count + 1 < 2 ^ 32 ⌝ }
+    ensures { λ x. ⌜ x ≡ counting t ⌝ }
+{
+    let mut next = t;
+    next.count = t.count + 1;
+    next
+}
+
+// A tally with no best yet.
+pub fn empty_tally(count: u32) -> Tally
+    ensures { λ x. ⌜ x ≡ bare count ⌝ }
+{
+    let best = Best {
+        found: false,
+        energy: 0,
+        starts: [0u16; 16],
+    };
+    Tally { count, best }
+}
