@@ -15,7 +15,6 @@ use Rattle.schedule.specs.declared.Jobs.{Jobs}
 use Rattle.schedule.specs.declared.Devices.{Devices}
 use Rattle.schedule.specs.declared.Recorder.{Recorder}
 use Rattle.visit.specs.declared.Vertex.{Vertex}
-use Rattle.visit.specs.declared.Fit.{Fit}
 use Rattle.visit.specs.declared.Best.{Best}
 use Rattle.visit.specs.declared.Tally.{Tally}
 use Rattle.visit.specs.declared.Run.{Run}
@@ -56,9 +55,6 @@ addLoad J m j = loadStep (flagged m j) (jobIn J j .run)
 
 unfoldable pub load : Jobs → List Bool → ℕ
 load J m = each (addLoad J m) (J .count) 0
-
-abbrev pub fitOf : Jobs → ℕ → List Bool → Fit
-fitOf J t m = record { late = late J t m; load = load J m }
 
 abbrev pub addAhead : Jobs → List Bool → ℕ → ℕ → ℕ → ℕ
 addAhead J m k j = aheadStep (flagged m j) (getD (jobIn J j .uses) k false) (jobIn J j .run)

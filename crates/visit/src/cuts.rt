@@ -1,6 +1,5 @@
 // Cut A, the floor and cut B. The sums over the unplaced jobs are made anew at every vertex.
 use crate::Best;
-use crate::Fit;
 use crate::Vertex;
 use crate::flat::Flat;
 use crate::flat::deadline_of;
@@ -15,35 +14,41 @@ use crate::numbers::earliest_of;
 use crate::numbers::wide;
 use device::Device;
 ghost use mathlib.Core.Path.{_≡_};
-ghost use Prim.Native.Nat.{_+_, _*_, _<_, _≤_};
+ghost use Prim.Native.Nat.{_+_, _*_, _<_, _≤_, max};
+ghost use lib.Dec.{ltb};
 ghost use Rattle.schedule.specs.Quantities.{Valid, jobs};
 ghost use Rattle.visit.specs.Flat.{recorderIn};
-ghost use Rattle.visit.specs.Steps.{lateStep, loadStep, fitOf, load, aheadStep, ahead, cutA, floorStep, floor, cutB, Settled};
+ghost use Rattle.visit.specs.Steps.{load, aheadStep, ahead, cutA, floorStep, floor, cutB, Settled};
 
-// Whether this job, or one before it, can no longer meet its deadline.
-fn late_with(placed: bool, t: u16, a: u16, d: u16, c: u16, found: bool) -> bool
-    ensures { λ x. ⌜ x ≡ lateStep placed t a d c found ⌝ }
+// Whether a job of release a, deadline d and running time c can no longer meet its deadline at the time t.
+fn is_late(t: u16, a: u16, d: u16, c: u16) -> bool
+    ensures { λ x. ⌜ x ≡ ltb d (max t a + c) ⌝ }
 {
-    if placed {
-        return found;
-    }
-    if wide(d) < earliest_of(t, a) + wide(c) {
-        return true;
-    }
-    found
+    wide(d) < earliest_of(t, a) + wide(c)
 }
 
-// The sum with this job's running time, if it is unplaced; and the same for the jobs that use a device.
-fn load_with(placed: bool, c: u16, sum: u32) -> u32
-    requires { ⌜ sum < 2000000 ⌝ }
-    ensures { λ x. ⌜ (x ≡ loadStep placed c sum) × (x ≤ sum + 65535) ⌝ }
+// Cut A: an unplaced job is late, or the running times of all unplaced jobs pass the horizon.
+pub fn is_cut(r: &Flat, v: Vertex) -> bool
+    requires { ⌜ Valid (recorderIn (now r)) ⌝ }
+    ensures { λ x. ⌜ x ≡ cutA (recorderIn (now (r .entry))) v ⌝ }
 {
-    if placed {
-        return sum;
+    let n = job_count(r);
+    let mut load: u32 = 0;
+    let mut j = 0;
+    while j < n {
+        if !v.placed[j] {
+            let c = run_of(r, j);
+            if is_late(v.time, release_of(r, j), deadline_of(r, j), c) {
+                return true;
+            }
+            load += wide(c);
+        }
+        j += 1;
     }
-    sum + wide(c)
+    wide(horizon_of(r)) < wide(v.time) + load
 }
 
+// The sum with this job's running time, if it is unplaced and uses a device.
 fn ahead_with(placed: bool, used: bool, c: u16, sum: u32) -> u32
     requires { ⌜ sum < 2000000 ⌝ }
     ensures { λ x. ⌜ (x ≡ aheadStep placed used c sum) × (x ≤ sum + 65535) ⌝ }
@@ -55,27 +60,6 @@ fn ahead_with(placed: bool, used: bool, c: u16, sum: u32) -> u32
         return sum + wide(c);
     }
     sum
-}
-
-// Of all unplaced jobs: whether one can no longer meet its deadline, and their running times.
-fn fit_of(r: &Flat, t: u16, placed: [bool; 16]) -> Fit
-    requires { ⌜ jobs (recorderIn (now r)) ≤ 16 ⌝ }
-    ensures { λ x. ⌜ (x ≡ fitOf (recorderIn (now (r .entry)) .jobs) t placed) × (x .load < 2000000) ⌝ }
-{
-    let n = job_count(r);
-    let mut found = false;
-    let mut sum: u32 = 0;
-    let mut j = 0;
-    while j < n {
-        let c = run_of(r, j);
-        found = late_with(placed[j], t, release_of(r, j), deadline_of(r, j), c, found);
-        sum = load_with(placed[j], c, sum);
-        j += 1;
-    }
-    Fit {
-        late: found,
-        load: sum,
-    }
 }
 
 // The ticks for which the unplaced jobs will use device k.
@@ -93,19 +77,6 @@ fn ahead_of(r: &Flat, placed: [bool; 16], k: usize) -> u32
     sum
 }
 
-// Cut A.
-pub fn is_cut(r: &Flat, v: Vertex) -> bool
-    requires { ⌜ Valid (recorderIn (now r)) ⌝ }
-    ensures { λ x. ⌜ x ≡ cutA (recorderIn (now (r .entry))) v ⌝ }
-{
-    let placed = v.placed;
-    let f = fit_of(r, v.time, placed);
-    if f.late {
-        return true;
-    }
-    wide(horizon_of(r)) < wide(v.time) + f.load
-}
-
 // The sum with device d's floor: asleep wherever no use is known.
 fn floor_with(d: Device, h: u16, paid: u32, end: u16, ahead: u32, sum: u32) -> u32
     requires { ⌜ (paid ≤ d .pw * end) × ((end + ahead ≤ h) × ((h ≤ 4096) × (sum ≤ 2000000000))) ⌝ }
@@ -116,7 +87,7 @@ fn floor_with(d: Device, h: u16, paid: u32, end: u16, ahead: u32, sum: u32) -> u
 }
 
 // The floor of a vertex.
-pub fn floor_of(r: &Flat, v: Vertex) -> u32
+fn floor_of(r: &Flat, v: Vertex) -> u32
     requires { ⌜ Valid (recorderIn (now r)) × (Settled (recorderIn (now r)) v × (v .time + load (recorderIn (now r) .jobs) (v .placed) ≤ recorderIn (now r) .horizon)) ⌝ }
     ensures { λ x. ⌜ x ≡ floor (recorderIn (now (r .entry))) v ⌝ }
 {
@@ -135,8 +106,13 @@ pub fn floor_of(r: &Flat, v: Vertex) -> u32
 }
 
 // Cut B: there is a best, and the floor is at least its energy.
-pub fn is_beaten(b: Best, floor: u32) -> bool
-    ensures { λ x. ⌜ x ≡ cutB b floor ⌝ }
+pub fn is_beaten(r: &Flat, v: Vertex, b: Best) -> bool
+    requires { ⌜ Valid (recorderIn (now r)) × (Settled (recorderIn (now r)) v × (v .time + load (recorderIn (now r) .jobs) (v .placed) ≤ recorderIn (now r) .horizon)) ⌝ }
+    ensures { λ x. ⌜ x ≡ cutB b (floor (recorderIn (now (r .entry))) v) ⌝ }
 {
-    if b.found { b.energy <= floor } else { false }
+    if b.found {
+        b.energy <= floor_of(r, v)
+    } else {
+        false
+    }
 }

@@ -20,7 +20,6 @@ use crate::costs::energy_of;
 use crate::counting::counted;
 use crate::counting::empty_tally;
 use crate::counting::offered;
-use crate::cuts::floor_of;
 use crate::cuts::is_beaten;
 use crate::cuts::is_cut;
 use crate::flat::Flat;
@@ -42,12 +41,6 @@ pub struct Vertex {
     pub last: usize,
     pub ends: [u16; 8],
     pub paid: [u32; 8],
-}
-
-// What the unplaced jobs leave of a vertex: whether one is late, and their running times.
-pub struct Fit {
-    pub late: bool,
-    pub load: u32,
 }
 
 // The best complete vertex so far, if one was found.
@@ -100,7 +93,7 @@ fn enter(r: &Flat, v: Vertex, t: Tally) -> Entered
             vertex: w,
         };
     }
-    let beaten = is_beaten(best, floor_of(r, w));
+    let beaten = is_beaten(r, w, best);
     Entered {
         further: !beaten,
         tally: next,

@@ -21,14 +21,11 @@ offered-requires c κs = search needs
 returns : tie.Need-returns
 returns c = enter-complete _ _ _ (c .before .before .before .before .before .before .before .before .pre .1 .1 .0) _ (c .before .before .before .before .before .before .charge .ensures) _ (c .before .before .before .before .before .before .before .counted .ensures) (c .before .before .before .if1 .taken) _ (c .before .energy-of .ensures) _ (c .offered .ensures)
 
-floor-of-requires : tie.Need-floor-of-requires
-floor-of-requires c κs = (c .before .before .before .before .before .pre .0, (rw (c .before .before .before .charge .ensures) (charged-settled _ _ (c .before .before .before .before .before .pre .0) (c .before .before .before .before .before .pre .1 .0)), charged-fits _ _ (c .before .before .before .before .before .pre .1 .1 .0) _ (c .before .before .before .charge .ensures)))
-
 is-beaten-requires : tie.Need-is-beaten-requires
-is-beaten-requires c κs = search needs
+is-beaten-requires c κs = (c .before .before .before .before .before .pre .0, (rw (c .before .before .before .charge .ensures) (charged-settled _ _ (c .before .before .before .before .before .pre .0) (c .before .before .before .before .before .pre .1 .0)), charged-fits _ _ (c .before .before .before .before .before .pre .1 .1 .0) _ (c .before .before .before .charge .ensures)))
 
 returns-2 : tie.Need-returns-2
-returns-2 c = enter-on _ _ _ (c .before .before .before .before .before .before .before .pre .1 .1 .0) _ (c .before .before .before .before .before .charge .ensures) _ (c .before .before .before .before .before .before .counted .ensures) (c .before .before .if1 .left) _ (c .before .floor-of .ensures) _ (c .is-beaten .ensures)
+returns-2 c = enter-on _ _ _ (c .before .before .before .before .before .before .pre .1 .1 .0) _ (c .before .before .before .before .charge .ensures) _ (c .before .before .before .before .before .counted .ensures) (c .before .if1 .left) _ (c .is-beaten .ensures)
 
 pub enter-spec : {M : Type 1} → statement M
 enter-spec =
@@ -39,6 +36,5 @@ enter-spec =
     energy-of-requires
     offered-requires
     returns
-    floor-of-requires
     is-beaten-requires
     returns-2)
