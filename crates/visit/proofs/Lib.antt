@@ -2,6 +2,7 @@ pub mod Shapes
 pub mod Cells
 pub mod Flags
 pub mod Charging
+pub mod Lateness
 pub mod Entry
 pub mod Budget
 pub mod Order

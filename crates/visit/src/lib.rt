@@ -10,10 +10,10 @@ ghost use Rattle.visit.specs.Flat.{recorderIn};
 ghost use Rattle.visit.specs.Steps.{cutA, enteredAt, openFor, tryJob, visitOf, haltedAt, capped, root, copyStart, answerOf, writtenOf, Settled, Kept};
 
 mod costs; // costs.rt: what the devices have cost
-mod cuts; // cuts.rt: cut A, the floor and cut B
-mod flat; // flat.rt: the recorder as one list of numbers
-mod numbers; // numbers.rt: sums past sixteen bits
 mod counting; // counting.rt: the count and the best so far
+mod cuts; // cuts.rt: cut A, the floor and cut B
+mod flat; // flat.rt: the recorder laid flat, to be lent
+mod numbers; // numbers.rt: sums past sixteen bits
 
 use crate::costs::charge;
 use crate::costs::energy_of;
@@ -50,6 +50,7 @@ pub struct Best {
     pub starts: [u16; 16],
 }
 
+// How many vertices were counted so far, and the best of them.
 pub struct Tally {
     pub count: u32,
     pub best: Best,

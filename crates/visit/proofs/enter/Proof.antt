@@ -2,7 +2,8 @@
 -- Assumes nothing.
 use borrow.Author.Needs.{needs}
 use Rattle.visit.proofs.Charging.{charged-settled}
-use Rattle.visit.proofs.Entry.{charged-fits, enter-complete, enter-on}
+use Rattle.visit.proofs.Lateness.{charged-fits}
+use Rattle.visit.proofs.Entry.{enter-complete, enter-on}
 use Rattle.visit.proofs.enter.Statement.{statement}
 use Rattle.visit.proofs.enter.Tie as tie
 

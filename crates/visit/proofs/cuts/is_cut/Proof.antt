@@ -7,7 +7,7 @@ use native.Mathlib.Omega.{arith}
 use borrow.Author.Needs.{needs}
 use borrow.Author.Tests.{not-true, not-false}
 use Rattle.visit.specs.Flat.{recorderIn}
-use Rattle.visit.proofs.Entry.{Timely, timely-start, timely-placed, timely-open, cut-late, cut-over}
+use Rattle.visit.proofs.Lateness.{Timely, timely-start, timely-placed, timely-open, cut-late, cut-over}
 use Rattle.visit.proofs.cuts.is_cut.Statement.{statement}
 use Rattle.visit.proofs.cuts.is_cut.Tie as tie
 
