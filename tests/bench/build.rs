@@ -13,7 +13,7 @@ fn main() {
     let library = folder.join("libbench.a");
     assert!(
         library.exists(),
-        "there is no target/staticlib/libbench.a: build it first by `rt staticlib bench`"
+        "there is no target/staticlib/libbench.a: run ./bench at the top, which builds it first"
     );
     println!("cargo:rerun-if-changed={}", library.display());
     println!("cargo:rustc-link-search=native={}", folder.display());

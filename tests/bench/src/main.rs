@@ -1,7 +1,8 @@
 //! Plans requests of some million vertices with a plain search in Rust and, if it is linked, with the
 //! proved search, and prints vertices per second of each and their ratio.
 //!
-//! `cargo run --release` runs the plain search alone, `--features proved` both.
+//! `./bench` at the top builds the proved search and runs both; `cargo run --release` here runs the
+//! plain search alone.
 
 #[cfg(feature = "proved")]
 mod proved;

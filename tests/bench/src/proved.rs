@@ -1,4 +1,4 @@
-//! The proved search, from the static library that `rt staticlib bench` builds.
+//! The proved search, from the static library that `./bench` has built by `rt staticlib bench`.
 
 use crate::Outcome;
 
