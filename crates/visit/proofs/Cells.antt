@@ -16,7 +16,7 @@ use Rattle.base.proofs.Arrays.{getD-upTo, upTo-whole}
 use Rattle.schedule.specs.declared.Job.{Job}
 use Rattle.schedule.specs.declared.Recorder.{Recorder}
 use Rattle.schedule.specs.Quantities.{job, device, release, deadline, run, uses, noJob, noDevice}
-use Rattle.visit.specs.Flat.{cell, jobAt, deviceAt, recorderIn, jobNumber, deviceNumber, numberOf}
+use Rattle.visit.specs.Flat.{cell, jobAt, deviceAt, recorderOf, jobNumber, deviceNumber, numberOf}
 use Rattle.visit.proofs.Shapes.{Shaped}
 
 -- ---- a flag as a number
@@ -32,30 +32,30 @@ number-flag false = refl
 -- ---- the recorder in any list
 
 module _ (l : List ℕ) where
-  job-at : (j : ℕ) → j < 16 → jobAt l j ≡ job (recorderIn l) j
-  unfolding recorderIn
+  job-at : (j : ℕ) → j < 16 → jobAt l j ≡ job (recorderOf l) j
+  unfolding recorderOf
   job-at j h = sym (getD-upTo (jobAt l) 16 j noJob h)
 
-  pub release-at : (j : ℕ) → j < 16 → getD l j 0 ≡ release (recorderIn l) j
+  pub release-at : (j : ℕ) → j < 16 → getD l j 0 ≡ release (recorderOf l) j
   unfolding jobAt
   release-at j h = ap (λ (i : ℕ). getD l i 0) (sym (zero-add j)) ∙ ap (λ (x : Job). x .release) (job-at j h)
 
-  pub deadline-at : (j : ℕ) → j < 16 → getD l (16 + j) 0 ≡ deadline (recorderIn l) j
+  pub deadline-at : (j : ℕ) → j < 16 → getD l (16 + j) 0 ≡ deadline (recorderOf l) j
   unfolding jobAt
   deadline-at j h = ap (λ (x : Job). x .deadline) (job-at j h)
 
-  pub run-at : (j : ℕ) → j < 16 → getD l (32 + j) 0 ≡ run (recorderIn l) j
+  pub run-at : (j : ℕ) → j < 16 → getD l (32 + j) 0 ≡ run (recorderOf l) j
   unfolding jobAt
   run-at j h = ap (λ (x : Job). x .run) (job-at j h)
 
-  pub uses-at : (k j : ℕ) → k < 8 → j < 16 → eqb (getD l (48 + 16 * k + j) 0) 1 ≡ uses (recorderIn l) k j
+  pub uses-at : (k j : ℕ) → k < 8 → j < 16 → eqb (getD l (48 + 16 * k + j) 0) 1 ≡ uses (recorderOf l) k j
   unfolding jobAt
   uses-at k j h g =
       let place : 16 * (3 + k) + j ≡ 48 + 16 * k + j = omega arith in
       rw (← job-at j g, getD-upTo (λ i. eqb (cell l (3 + i) j) 1) 8 k false h, place)
 
-  pub device-at : (k : ℕ) → k < 8 → deviceAt l k ≡ device (recorderIn l) k
-  unfolding recorderIn
+  pub device-at : (k : ℕ) → k < 8 → deviceAt l k ≡ device (recorderOf l) k
+  unfolding recorderOf
   device-at k h = sym (getD-upTo (deviceAt l) 8 k noDevice h)
 
 -- ---- sixteen rows of sixteen
@@ -103,8 +103,8 @@ module _ (R : Recorder) (s : Shaped R) where
       let p0 : held 14 k ≡ device R k .p0 = cell-grid (numberOf R) 14 k (omega arith) few ∙ simp (lt-ltb k 8 h) in
       rw (t, mod-eq-of-lt (s .t-byte k h), pw, ps, p0)
 
-  pub recorder-kept : recorderIn (grid (numberOf R)) ≡ R
-  unfolding recorderIn numberOf
+  pub recorder-kept : recorderOf (grid (numberOf R)) ≡ R
+  unfolding recorderOf numberOf
   recorder-kept =
       let h : held 15 0 ≡ R .horizon = cell-grid (numberOf R) 15 0 (omega arith) (omega arith) in
       let n : held 15 1 ≡ R .jobs .count = cell-grid (numberOf R) 15 1 (omega arith) (omega arith) in

@@ -22,8 +22,8 @@ jobAt l j = record { release = cell l 0 j; deadline = cell l 1 j; run = cell l 2
 unfoldable pub deviceAt : List ℕ → ℕ → Device
 deviceAt l k = record { t = cell l 11 k % 256; pw = cell l 12 k; ps = cell l 13 k; p0 = cell l 14 k }
 
-unfoldable pub recorderIn : List ℕ → Recorder
-recorderIn l =
+unfoldable pub recorderOf : List ℕ → Recorder
+recorderOf l =
     record {
       horizon = cell l 15 0;
       devices = record { count = cell l 15 2; list = upTo (deviceAt l) 8 };

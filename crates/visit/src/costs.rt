@@ -12,7 +12,7 @@ use device::Device;
 ghost use mathlib.Core.Path.{_≡_};
 ghost use Prim.Native.Nat.{_+_, _*_, _≤_};
 ghost use Rattle.schedule.specs.Quantities.{Valid};
-ghost use Rattle.visit.specs.Flat.{recorderIn};
+ghost use Rattle.visit.specs.Flat.{recorderOf};
 ghost use Rattle.visit.specs.Steps.{paidStep, endStep, charged, closeStep, closed, Settled, Kept};
 
 // What device d has cost once a job is charged that starts at s and runs for c ticks.
@@ -39,8 +39,8 @@ fn end_with(used: bool, end: u16, s: u16, c: u16) -> u16
 
 // The vertex with its last placed job charged to the devices that it uses. At the root there is none.
 pub fn charge(r: &Flat, v: Vertex) -> Vertex
-    requires { ⌜ Valid (recorderIn (now r)) × Kept (recorderIn (now r)) v ⌝ }
-    ensures { λ x. ⌜ x ≡ charged (recorderIn (now (r .entry))) v ⌝ }
+    requires { ⌜ Valid (recorderOf (now r)) × Kept (recorderOf (now r)) v ⌝ }
+    ensures { λ x. ⌜ x ≡ charged (recorderOf (now (r .entry))) v ⌝ }
 {
     let n = job_count(r);
     if v.left == n {
@@ -77,8 +77,8 @@ fn close_with(d: Device, h: u16, paid: u32, end: u16, sum: u32) -> u32
 
 // The energy of a complete vertex.
 pub fn energy_of(r: &Flat, v: Vertex) -> u32
-    requires { ⌜ Valid (recorderIn (now r)) × Settled (recorderIn (now r)) v ⌝ }
-    ensures { λ x. ⌜ x ≡ closed (recorderIn (now (r .entry))) v ⌝ }
+    requires { ⌜ Valid (recorderOf (now r)) × Settled (recorderOf (now r)) v ⌝ }
+    ensures { λ x. ⌜ x ≡ closed (recorderOf (now (r .entry))) v ⌝ }
 {
     let h = horizon_of(r);
     let m = device_count(r);

@@ -17,7 +17,7 @@ ghost use mathlib.Core.Path.{_≡_};
 ghost use Prim.Native.Nat.{_+_, _*_, _<_, _≤_, max};
 ghost use lib.Dec.{ltb};
 ghost use Rattle.schedule.specs.Quantities.{Valid, jobs};
-ghost use Rattle.visit.specs.Flat.{recorderIn};
+ghost use Rattle.visit.specs.Flat.{recorderOf};
 ghost use Rattle.visit.specs.Steps.{load, aheadStep, ahead, cutA, floorStep, floor, cutB, Settled};
 
 // Whether a job of release a, deadline d and running time c can no longer meet its deadline at the time t.
@@ -29,8 +29,8 @@ fn is_late(t: u16, a: u16, d: u16, c: u16) -> bool
 
 // Cut A: an unplaced job is late, or the running times of all unplaced jobs pass the horizon.
 pub fn is_cut(r: &Flat, v: Vertex) -> bool
-    requires { ⌜ Valid (recorderIn (now r)) ⌝ }
-    ensures { λ x. ⌜ x ≡ cutA (recorderIn (now (r .entry))) v ⌝ }
+    requires { ⌜ Valid (recorderOf (now r)) ⌝ }
+    ensures { λ x. ⌜ x ≡ cutA (recorderOf (now (r .entry))) v ⌝ }
 {
     let n = job_count(r);
     let mut load: u32 = 0;
@@ -64,8 +64,8 @@ fn ahead_with(placed: bool, used: bool, c: u16, sum: u32) -> u32
 
 // The ticks for which the unplaced jobs will use device k.
 fn ahead_of(r: &Flat, placed: [bool; 16], k: usize) -> u32
-    requires { ⌜ (jobs (recorderIn (now r)) ≤ 16) × (k < 8) ⌝ }
-    ensures { λ x. ⌜ x ≡ ahead (recorderIn (now (r .entry)) .jobs) placed k ⌝ }
+    requires { ⌜ (jobs (recorderOf (now r)) ≤ 16) × (k < 8) ⌝ }
+    ensures { λ x. ⌜ x ≡ ahead (recorderOf (now (r .entry)) .jobs) placed k ⌝ }
 {
     let n = job_count(r);
     let mut sum: u32 = 0;
@@ -88,8 +88,8 @@ fn floor_with(d: Device, h: u16, paid: u32, end: u16, ahead: u32, sum: u32) -> u
 
 // The floor of a vertex.
 fn floor_of(r: &Flat, v: Vertex) -> u32
-    requires { ⌜ Valid (recorderIn (now r)) × (Settled (recorderIn (now r)) v × (v .time + load (recorderIn (now r) .jobs) (v .placed) ≤ recorderIn (now r) .horizon)) ⌝ }
-    ensures { λ x. ⌜ x ≡ floor (recorderIn (now (r .entry))) v ⌝ }
+    requires { ⌜ Valid (recorderOf (now r)) × (Settled (recorderOf (now r)) v × (v .time + load (recorderOf (now r) .jobs) (v .placed) ≤ recorderOf (now r) .horizon)) ⌝ }
+    ensures { λ x. ⌜ x ≡ floor (recorderOf (now (r .entry))) v ⌝ }
 {
     let placed = v.placed;
     let h = horizon_of(r);
@@ -107,8 +107,8 @@ fn floor_of(r: &Flat, v: Vertex) -> u32
 
 // Cut B: there is a best, and the floor is at least its energy.
 pub fn is_beaten(r: &Flat, v: Vertex, b: Best) -> bool
-    requires { ⌜ Valid (recorderIn (now r)) × (Settled (recorderIn (now r)) v × (v .time + load (recorderIn (now r) .jobs) (v .placed) ≤ recorderIn (now r) .horizon)) ⌝ }
-    ensures { λ x. ⌜ x ≡ cutB b (floor (recorderIn (now (r .entry))) v) ⌝ }
+    requires { ⌜ Valid (recorderOf (now r)) × (Settled (recorderOf (now r)) v × (v .time + load (recorderOf (now r) .jobs) (v .placed) ≤ recorderOf (now r) .horizon)) ⌝ }
+    ensures { λ x. ⌜ x ≡ cutB b (floor (recorderOf (now (r .entry))) v) ⌝ }
 {
     if b.found {
         b.energy <= floor_of(r, v)

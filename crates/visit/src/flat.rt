@@ -6,26 +6,26 @@ use schedule::Recorder;
 ghost use mathlib.Core.Path.{_≡_};
 ghost use Prim.Native.Nat.{_<_};
 ghost use Rattle.schedule.specs.Quantities.{Valid, device, jobs, release, deadline, run, uses};
-ghost use Rattle.visit.specs.Flat.{recorderIn, jobNumber, deviceNumber, numberOf};
+ghost use Rattle.visit.specs.Flat.{recorderOf, jobNumber, deviceNumber, numberOf};
 
 pub type Flat = [u16; 256];
 
 pub fn horizon_of(r: &Flat) -> u16
-    ensures { λ x. ⌜ x ≡ recorderIn (now (r .entry)) .horizon ⌝ }
+    ensures { λ x. ⌜ x ≡ recorderOf (now (r .entry)) .horizon ⌝ }
 {
     r[240]
 }
 
 // The counts are read through a reference of their own, of which it is known that the number fits its type.
 pub fn job_count(r: &Flat) -> usize
-    ensures { λ x. ⌜ x ≡ jobs (recorderIn (now (r .entry))) ⌝ }
+    ensures { λ x. ⌜ x ≡ jobs (recorderOf (now (r .entry))) ⌝ }
 {
     let count = &r[241];
     *count as usize
 }
 
 pub fn device_count(r: &Flat) -> usize
-    ensures { λ x. ⌜ x ≡ recorderIn (now (r .entry)) .devices .count ⌝ }
+    ensures { λ x. ⌜ x ≡ recorderOf (now (r .entry)) .devices .count ⌝ }
 {
     let count = &r[242];
     *count as usize
@@ -33,21 +33,21 @@ pub fn device_count(r: &Flat) -> usize
 
 pub fn release_of(r: &Flat, j: usize) -> u16
     requires { ⌜ j < 16 ⌝ }
-    ensures { λ x. ⌜ x ≡ release (recorderIn (now (r .entry))) j ⌝ }
+    ensures { λ x. ⌜ x ≡ release (recorderOf (now (r .entry))) j ⌝ }
 {
     r[j]
 }
 
 pub fn deadline_of(r: &Flat, j: usize) -> u16
     requires { ⌜ j < 16 ⌝ }
-    ensures { λ x. ⌜ x ≡ deadline (recorderIn (now (r .entry))) j ⌝ }
+    ensures { λ x. ⌜ x ≡ deadline (recorderOf (now (r .entry))) j ⌝ }
 {
     r[16 + j]
 }
 
 pub fn run_of(r: &Flat, j: usize) -> u16
     requires { ⌜ j < 16 ⌝ }
-    ensures { λ x. ⌜ x ≡ run (recorderIn (now (r .entry))) j ⌝ }
+    ensures { λ x. ⌜ x ≡ run (recorderOf (now (r .entry))) j ⌝ }
 {
     r[32 + j]
 }
@@ -55,14 +55,14 @@ pub fn run_of(r: &Flat, j: usize) -> u16
 // Whether job j uses device k.
 pub fn is_used(r: &Flat, k: usize, j: usize) -> bool
     requires { ⌜ (k < 8) × (j < 16) ⌝ }
-    ensures { λ x. ⌜ x ≡ uses (recorderIn (now (r .entry))) k j ⌝ }
+    ensures { λ x. ⌜ x ≡ uses (recorderOf (now (r .entry))) k j ⌝ }
 {
     r[48 + 16 * k + j] == 1
 }
 
 pub fn device_of(r: &Flat, k: usize) -> Device
     requires { ⌜ k < 8 ⌝ }
-    ensures { λ x. ⌜ x ≡ device (recorderIn (now (r .entry))) k ⌝ }
+    ensures { λ x. ⌜ x ≡ device (recorderOf (now (r .entry))) k ⌝ }
 {
     Device {
         t: (r[176 + k] % 256) as u8,
@@ -132,7 +132,7 @@ fn number_of(r: Recorder, row: usize, column: usize) -> u16
 
 pub fn flat_of(r: Recorder) -> Flat
     requires { ⌜ Valid r ⌝ }
-    ensures { λ x. ⌜ recorderIn x ≡ r ⌝ }
+    ensures { λ x. ⌜ recorderOf x ≡ r ⌝ }
 {
     let mut flat = [0u16; 256];
     let mut i = 0;

@@ -6,7 +6,7 @@ ghost use Prim.Native.Nat.{_+_, _-_, _^_, _<_, _≤_};
 ghost use lib.ListN.{length};
 ghost use Rattle.base.specs.Loops.{each};
 ghost use Rattle.schedule.specs.Quantities.{Valid, jobs};
-ghost use Rattle.visit.specs.Flat.{recorderIn};
+ghost use Rattle.visit.specs.Flat.{recorderOf};
 ghost use Rattle.visit.specs.Steps.{cutA, enteredAt, openFor, tryJob, visitOf, haltedAt, capped, root, copyStart, answerOf, writtenOf, Settled, Kept};
 
 mod costs; // costs.rt: what the devices have cost
@@ -78,8 +78,8 @@ pub struct Found {
 
 // A vertex that has passed cut A: complete, or cut B.
 fn enter(r: &Flat, v: Vertex, t: Tally) -> Entered
-    requires { ⌜ Valid (recorderIn (now r)) × (Kept (recorderIn (now r)) v × ((cutA (recorderIn (now r)) v ≡ false) × (t .count + 1 < 2 ^ 32))) ⌝ }
-    ensures { λ x. ⌜ x ≡ enteredAt (recorderIn (now (r .entry))) v t ⌝ }
+    requires { ⌜ Valid (recorderOf (now r)) × (Kept (recorderOf (now r)) v × ((cutA (recorderOf (now r)) v ≡ false) × (t .count + 1 < 2 ^ 32))) ⌝ }
+    ensures { λ x. ⌜ x ≡ enteredAt (recorderOf (now (r .entry))) v t ⌝ }
 {
     let mut next = counted(t);
     let w = charge(r, v);
@@ -127,8 +127,8 @@ fn open_for(v: Vertex, j: usize) -> Vertex
 
 // A vertex and all below it.
 fn visit(r: &Flat, v: Vertex, t: Tally, budget: u32) -> Run
-    requires { ⌜ Valid (recorderIn (now r)) × (Kept (recorderIn (now r)) v × (t .count ≤ budget)) ⌝ }
-    ensures { λ x. ⌜ x ≡ capped budget (visitOf (recorderIn (now (r .entry))) (v .left) v t) ⌝ }
+    requires { ⌜ Valid (recorderOf (now r)) × (Kept (recorderOf (now r)) v × (t .count ≤ budget)) ⌝ }
+    ensures { λ x. ⌜ x ≡ capped budget (visitOf (recorderOf (now (r .entry))) (v .left) v t) ⌝ }
 {
     if t.count == budget {
         return halted(budget);
@@ -155,8 +155,8 @@ fn visit(r: &Flat, v: Vertex, t: Tally, budget: u32) -> Run
 
 // Each unplaced job in turn, and each start of it in turn. The children that place the same job differ in their time and its start alone.
 fn choices(r: &Flat, v: Vertex, t: Tally, budget: u32) -> Run
-    requires { ⌜ Valid (recorderIn (now r)) × (Settled (recorderIn (now r)) v × ((0 < v .left) × (t .count ≤ budget))) ⌝ }
-    ensures { λ x. ⌜ x ≡ capped budget (each (tryJob (recorderIn (now (r .entry))) (visitOf (recorderIn (now (r .entry))) (v .left - 1)) v) (jobs (recorderIn (now (r .entry)))) t) ⌝ }
+    requires { ⌜ Valid (recorderOf (now r)) × (Settled (recorderOf (now r)) v × ((0 < v .left) × (t .count ≤ budget))) ⌝ }
+    ensures { λ x. ⌜ x ≡ capped budget (each (tryJob (recorderOf (now (r .entry))) (visitOf (recorderOf (now (r .entry))) (v .left - 1)) v) (jobs (recorderOf (now (r .entry)))) t) ⌝ }
 {
     let n = job_count(r);
     let mut tally = t;

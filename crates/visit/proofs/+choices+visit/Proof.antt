@@ -11,7 +11,7 @@ use borrow.Fn.PlainCycle.{Measures, is, falls, and}
 use Rattle.base.specs.Loops.{each}
 use Rattle.base.proofs.Turns.{each-start, each-step, each-done}
 use Rattle.visit.specs.declared.Tally.{Tally}
-use Rattle.visit.specs.Flat.{recorderIn}
+use Rattle.visit.specs.Flat.{recorderOf}
 use Rattle.visit.specs.Steps.{tryStart, tryJob, visitOf, capped}
 use Rattle.visit.proofs.Charging.{child-kept}
 use Rattle.visit.proofs.Order.{visit-counts, jobs-grow, starts-grow, job-placed, job-done, job-runs, entered-count, entered-left, entered-more, entered-settled, visit-cut, visit-open, visit-closes, child-is, Placing, placing-open, placing-start, placing-on}
@@ -62,13 +62,13 @@ visit-calls t = (halted-reads.Asked, halted-reads.Learnt, is-cut-reads.Asked, is
 
 abbrev choices-Inv-loop2 : choices-lts.InvT-loop2
 choices-Inv-loop2 r budget v n tally₀ j c d s₀ child₀ tally s child =
-    (s₀ ≤ s) × (tally ≡ each (tryStart (recorderIn r) (visitOf (recorderIn r) (v .left - 1)) v j) (s - s₀) tally₀) × (tally .count ≤ budget) × (s - s₀ ≤ (d + 1) - (c + s₀)) × Placing v j child
+    (s₀ ≤ s) × (tally ≡ each (tryStart (recorderOf r) (visitOf (recorderOf r) (v .left - 1)) v j) (s - s₀) tally₀) × (tally .count ≤ budget) × (s - s₀ ≤ (d + 1) - (c + s₀)) × Placing v j child
 
 abbrev choices-μ-loop2 : choices-lts.MeasureT-loop2
 choices-μ-loop2 r budget v n tally₀ j c d s₀ child₀ tally s child = (d + 1) - s
 
 abbrev choices-Inv-loop : choices-lts.InvT-loop
-choices-Inv-loop r budget v n tally₀ j₀ tally j = (j ≤ n) × (n ≤ 16) × (tally ≡ each (tryJob (recorderIn r) (visitOf (recorderIn r) (v .left - 1)) v) j tally₀) × (tally .count ≤ budget)
+choices-Inv-loop r budget v n tally₀ j₀ tally j = (j ≤ n) × (n ≤ 16) × (tally ≡ each (tryJob (recorderOf r) (visitOf (recorderOf r) (v .left - 1)) v) j tally₀) × (tally .count ≤ budget)
 
 abbrev choices-μ-loop : choices-lts.MeasureT-loop
 choices-μ-loop r budget v n tally₀ j₀ tally j = n - j
@@ -155,7 +155,7 @@ visit-halted-requires : (t : ℕ) → visit-lts.Need-halted-requires (visit-call
 visit-halted-requires t c κs = search needs
 
 visit-returns : (t : ℕ) → visit-lts.Need-returns (visit-calls t) (visit-at t) visit.Post
-visit-returns t c = c .halted .ensures ∙ sym (capped-over _ _ (omega (arith, visit-counts (recorderIn (c .before .before .before .args .r .now)) (c .before .before .before .args .v .left) (c .before .before .before .args .v) (c .before .before .before .args .t))))
+visit-returns t c = c .halted .ensures ∙ sym (capped-over _ _ (omega (arith, visit-counts (recorderOf (c .before .before .before .args .r .now)) (c .before .before .before .args .v .left) (c .before .before .before .args .v) (c .before .before .before .args .t))))
 
 visit-is-cut-requires : (t : ℕ) → visit-lts.Need-is-cut-requires (visit-calls t) (visit-at t) visit.Post
 visit-is-cut-requires t c κs = c .before .before .pre .1 .0

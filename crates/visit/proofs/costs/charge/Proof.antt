@@ -6,7 +6,7 @@ use native.Mathlib.Omega.{arith}
 use borrow.Author.Needs.{needs}
 use Rattle.base.proofs.Turns.{each-start, each-step}
 use Rattle.base.specs.Loops.{each}
-use Rattle.visit.specs.Flat.{recorderIn}
+use Rattle.visit.specs.Flat.{recorderOf}
 use Rattle.schedule.specs.Quantities.{job, jobs}
 use Rattle.visit.specs.Steps.{payEnd, payOne}
 use Rattle.visit.proofs.Charging.{last-below, last-fits, may-pay, charged-is, at-root}
@@ -14,7 +14,7 @@ use Rattle.visit.proofs.costs.charge.Statement.{statement}
 use Rattle.visit.proofs.costs.charge.Tie as tie
 
 abbrev Inv-loop : tie.InvT-loop
-Inv-loop r v n m j s c ends₀ paid₀ k₀ ends paid k = (k ≤ m) × (m ≤ 8) × (ends ≡ each (payEnd v (job (recorderIn r) (v .last)) s) k ends₀) × (paid ≡ each (payOne (recorderIn r .devices) v (job (recorderIn r) (v .last)) s) k paid₀)
+Inv-loop r v n m j s c ends₀ paid₀ k₀ ends paid k = (k ≤ m) × (m ≤ 8) × (ends ≡ each (payEnd v (job (recorderOf r) (v .last)) s) k ends₀) × (paid ≡ each (payOne (recorderOf r .devices) v (job (recorderOf r) (v .last)) s) k paid₀)
 
 abbrev μ-loop : tie.MeasureT-loop
 μ-loop r v n m j s c ends₀ paid₀ k₀ ends paid k = m - k

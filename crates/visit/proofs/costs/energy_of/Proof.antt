@@ -6,13 +6,13 @@ use native.Mathlib.Omega.{arith}
 use borrow.Author.Needs.{needs}
 use Rattle.base.proofs.Turns.{each-start, each-step, each-done}
 use Rattle.base.specs.Loops.{each}
-use Rattle.visit.specs.Flat.{recorderIn}
+use Rattle.visit.specs.Flat.{recorderOf}
 use Rattle.visit.specs.Steps.{addClose, closed}
 use Rattle.visit.proofs.costs.energy_of.Statement.{statement}
 use Rattle.visit.proofs.costs.energy_of.Tie as tie
 
 abbrev Inv-loop : tie.InvT-loop
-Inv-loop r v h m sum₀ k₀ sum k = (k ≤ m) × (m ≤ 8) × (sum ≡ each (addClose (recorderIn r .devices) (recorderIn r .horizon) v) k 0) × (sum ≤ 268431360 * k)
+Inv-loop r v h m sum₀ k₀ sum k = (k ≤ m) × (m ≤ 8) × (sum ≡ each (addClose (recorderOf r .devices) (recorderOf r .horizon) v) k 0) × (sum ≤ 268431360 * k)
 
 abbrev μ-loop : tie.MeasureT-loop
 μ-loop r v h m sum₀ k₀ sum k = m - k

@@ -6,13 +6,13 @@ use native.Mathlib.Omega.{arith}
 use borrow.Author.Needs.{needs}
 use Rattle.base.proofs.Turns.{each-start, each-step, each-done}
 use Rattle.base.specs.Loops.{each}
-use Rattle.visit.specs.Flat.{recorderIn}
+use Rattle.visit.specs.Flat.{recorderOf}
 use Rattle.visit.specs.Steps.{addAhead, ahead}
 use Rattle.visit.proofs.cuts.ahead_of.Statement.{statement}
 use Rattle.visit.proofs.cuts.ahead_of.Tie as tie
 
 abbrev Inv-loop : tie.InvT-loop
-Inv-loop r k placed n sum₀ j₀ sum j = (j ≤ n) × (n ≤ 16) × (sum ≡ each (addAhead (recorderIn r .jobs) placed k) j 0) × (sum ≤ 65535 * j)
+Inv-loop r k placed n sum₀ j₀ sum j = (j ≤ n) × (n ≤ 16) × (sum ≡ each (addAhead (recorderOf r .jobs) placed k) j 0) × (sum ≤ 65535 * j)
 
 abbrev μ-loop : tie.MeasureT-loop
 μ-loop r k placed n sum₀ j₀ sum j = n - j

@@ -6,14 +6,14 @@ use native.Mathlib.Omega.{arith}
 use borrow.Author.Needs.{needs}
 use Rattle.base.proofs.Turns.{each-start, each-step, each-done}
 use Rattle.base.specs.Loops.{each}
-use Rattle.visit.specs.Flat.{recorderIn}
+use Rattle.visit.specs.Flat.{recorderOf}
 use Rattle.visit.specs.Steps.{addFloor, floor}
 use Rattle.visit.proofs.Charging.{ahead-fits}
 use Rattle.visit.proofs.cuts.floor_of.Statement.{statement}
 use Rattle.visit.proofs.cuts.floor_of.Tie as tie
 
 abbrev Inv-loop : tie.InvT-loop
-Inv-loop r v placed h m sum₀ k₀ sum k = (k ≤ m) × (m ≤ 8) × (sum ≡ each (addFloor (recorderIn r .devices) (recorderIn r .jobs) (recorderIn r .horizon) v) k 0) × (sum ≤ 268431360 * k)
+Inv-loop r v placed h m sum₀ k₀ sum k = (k ≤ m) × (m ≤ 8) × (sum ≡ each (addFloor (recorderOf r .devices) (recorderOf r .jobs) (recorderOf r .horizon) v) k 0) × (sum ≤ 268431360 * k)
 
 abbrev μ-loop : tie.MeasureT-loop
 μ-loop r v placed h m sum₀ k₀ sum k = m - k

@@ -6,13 +6,13 @@ use Prim.Native.Nat.{ℕ, _≤_, _-_, _+_}
 use native.Mathlib.Omega.{arith}
 use borrow.Author.Needs.{needs}
 use borrow.Author.Tests.{not-true, not-false}
-use Rattle.visit.specs.Flat.{recorderIn}
+use Rattle.visit.specs.Flat.{recorderOf}
 use Rattle.visit.proofs.Lateness.{Timely, timely-start, timely-placed, timely-open, cut-late, cut-over}
 use Rattle.visit.proofs.cuts.is_cut.Statement.{statement}
 use Rattle.visit.proofs.cuts.is_cut.Tie as tie
 
 abbrev Inv-loop : tie.InvT-loop
-Inv-loop r v n load₀ j₀ load j = (j ≤ n) × (n ≤ 16) × Timely (recorderIn r) v j load
+Inv-loop r v n load₀ j₀ load j = (j ≤ n) × (n ≤ 16) × Timely (recorderOf r) v j load
 
 abbrev μ-loop : tie.MeasureT-loop
 μ-loop r v n load₀ j₀ load j = n - j

@@ -2,7 +2,7 @@
 -- Assumes nothing.
 use mathlib.Core.Path.{refl}
 use borrow.Author.Needs.{needs}
-use Rattle.visit.specs.Flat.{recorderIn}
+use Rattle.visit.specs.Flat.{recorderOf}
 use Rattle.visit.proofs.flat.horizon_of.Statement.{statement}
 use Rattle.visit.proofs.flat.horizon_of.Tie as tie
 
@@ -10,7 +10,7 @@ element-copy-out-result : tie.Need-element-copy-out-result
 element-copy-out-result c = search needs
 
 returns : tie.Need-returns
-unfolding recorderIn
+unfolding recorderOf
 returns c = refl
 
 pub horizon-of-spec : {M : Type 1} → statement M
