@@ -16,7 +16,7 @@ use Rattle.base.proofs.Arrays.{getD-upTo, upTo-whole}
 use Rattle.schedule.specs.declared.Job.{Job}
 use Rattle.schedule.specs.declared.Recorder.{Recorder}
 use Rattle.schedule.specs.Quantities.{job, device, release, deadline, run, uses, noJob, noDevice}
-use Rattle.visit.specs.Flat.{cell, jobAt, deviceAt, recorderOf, jobNumber, deviceNumber, numberOf}
+use Rattle.visit.specs.Flat.{cell, jobColumn, deviceColumn, recorderOf, jobNumber, deviceNumber, numberOf}
 use Rattle.visit.proofs.Shapes.{Shaped}
 
 -- ---- a flag as a number
@@ -32,31 +32,31 @@ number-flag false = refl
 -- ---- the recorder in any list
 
 module _ (l : List ℕ) where
-  job-at : (j : ℕ) → j < 16 → jobAt l j ≡ job (recorderOf l) j
+  job-at : (j : ℕ) → j < 16 → jobColumn l j ≡ job (recorderOf l) j
   unfolding recorderOf
-  job-at j h = sym (getD-upTo (jobAt l) 16 j noJob h)
+  job-at j h = sym (getD-upTo (jobColumn l) 16 j noJob h)
 
   pub release-at : (j : ℕ) → j < 16 → getD l j 0 ≡ release (recorderOf l) j
-  unfolding jobAt
+  unfolding jobColumn
   release-at j h = ap (λ (i : ℕ). getD l i 0) (sym (zero-add j)) ∙ ap (λ (x : Job). x .release) (job-at j h)
 
   pub deadline-at : (j : ℕ) → j < 16 → getD l (16 + j) 0 ≡ deadline (recorderOf l) j
-  unfolding jobAt
+  unfolding jobColumn
   deadline-at j h = ap (λ (x : Job). x .deadline) (job-at j h)
 
   pub run-at : (j : ℕ) → j < 16 → getD l (32 + j) 0 ≡ run (recorderOf l) j
-  unfolding jobAt
+  unfolding jobColumn
   run-at j h = ap (λ (x : Job). x .run) (job-at j h)
 
   pub uses-at : (k j : ℕ) → k < 8 → j < 16 → eqb (getD l (48 + 16 * k + j) 0) 1 ≡ uses (recorderOf l) k j
-  unfolding jobAt
+  unfolding jobColumn
   uses-at k j h g =
       let place : 16 * (3 + k) + j ≡ 48 + 16 * k + j = omega arith in
       rw (← job-at j g, getD-upTo (λ i. eqb (cell l (3 + i) j) 1) 8 k false h, place)
 
-  pub device-at : (k : ℕ) → k < 8 → deviceAt l k ≡ device (recorderOf l) k
+  pub device-at : (k : ℕ) → k < 8 → deviceColumn l k ≡ device (recorderOf l) k
   unfolding recorderOf
-  device-at k h = sym (getD-upTo (deviceAt l) 8 k noDevice h)
+  device-at k h = sym (getD-upTo (deviceColumn l) 8 k noDevice h)
 
 -- ---- sixteen rows of sixteen
 
@@ -84,8 +84,8 @@ module _ (R : Recorder) (s : Shaped R) where
   used-kept : (k j : ℕ) → k < 8 → j < 16 → eqb (held (3 + k) j) 1 ≡ uses R k j
   used-kept k j h g = ap (λ (x : ℕ). eqb x 1) (cell-grid (numberOf R) (3 + k) j (omega arith) g ∙ number-used k j h) ∙ number-flag (uses R k j)
 
-  job-kept : (j : ℕ) → j < 16 → jobAt (grid (numberOf R)) j ≡ job R j
-  unfolding jobAt numberOf jobNumber
+  job-kept : (j : ℕ) → j < 16 → jobColumn (grid (numberOf R)) j ≡ job R j
+  unfolding jobColumn numberOf jobNumber
   job-kept j h =
       let a : held 0 j ≡ release R j = cell-grid (numberOf R) 0 j (omega arith) h in
       let d : held 1 j ≡ deadline R j = cell-grid (numberOf R) 1 j (omega arith) h in
@@ -93,8 +93,8 @@ module _ (R : Recorder) (s : Shaped R) where
       let u : upTo (λ k. eqb (held (3 + k) j) 1) 8 ≡ job R j .uses = upTo-whole _ (job R j .uses) false 8 (s .uses-long j h) (λ k l. used-kept k j l h) in
       rw (a, d, c, u)
 
-  device-kept : (k : ℕ) → k < 8 → deviceAt (grid (numberOf R)) k ≡ device R k
-  unfolding deviceAt numberOf deviceNumber
+  device-kept : (k : ℕ) → k < 8 → deviceColumn (grid (numberOf R)) k ≡ device R k
+  unfolding deviceColumn numberOf deviceNumber
   device-kept k h =
       let few : k < 16 = omega arith in
       let t : held 11 k ≡ device R k .t = cell-grid (numberOf R) 11 k (omega arith) few ∙ simp (lt-ltb k 8 h) in
@@ -109,6 +109,6 @@ module _ (R : Recorder) (s : Shaped R) where
       let h : held 15 0 ≡ R .horizon = cell-grid (numberOf R) 15 0 (omega arith) (omega arith) in
       let n : held 15 1 ≡ R .jobs .count = cell-grid (numberOf R) 15 1 (omega arith) (omega arith) in
       let m : held 15 2 ≡ R .devices .count = cell-grid (numberOf R) 15 2 (omega arith) (omega arith) in
-      let js : upTo (jobAt (grid (numberOf R))) 16 ≡ R .jobs .list = upTo-whole _ (R .jobs .list) noJob 16 (s .jobs-long) job-kept in
-      let ds : upTo (deviceAt (grid (numberOf R))) 8 ≡ R .devices .list = upTo-whole _ (R .devices .list) noDevice 8 (s .devices-long) device-kept in
+      let js : upTo (jobColumn (grid (numberOf R))) 16 ≡ R .jobs .list = upTo-whole _ (R .jobs .list) noJob 16 (s .jobs-long) job-kept in
+      let ds : upTo (deviceColumn (grid (numberOf R))) 8 ≡ R .devices .list = upTo-whole _ (R .devices .list) noDevice 8 (s .devices-long) device-kept in
       rw (h, n, m, js, ds)

@@ -16,18 +16,18 @@ use Rattle.schedule.specs.Quantities.{job, device}
 abbrev pub cell : List ℕ → ℕ → ℕ → ℕ
 cell l i k = getD l (16 * i + k) 0
 
-unfoldable pub jobAt : List ℕ → ℕ → Job
-jobAt l j = record { release = cell l 0 j; deadline = cell l 1 j; run = cell l 2 j; uses = upTo (λ k. eqb (cell l (3 + k) j) 1) 8 }
+unfoldable pub jobColumn : List ℕ → ℕ → Job
+jobColumn l j = record { release = cell l 0 j; deadline = cell l 1 j; run = cell l 2 j; uses = upTo (λ k. eqb (cell l (3 + k) j) 1) 8 }
 
-unfoldable pub deviceAt : List ℕ → ℕ → Device
-deviceAt l k = record { t = cell l 11 k % 256; pw = cell l 12 k; ps = cell l 13 k; p0 = cell l 14 k }
+unfoldable pub deviceColumn : List ℕ → ℕ → Device
+deviceColumn l k = record { t = cell l 11 k % 256; pw = cell l 12 k; ps = cell l 13 k; p0 = cell l 14 k }
 
 unfoldable pub recorderOf : List ℕ → Recorder
 recorderOf l =
     record {
       horizon = cell l 15 0;
-      devices = record { count = cell l 15 2; list = upTo (deviceAt l) 8 };
-      jobs = record { count = cell l 15 1; list = upTo (jobAt l) 16 };
+      devices = record { count = cell l 15 2; list = upTo (deviceColumn l) 8 };
+      jobs = record { count = cell l 15 1; list = upTo (jobColumn l) 16 };
     }
 
 -- What a job has in its column, and what a device has in its.

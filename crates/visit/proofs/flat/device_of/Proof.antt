@@ -2,7 +2,7 @@
 -- Assumes nothing.
 use native.Mathlib.Omega.{arith}
 use borrow.Author.Needs.{needs}
-use Rattle.visit.specs.Flat.{deviceAt}
+use Rattle.visit.specs.Flat.{deviceColumn}
 use Rattle.visit.proofs.Cells.{device-at}
 use Rattle.visit.proofs.flat.device_of.Statement.{statement}
 use Rattle.visit.proofs.flat.device_of.Tie as tie
@@ -47,7 +47,7 @@ element-copy-out-t24 : tie.Need-element-copy-out-t24
 element-copy-out-t24 c = search needs
 
 returns : tie.Need-returns
-unfolding deviceAt
+unfolding deviceColumn
 returns c = device-at (c .before .before .before .before .args .r .now) (c .before .before .before .before .args .k) (omega arith)
 
 pub device-of-spec : {M : Type 1} → statement M
