@@ -105,28 +105,33 @@ impl Search {
         }
     }
 
-    fn visit(&mut self, vertex: &Vertex) {
+    /// `last` is the job placed last and its start: charged to its devices only after cut A, as in the
+    /// proved search. The root has none.
+    fn visit(&mut self, mut vertex: Vertex, last: Option<(usize, u32)>) {
         if self.count == self.budget {
             self.over = true;
             return;
         }
         self.count += 1;
-        if self.cut_a(vertex) {
+        if self.cut_a(&vertex) {
             return;
         }
+        if let Some((number, start)) = last {
+            self.charge(&mut vertex, number, start);
+        }
         if vertex.unplaced == 0 {
-            let energy = self.energy(vertex);
+            let energy = self.energy(&vertex);
             if self.best.is_none_or(|(best, _)| energy < best) {
                 self.best = Some((energy, self.starts));
             }
             return;
         }
         if let Some((best, _)) = self.best {
-            if self.floor(vertex) >= best {
+            if self.floor(&vertex) >= best {
                 return;
             }
         }
-        self.children(vertex);
+        self.children(&vertex);
     }
 
     fn children(&mut self, vertex: &Vertex) {
@@ -136,7 +141,7 @@ impl Search {
             for start in earliest..=job.deadline - job.running {
                 self.starts[number] = start;
                 let child = self.place(vertex, number, start);
-                self.visit(&child);
+                self.visit(child, Some((number, start)));
                 if self.over {
                     return;
                 }
@@ -149,13 +154,18 @@ impl Search {
         let mut child = *vertex;
         child.time = start + job.running;
         child.unplaced &= !(1 << number);
+        child
+    }
+
+    fn charge(&self, vertex: &mut Vertex, number: usize, start: u32) {
+        let job = self.jobs[number];
         for (k, device) in self.devices.iter().enumerate() {
             if job.devices >> k & 1 == 1 {
-                child.spent[k] += device.gap(start - vertex.ends[k]) + device.working * job.running;
-                child.ends[k] = child.time;
+                vertex.spent[k] +=
+                    device.gap(start - vertex.ends[k]) + device.working * job.running;
+                vertex.ends[k] = vertex.time;
             }
         }
-        child
     }
 
     fn cut_a(&self, vertex: &Vertex) -> bool {
@@ -206,12 +216,13 @@ pub fn search(file: &[u8], budget: u32) -> Found {
     };
     let jobs = request.jobs.len();
     let mut search = Search::new(&request, budget);
-    search.visit(&Vertex {
+    let root = Vertex {
         time: 0,
         unplaced: ((1u32 << jobs) - 1) as u16,
         ends: [0; DEVICES],
         spent: [0; DEVICES],
-    });
+    };
+    search.visit(root, None);
     match search.best {
         _ if search.over => refused(20, budget),
         None => refused(19, search.count),
