@@ -2,13 +2,13 @@
 -- Assumes nothing.
 use mathlib.Core.Path.{_≡_, refl, sym, ap, _∙_}
 use mathlib.Core.Bool.{Bool, true, false}
-use Prim.Native.Nat.{ℕ, zero, suc, _+_, _-_, _≤_, _<_}
+use Prim.Native.Nat.{ℕ, _+_, _≤_, _<_}
 use native.Mathlib.Omega.{arith}
-use native.Mathlib.Nat.{le-refl, le-trans, add-zero, add-suc}
+use native.Mathlib.Nat.{le-refl, le-trans}
 use lib.Dec.{leb}
 use borrow.Author.Tests.{le-leb, lt-leb, leb-true, leb-false}
 use Rattle.base.specs.Loops.{each}
-use Rattle.base.proofs.Turns.{each-step, each-done}
+use Rattle.base.proofs.Turns.{each-step, each-done, each-keeps}
 use Rattle.visit.specs.declared.Tally.{Tally}
 use Rattle.visit.specs.declared.Run.{Run}
 use Rattle.visit.specs.Steps.{haltedAt, capped}
@@ -51,18 +51,12 @@ going-is b t r e s = ap (λ (x : Run). x .tally) (e ∙ capped-within b t (cappe
 abbrev pub Grows : (ℕ → Tally → Tally) → Type 0
 Grows g = (k : ℕ) (t : Tally) → t .count ≤ g k t .count
 
+each-mono : (g : ℕ → Tally → Tally) → Grows g → (k n : ℕ) (t : Tally) → k ≤ n → each g k t .count ≤ each g n t .count
+each-mono g h k n t l = each-keeps (λ x. each g k t .count ≤ x .count) g (λ i x m. le-trans m (h i x)) k n t l (le-refl _)
+
 pub each-grows : (g : ℕ → Tally → Tally) → Grows g → (n : ℕ) (t : Tally) → t .count ≤ each g n t .count
 unfolding each
-each-grows g h zero t = le-refl _
-each-grows g h (suc n) t = le-trans (each-grows g h n t) (h n (each g n t))
-
-each-on : (g : ℕ → Tally → Tally) → Grows g → (k m : ℕ) (t : Tally) → each g k t .count ≤ each g (k + m) t .count
-unfolding each
-each-on g h k zero t = rw add-zero (le-refl _)
-each-on g h k (suc m) t = rw add-suc (le-trans (each-on g h k m t) (h (k + m) (each g (k + m) t)))
-
-each-mono : (g : ℕ → Tally → Tally) → Grows g → (k n : ℕ) (t : Tally) → k ≤ n → each g k t .count ≤ each g n t .count
-each-mono g h k n t l = let e : k + (n - k) ≡ n = omega arith in rw e at (each-on g h k (n - k) t)
+each-grows g h n t = each-mono g h 0 n t (omega arith)
 
 -- The turns of a loop under the budget b: x is what the turns before k made of a, and r what a run of the turn k gives.
 module _ (b : ℕ) (g : ℕ → Tally → Tally) (k : ℕ) (a x : Tally) (r : Run) (e : x ≡ each g k a) (f : r ≡ capped b (g k x)) where

@@ -1,17 +1,14 @@
 -- Cut A in one pass over the jobs: it leaves at the first late one, and else the running times decide.
 -- Assumes nothing.
 use mathlib.Core.Path.{_≡_, refl, sym, _∙_}
-use mathlib.Core.Bool.{Bool, true, false, cond}
-use mathlib.Core.List.{List}
-use Prim.Native.Nat.{ℕ, zero, suc, _+_, _*_, _≤_, _<_, max}
+use mathlib.Core.Bool.{Bool, true, false}
+use Prim.Native.Nat.{ℕ, _+_, _*_, _≤_, _<_, max}
 use native.Mathlib.Omega.{arith}
-use native.Mathlib.Decide.{decLt}
-use native.Mathlib.Numerals.{add-one}
 use lib.Dec.{ltb}
 use borrow.Author.Tests.{ltb-false}
 use Rattle.base.specs.Loops.{each}
-use Rattle.base.proofs.Turns.{each-more, each-step}
-use Rattle.schedule.specs.declared.Jobs.{Jobs}
+use Rattle.base.proofs.Cases.{cond-cases}
+use Rattle.base.proofs.Turns.{each-more, each-step, each-keeps}
 use Rattle.schedule.specs.declared.Recorder.{Recorder}
 use Rattle.schedule.specs.Quantities.{jobs, release, deadline, run}
 use Rattle.visit.specs.declared.Vertex.{Vertex}
@@ -19,22 +16,10 @@ use Rattle.visit.specs.Steps.{flagged, lateStep, isLate, late, loadStep,
 use Rattle.visit.proofs.Charging.{charged-alike}
 
 -- Once a job is late, so is the vertex.
-late-either : (b : Bool) → cond b true true ≡ true
-late-either true = refl
-late-either false = refl
-
-late-keeps : (p : Bool) (t a d c : ℕ) → lateStep p t a d c true ≡ true
+late-keeps : (p : Bool) (t a d c : ℕ) (b : Bool) → b ≡ true → lateStep p t a d c b ≡ true
 unfolding lateStep
-late-keeps true t a d c = refl
-late-keeps false t a d c = late-either (ltb d (max t a + c))
-
-late-stays : (J : Jobs) (t : ℕ) (m : List Bool) (k n : ℕ) → k ≤ n → each (isLate J t m) k false ≡ true → each (isLate J t m) n false ≡ true
-late-stays J t m k zero l h = let e : k ≡ 0 = omega arith in rw (← e) h
-late-stays J t m k (suc n) l h =
-    elim (decLt n k) [
-      | yes q ↦ let e : k ≡ suc n = omega arith in rw (← e) h
-      | no q ↦ rw (← add-one n, each-more (isLate J t m) n false, late-stays J t m k n (omega arith) h) (late-keeps (flagged m n) t _ _ _)
-    ]
+late-keeps p t a d c b h =
+    cond-cases (λ x. x ≡ true) p (λ q. h) (λ q. cond-cases (λ x. x ≡ true) (ltb d (max t a + c)) (λ r. refl) (λ r. h))
 
 module _ (R : Recorder) (v : Vertex) where
   abbrev late-by : ℕ → Bool
@@ -86,7 +71,7 @@ module _ (R : Recorder) (v : Vertex) where
         unfolding cutA late lateStep
         cut-late q l =
             let now : late-by (j + 1) ≡ true = late-next true (simp (p, tested, q)) in
-            simp (late-stays (R .jobs) (v .time) (v .placed) (j + 1) (jobs R) (omega arith) now)
+            simp (each-keeps (λ x. x ≡ true) (isLate (R .jobs) (v .time) (v .placed)) (λ i. late-keeps (flagged (v .placed) i) (v .time) (release R i) (deadline R i) (run R i)) (j + 1) (jobs R) false (omega arith) now)
 
     pub cut-over : j ≡ jobs R → (n t : ℕ) → n ≡ R .horizon → t ≡ v .time → ltb n (t + x) ≡ cutA R v
     unfolding cutA late load

@@ -1,4 +1,4 @@
--- The steps' visit: it counts, it opens or it does not, and a child of it is a vertex.
+-- The steps' visit: it counts, it opens or it does not, and a child of it is a vertex: also the code's child, whose start is set anew.
 -- Assumes nothing.
 use mathlib.Core.Path.{_≡_, refl, sym, ap, _∙_}
 use mathlib.Core.Bool.{Bool, true, false, not}
@@ -6,6 +6,8 @@ use Prim.Native.Nat.{ℕ, zero, suc, _+_, _-_, _≤_, _<_}
 use native.Mathlib.Omega.{arith}
 use native.Mathlib.Nat.{le-refl, le-of-lt, pos-of-ne-zero}
 use native.Mathlib.Numerals.{sub-one}
+use lib.ListN.{set}
+use lib.Seq.{set-set}
 use borrow.Author.Tests.{eq-eqb}
 use Rattle.base.specs.Loops.{each, under}
 use Rattle.schedule.specs.declared.Recorder.{Recorder}
@@ -14,8 +16,6 @@ use Rattle.visit.specs.declared.Tally.{Tally}
 use Rattle.visit.specs.declared.Run.{Run}
 use Rattle.visit.specs.declared.Entered.{Entered}
 use Rattle.schedule.specs.Quantities.{Valid, jobs, run}
-use lib.ListN.{set}
-use lib.Seq.{set-set}
 use Rattle.visit.specs.Steps.{flagged, cutA, charged, counting, opens, noted, enteredAt, earliest, span, child, openFor, placeAt, tryStart, tryJob, visitOf, capped, Settled, Kept}
 use Rattle.visit.proofs.Budget.{Grows, each-grows, going, capped-within}
 use Rattle.visit.proofs.Charging.{charged-alike, charged-settled}

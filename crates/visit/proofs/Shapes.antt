@@ -2,14 +2,15 @@
 -- Assumes nothing.
 use mathlib.Core.Path.{_≡_, sym, _∙_}
 use mathlib.Core.List.{List, [], _∷_, map}
-use Prim.Native.Nat.{ℕ, zero, suc, _<_}
+use Prim.Native.Nat.{ℕ, _<_}
 use native.Mathlib.Omega.{arith}
-use lib.ListN.{length, getD, length-map}
+use lib.ListN.{length, length-map}
 use mir.Val.{Val}
 use base.Fml.{Fml}
 use denote.Laws.{Is}
 use denote.Shadow.{shadow}
 use denote.Array.{each}
+use Rattle.base.proofs.Every.{Every, every-at}
 use Rattle.device.specs.declared.Device.{Device}
 use Rattle.device.proofs.Device.{the-field as device-field}
 use Rattle.schedule.specs.declared.Job.{Job}
@@ -24,13 +25,12 @@ mapped-long : {X D : Type 0} (into : X → D) (xs : List X) (n : ℕ) → length
 mapped-long into xs n e = sym (length-map xs into) ∙ e
 
 -- What owning one element tells holds of each.
-each-all :
+each-every :
     {X D : Type 0} (into : X → D) (own : D → List Val → Fml) (P : X → Type 0) → ((x : X) (vs : List Val) → shadow (own (into x) vs) → P x)
-    → (xs : List X) (us : List Val) → shadow (each D own (map into xs) us) → (z : X) (i : ℕ) → i < length xs → P (getD xs i z)
-each-all into own P h [] us p z i l = absurd (omega arith)
-each-all into own P h (x ∷ xs) [] p z i l = absurd p
-each-all into own P h (x ∷ xs) (u ∷ us) p z zero l = h x (u ∷ []) (p .0)
-each-all into own P h (x ∷ xs) (u ∷ us) p z (suc i) l = each-all into own P h xs us (p .1) z i (omega arith)
+    → (xs : List X) (us : List Val) → shadow (each D own (map into xs) us) → Every P xs
+each-every into own P h [] us p = tt
+each-every into own P h (x ∷ xs) [] p = absurd p
+each-every into own P h (x ∷ xs) (u ∷ us) p = (h x (u ∷ []) (p .0), each-every into own P h xs us (p .1))
 
 -- ---- a recorder
 -- The relation of a struct is (the fields' machine values, (an equation, (the first field's relation, (the second's, ..)))), and that of an array
@@ -57,8 +57,8 @@ recorder-shaped R vs p =
     record {
       jobs-long = sixteen;
       uses-long =
-          λ j h. each-all (job-field .into) (job-field .row .own) (λ x. length (x .uses) ≡ 8) job-shaped (R .jobs .list) (js .0) (js .1 .1) noJob j (omega arith);
+          λ j h. every-at _ (R .jobs .list) noJob (each-every (job-field .into) (job-field .row .own) (λ x. length (x .uses) ≡ 8) job-shaped (R .jobs .list) (js .0) (js .1 .1)) j (omega arith);
       devices-long = eight;
       t-byte =
-          λ k h. each-all (device-field .into) (device-field .row .own) (λ x. x .t < 256) device-shaped (R .devices .list) (ds .0) (ds .1 .1) noDevice k (omega arith);
+          λ k h. every-at _ (R .devices .list) noDevice (each-every (device-field .into) (device-field .row .own) (λ x. x .t < 256) device-shaped (R .devices .list) (ds .0) (ds .1 .1)) k (omega arith);
     }
