@@ -1,4 +1,5 @@
--- Document 01, 'Figures to reproduce', P1 to P12, and X1 to X3: one table of cases, and one statement over it, computed by the checker from the definitions.
+-- Document 01, 'Figures to reproduce', P1 to P12, and three more, X1 to X3: one table of cases, and one statement over it, computed by the checker from
+-- the definitions. X2 is P9's count, 95.
 -- Assumes nothing.
 use mathlib.Core.Path.{_≡_, refl}
 use mathlib.Core.Bool.{cond}
@@ -68,6 +69,7 @@ P12 = two 0 ++ 0 ∷ 2 ∷ 15 ∷ 255 ∷ two 1 ++ 0 ∷ 16 ∷ 0 ∷ two 1 ++ 0
 abbrev P12′ : List ℕ
 P12′ = two 0 ++ 0 ∷ 2 ∷ two 64 ++ two 1 ++ 0 ∷ 16 ∷ 0 ∷ two 1 ++ 0 ∷ 0 ∷ []
 
+-- Jobs whose running order is not their job order.
 abbrev X1 : List ℕ
 X1 = two 7 ++ 1 ∷ A ++ 0 ∷ 3 ∷ jobFile 2 5 2 0 ++ jobFile 4 7 2 1 ++ jobFile 0 2 1 1
 

@@ -1,4 +1,4 @@
-// Jobs on one processor: judging start times, and the search for the cheapest schedule.
+// Jobs on one processor: start times judged, their margins, and the rows and the energy of the plan that they make. The search is in crate visit.
 use device::Device;
 
 mod judging; // judging.rt: the first fault of start times

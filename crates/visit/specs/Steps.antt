@@ -1,4 +1,4 @@
--- The steps of the code's search (src/lib.rt), over its own structs and without a budget. These are the code's steps, and nobody need believe them:
+-- The steps of the code's search (src/), over its own structs and without a budget. These are the code's steps, and nobody need believe them:
 -- proofs/Agreement shows that they are Visiting's.
 -- Assumes nothing.
 use mathlib.Core.Path.{_≡_}
