@@ -1,7 +1,7 @@
 // Plans the request on standard input and prints the plan, or the number of its refusal. All that is printed comes from the proved library.
 ghost use Prim.Native.Nat.{_*_, _≤_};
 ghost use lib.ListN.{length};
-use schedule::JobNumber;
+use base::JobNumber;
 
 const BUDGET: u32 = 1000000;
 

@@ -2,7 +2,7 @@
 ghost use mathlib.Core.Path.{_≡_};
 ghost use Rattle.planner.specs.Promises as Promises;
 use crate::Answer;
-use schedule::JobNumber;
+use base::JobNumber;
 
 pub fn success(horizon: u16, energy: u32, count: u32) -> Answer
     ensures { λ a. ⌜ a ≡ Promises.success horizon energy count ⌝ }

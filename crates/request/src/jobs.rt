@@ -7,8 +7,8 @@ ghost use Rattle.base.specs.Bytes.{byteAt};
 ghost use Rattle.request.specs.Format.{horizonOf, jobOf, unfolded, listed, jobsOf};
 ghost use Rattle.request.specs.Held.{SoundTasks, packed, pushed, releasedTo};
 use super::Task;
-use super::TaskNumber;
 use super::records;
+use base::TaskNumber;
 use schedule::Job;
 use schedule::Jobs;
 

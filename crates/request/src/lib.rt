@@ -11,9 +11,6 @@ ghost use mathlib.Core.Path.{_≡_};
 ghost use Rattle.request.specs.Format.{readOf, handedOn};
 use schedule::Recorder;
 
-// Tasks are numbered from 0 in file order. A job's number is another type (crate schedule): task 1 may be jobs 1, 3 and 6.
-pub struct TaskNumber(pub usize);
-
 // A periodic task: period, running time, and for each device whether the task uses it. Its deadline is its period.
 pub struct Task {
     pub period: u16,

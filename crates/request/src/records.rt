@@ -4,7 +4,7 @@ ghost use Prim.Native.Nat.{ℕ, _+_, _*_, _<_};
 ghost use lib.ListN.{length};
 ghost use Rattle.request.specs.Format.{setOf, deviceAt, taskAt, jobAt};
 use super::Task;
-use super::TaskNumber;
+use base::TaskNumber;
 use device::Device;
 use schedule::Job;
 

@@ -5,8 +5,8 @@ ghost use lib.ListN.{length};
 ghost use Rattle.schedule.specs.Quantities.{jobs, Valid};
 ghost use Rattle.schedule.specs.Listing.{Met, Overlaps};
 ghost use Rattle.schedule.specs.Judging.{Judgement, Windows, windowFault, clashes, Decides};
-use crate::JobNumber;
 use crate::Recorder;
+use base::JobNumber;
 
 // The document's number with its job: 16 before the release, 17 after the deadline, 18 for an overlap; 0 where all is well.
 pub struct Verdict {

@@ -12,9 +12,6 @@ pub use crate::margins::write_margins;
 pub use crate::rows::plan_energy;
 pub use crate::rows::write_rows;
 
-// Jobs are numbered from 0. A task's number is another type (crate request): the two count different things.
-pub struct JobNumber(pub usize);
-
 // A job: release, deadline, running time, and for each device whether the job uses it.
 pub struct Job {
     pub release: u16,
