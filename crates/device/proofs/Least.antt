@@ -12,11 +12,9 @@ use lib.ListN.{length, replicate, length-append, length-replicate}
 use Rattle.base.proofs.Cases.{cond-cases}
 use Rattle.base.proofs.Additions.{total-append, total-replicate, total-low, total-high}
 use Rattle.device.specs.declared.Device.{Device}
-use Rattle.device.specs.Row.{Sound, Letter, W, D, S, U, LegalRow, LeastRow, power, energy, gapRow, rowOf, energyOf, pattern}
+use Rattle.device.specs.Row.{Sound, Letter, W, D, S, U, LegalRow, LeastRow, power, energy, gapRow, gapCost, deep, rowOf, energyOf}
 use Rattle.device.proofs.Pattern.{Ended, placed}
-use Rattle.device.proofs.Ticks.{used-ticks}
 use Rattle.device.proofs.Prefix.{nothing, length-rowFrom, rowFrom-place, rowFrom-close, total-place, total-close}
-use Rattle.device.proofs.Bound.{total-floor}
 use Rattle.device.proofs.First.{first-legal, first-beats}
 use Rattle.device.proofs.Literal.{legal-to, legal-back, letter-only, energy-letter}
 
@@ -64,14 +62,16 @@ module _ (d : Device) (hi : ℕ) (hw : d .pw ≤ hi) (hs : d .ps ≤ hi) (h0 : d
   pub energy-most : (u : List Bool) → energyOf d u ≤ hi * length u
   energy-most u = rw length-row at (total-high (power d) hi power-most (rowOf d u))
 
-  pub gap-most : (g : ℕ) → energy d (gapRow (d .t) g) ≤ hi * g
+  pub gap-most : (g : ℕ) → gapCost d g ≤ hi * g
+  unfolding gapCost
   gap-most g = rw length-gap at (total-high (power d) hi power-most (gapRow (d .t) g))
 
 pub energy-none : (d : Device) → energyOf d [] ≡ 0
 energy-none d = ap (energy d) (gap-none (d .t))
 
--- A gap: its energy as a number, and that no tick of it costs less than Ps.
-pub gap-energy : (d : Device) (g : ℕ) → energy d (gapRow (d .t) g) ≡ cond (leb (d .t + d .t) g) (d .p0 * (d .t + d .t) + d .ps * (g - (d .t + d .t))) (d .pw * g)
+-- What a gap costs, as a number.
+gap-energy : (d : Device) (g : ℕ) → gapCost d g ≡ cond (leb (d .t + d .t) g) (d .p0 * (d .t + d .t) + d .ps * (g - (d .t + d .t))) (d .pw * g)
+unfolding gapCost
 gap-energy d g = go (leb (d .t + d .t) g)
   where
     go : (b : Bool) → energy d (cond b (replicate (d .t) D ++ (replicate (g - (d .t + d .t)) S ++ replicate (d .t) U)) (replicate g W))
@@ -79,20 +79,25 @@ gap-energy d g = go (leb (d .t + d .t) g)
     go true = simp (total-append, total-replicate) (omega arith)
     go false = simp total-replicate
 
-pub gap-slept : (d : Device) (g : ℕ) → d .t + d .t ≤ g → energy d (gapRow (d .t) g) ≡ d .p0 * (d .t + d .t) + d .ps * (g - (d .t + d .t))
+pub gap-slept : (d : Device) (g : ℕ) → d .t + d .t ≤ g → gapCost d g ≡ d .p0 * (d .t + d .t) + d .ps * (g - (d .t + d .t))
 gap-slept d g h = gap-energy d g ∙ rw (le-leb (d .t + d .t) g h)
 
-pub gap-worked : (d : Device) (g : ℕ) → g < d .t + d .t → energy d (gapRow (d .t) g) ≡ d .pw * g
+pub gap-worked : (d : Device) (g : ℕ) → g < d .t + d .t → gapCost d g ≡ d .pw * g
 gap-worked d g h = gap-energy d g ∙ rw (lt-leb (d .t + d .t) g h)
 
-pub gap-low : (d : Device) → Sound d → (g : ℕ) → d .ps * g ≤ energy d (gapRow (d .t) g)
-gap-low d ok g = rw length-gap at (total-low (power d) (d .ps) least (gapRow (d .t) g))
+-- No tick of a gap costs less than in the deepest sleep, nor more than at work.
+pub gap-low : (d : Device) → Sound d → (g : ℕ) → deep d * g ≤ gapCost d g
+unfolding gapCost
+gap-low d ok g = rw length-gap at (total-low (power d) (deep d) least (gapRow (d .t) g))
   where
-    least : (x : Letter) → d .ps ≤ power d x
+    least : (x : Letter) → deep d ≤ power d x
     least W = omega (arith, ok .sleeps-cheaper, ok .works-dearer)
     least D = omega (arith, ok .sleeps-cheaper)
     least S = omega arith
     least U = omega (arith, ok .sleeps-cheaper)
+
+pub gap-high : (d : Device) → Sound d → (g : ℕ) → gapCost d g ≤ d .pw * g
+gap-high d ok g = gap-most d (d .pw) (omega arith) (omega (arith, ok .sleeps-cheaper, ok .works-dearer)) (omega (arith, ok .works-dearer)) g
 
 -- Job by job: a job of c + 1 ticks placed n ticks after the last use, and the gap after the last job.
 module _ (d : Device) {u : List Bool} (e : Ended u) (n : ℕ) where
@@ -102,14 +107,10 @@ module _ (d : Device) {u : List Bool} (e : Ended u) (n : ℕ) where
   pub row-close : rowOf d (u ++ replicate n false) ≡ rowOf d u ++ gapRow (d .t) n
   row-close = rowFrom-close W (gapRow (d .t)) (gap-none (d .t)) e n
 
-  pub energy-place : (c : ℕ) → energyOf d (u ++ placed n c) ≡ energyOf d u + (energy d (gapRow (d .t) n) + d .pw * suc c)
+  pub energy-place : (c : ℕ) → energyOf d (u ++ placed n c) ≡ energyOf d u + (gapCost d n + d .pw * suc c)
+  unfolding gapCost
   energy-place c = total-place W (gapRow (d .t)) (gap-none (d .t)) (power d) e n c
 
-  pub energy-close : energyOf d (u ++ replicate n false) ≡ energyOf d u + energy d (gapRow (d .t) n)
+  pub energy-close : energyOf d (u ++ replicate n false) ≡ energyOf d u + gapCost d n
+  unfolding gapCost
   energy-close = total-close W (gapRow (d .t)) (gap-none (d .t)) (power d) e n
-
--- THE FLOOR of a vertex, for one device. f: the uses placed so far, the last of which ends at e. f′: those of any completion, which keeps what is before e.
-pub floor-below : (d : Device) → Sound d → (f f′ : ℕ → Bool) (e h : ℕ) → e ≤ h → Ended (pattern f 0 e) → ((t : ℕ) → t < e → f t ≡ f′ t)
-    → energyOf d (pattern f 0 e) + (d .pw * used-ticks (pattern f′ e (h - e)) + d .ps * (h - e - used-ticks (pattern f′ e (h - e))))
-    ≤ energyOf d (pattern f′ 0 h)
-floor-below d ok = total-floor W (gapRow (d .t)) (power d) (d .ps) (gap-low d ok) (gap-none (d .t))

@@ -15,7 +15,7 @@ use lib.ListN.{replicate}
 use borrow.Author.Tests.{le-leb, lt-leb, lt-ltb, le-ltb}
 use Rattle.device.specs.declared.Device.{Device}
 use Rattle.device.specs.declared.Uses.{Uses}
-use Rattle.device.specs.Row.{W, energy, gapRow, rowOf, energyOf, pattern}
+use Rattle.device.specs.Row.{W, gapRow, gapCost, rowOf, energyOf, pattern}
 use Rattle.device.specs.Uses.{begin, end, usedBefore, usedIn, after, Spaced}
 use Rattle.device.proofs.Pattern.{Ended, fresh, placed, ended-place, pattern-place, pattern-close}
 use Rattle.device.proofs.Least.{row-place, row-close, energy-place, energy-close}
@@ -111,12 +111,12 @@ module _ (u : Uses) (h : ℕ) (ok : Spaced u h) where
 
     pub energy-use : (i at : ℕ) → i < u .count → at ≡ after u i
         → energyOf d (pattern (usedIn u) 0 (end u i))
-        ≡ energyOf d (pattern (usedIn u) 0 at) + (energy d (gapRow (d .t) (begin u i - at)) + d .pw * (end u i - begin u i))
+        ≡ energyOf d (pattern (usedIn u) 0 at) + (gapCost d (begin u i - at) + d .pw * (end u i - begin u i))
     energy-use i at l e =
         let s = ok .lasting i l in
         let c : suc (end u i - begin u i - 1) ≡ end u i - begin u i = omega arith in
         rw (e, pattern-use i l, energy-place d (ended-after i (omega arith)) (begin u i - after u i) (end u i - begin u i - 1), c)
 
     pub energy-last : (at : ℕ) → at ≡ after u (u .count)
-        → energyOf d (pattern (usedIn u) 0 h) ≡ energyOf d (pattern (usedIn u) 0 at) + energy d (gapRow (d .t) (h - at))
+        → energyOf d (pattern (usedIn u) 0 h) ≡ energyOf d (pattern (usedIn u) 0 at) + gapCost d (h - at)
     energy-last at e = rw (e, pattern-last) (energy-close d (ended-after (u .count) (omega arith)) (h - after u (u .count)))

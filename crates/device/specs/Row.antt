@@ -10,9 +10,9 @@ use lib.ListN.{replicate}
 use Rattle.base.specs.Sums.{total}
 use Rattle.device.specs.declared.Device.{Device}
 
--- The device of four figures, for the functions that take these.
-abbrev pub device : (t pw ps p0 : ℕ) → Device
-device t pw ps p0 = record { t = t; pw = pw; ps = ps; p0 = p0 }
+-- What a number past the end of a list of devices stands for.
+abbrev pub noDevice : Device
+noDevice = record { t = 0; pw = 0; ps = 0; p0 = 0 }
 
 -- 'Quantities': T is at least 1, and Ps < P0 < Pw. (The upper ends of the ranges are those of the file's fields.)
 pub record Sound (d : Device) : Type 0 where
@@ -85,6 +85,18 @@ pub record LeastRow (d : Device) (u : List Bool) (r : List Letter) : Type 0 wher
 -- 'A gap of g ticks without use is slept exactly when g ≥ 2T, as T of D, g − 2T of S, T of U', and is else worked through.
 abbrev pub gapRow : ℕ → ℕ → List Letter
 gapRow T g = cond (leb (T + T) g) (replicate T D ++ (replicate (g - (T + T)) S ++ replicate T U)) (replicate g W)
+
+-- ---- what others know of a device: these two and its working power
+
+-- What a gap of g ticks costs.
+unfoldable pub gapCost : Device → ℕ → ℕ
+gapCost d g = energy d (gapRow (d .t) g)
+
+-- The power in the deepest sleep: no tick costs less. A device of this kind has one sleep, so it is Ps.
+abbrev pub deep : Device → ℕ
+deep d = d .ps
+
+-- ---- rows and patterns of use
 
 -- The row that fills each gap by `fill`, where g unused ticks have gone by: 'the gaps before the first use and after the last are gaps like any other'.
 module _ {L : Type 0} (work : L) (fill : ℕ → List L) where

@@ -1,22 +1,29 @@
 // The energy of a device's least row, from its gaps and its uses.
 ghost use mathlib.Core.Path.{_≡_};
 ghost use Prim.Native.Nat.{_+_, _*_, _≤_};
-ghost use Rattle.device.specs.Row.{device, energy, gapRow, energyOf, pattern};
+ghost use Rattle.device.specs.Row.{gapCost, deep, energyOf, pattern};
 ghost use Rattle.device.specs.Uses.{usedIn, Spaced};
 use crate::Device;
 use crate::Uses;
 
 // The energy of a gap of g ticks: it is slept where both transitions have room, and else worked through.
-pub fn gap_energy(t: u8, pw: u16, ps: u16, p0: u16, g: u16) -> u32
-    ensures { λ r. ⌜ r ≡ energy (device t pw ps p0) (gapRow t g) ⌝ }
+pub fn gap_energy(d: Device, g: u16) -> u32
+    ensures { λ r. ⌜ (r ≡ gapCost d g) × (r ≤ 65535 * g) ⌝ }
 {
-    let moving = t as u32 + t as u32;
+    let moving = d.t as u32 + d.t as u32;
     let gap = g as u32;
     if moving <= gap {
-        p0 as u32 * moving + ps as u32 * (gap - moving)
+        d.p0 as u32 * moving + d.ps as u32 * (gap - moving)
     } else {
-        pw as u32 * gap
+        d.pw as u32 * gap
     }
+}
+
+// The power in the deepest sleep.
+pub fn deep_power(d: Device) -> u16
+    ensures { λ r. ⌜ r ≡ deep d ⌝ }
+{
+    d.ps
 }
 
 // The least energy of a device over h ticks with these uses.
@@ -30,10 +37,10 @@ pub fn energy_of(d: Device, h: u16, u: Uses) -> u32
     while i < u.count {
         let begin = u.begins[i];
         let end = u.ends[i];
-        sum += gap_energy(d.t, d.pw, d.ps, d.p0, begin - at);
+        sum += gap_energy(d, begin - at);
         sum += d.pw as u32 * (end - begin) as u32;
         at = end;
         i += 1;
     }
-    sum + gap_energy(d.t, d.pw, d.ps, d.p0, h - at)
+    sum + gap_energy(d, h - at)
 }

@@ -2,6 +2,7 @@
 mod energy;
 mod writer;
 
+pub use crate::energy::deep_power;
 pub use crate::energy::energy_of;
 pub use crate::energy::gap_energy;
 pub use crate::writer::write_row;

@@ -10,7 +10,7 @@ use Rattle.base.specs.Sums.{total}
 use Rattle.base.proofs.Additions.{sum-le}
 use Rattle.base.proofs.Cases.{test-cases}
 use Rattle.base.proofs.Numbers.{total-remove}
-use Rattle.device.specs.Row.{Sound, energy, gapRow}
+use Rattle.device.specs.Row.{Sound, gapCost, deep}
 use Rattle.device.proofs.Least.{gap-low}
 use Rattle.schedule.specs.declared.Recorder.{Recorder}
 use Rattle.schedule.specs.Quantities.{device, run, uses, Valid}
@@ -26,7 +26,7 @@ pub floor-is :
     → deviceFloor R k v
     ≡ paidFrom R k 0 (v .placed)
     + (device R k .pw * total (ticks R k) (v .unplaced)
-    + device R k .ps * (R .horizon - lastEnd R k 0 (v .placed) - total (ticks R k) (v .unplaced)))
+    + deep (device R k) * (R .horizon - lastEnd R k 0 (v .placed) - total (ticks R k) (v .unplaced)))
 unfolding deviceFloor
 floor-is R k v h w = rw (paid-is R k (v .placed) h w)
 
@@ -42,8 +42,8 @@ left-over h e x c w = omega arith
 -- Working for each tick of use and asleep for every other costs no more than the uses and the gaps.
 rest-low :
     (R : Recorder) (k : ℕ) → Sound (device R k) → (r : List Place) (e : ℕ)
-    → device R k .pw * total (λ (p : Place). ticks R k (p .job)) r + device R k .ps * (R .horizon - e - total (λ (p : Place). ticks R k (p .job)) r)
-    ≤ paidFrom R k e r + energy (device R k) (gapRow (device R k .t) (R .horizon - lastEnd R k e r))
+    → device R k .pw * total (λ (p : Place). ticks R k (p .job)) r + deep (device R k) * (R .horizon - e - total (λ (p : Place). ticks R k (p .job)) r)
+    ≤ paidFrom R k e r + gapCost (device R k) (R .horizon - lastEnd R k e r)
 unfolding paidFrom lastEnd
 rest-low R k ok [] e = simp (mul-zero, sub-zero, zero-add) (gap-low (device R k) ok (R .horizon - e))
 rest-low R k ok (p ∷ r) e =
@@ -51,11 +51,11 @@ rest-low R k ok (p ∷ r) e =
     let x = p .start in
     let c = run R (p .job) in
     let w = total (λ (q : Place). ticks R k (q .job)) r in
-    test-cases (λ b. d .pw * (cond b c 0 + w) + d .ps * (R .horizon - e - (cond b c 0 + w))
-    ≤ cond b (energy d (gapRow (d .t) (x - e)) + d .pw * c + paidFrom R k (x + c) r) (paidFrom R k e r)
-    + energy d (gapRow (d .t) (R .horizon - lastEnd R k (cond b (x + c) e) r)))
+    test-cases (λ b. d .pw * (cond b c 0 + w) + deep d * (R .horizon - e - (cond b c 0 + w))
+    ≤ cond b (gapCost d (x - e) + d .pw * c + paidFrom R k (x + c) r) (paidFrom R k e r)
+    + gapCost d (R .horizon - lastEnd R k (cond b (x + c) e) r))
     (uses R k (p .job))
-    (λ q. omega (arith, gap-low d ok (x - e), rest-low R k ok r (x + c), mul-le-mul-left (d .ps) (left-over (R .horizon) e x c w)))
+    (λ q. omega (arith, gap-low d ok (x - e), rest-low R k ok r (x + c), mul-le-mul-left (deep d) (left-over (R .horizon) e x c w)))
     (λ q. rw (zero-add w) (rest-low R k ok r e))
 
 module _ (R : Recorder) (valid : Valid R) where

@@ -17,10 +17,9 @@ use Rattle.base.proofs.Cases.{cond-cases, test-cases}
 use Rattle.base.proofs.Numbers.{length-nil, length-remove, length-up}
 use Rattle.base.proofs.Ranges.{upTo-map}
 use Rattle.device.specs.declared.Device.{Device}
-use Rattle.device.specs.Row.{energy, energyOf, gapRow, rowOf, pattern}
+use Rattle.device.specs.Row.{gapCost, energyOf, pattern}
 use Rattle.device.proofs.Pattern.{Ended, fresh, placed, pattern-place, pattern-close, pattern-alike, ended-place}
-use Rattle.device.proofs.Prefix.{nothing}
-use Rattle.device.proofs.Least.{length-row, energy-place, energy-close}
+use Rattle.device.proofs.Least.{energy-none, energy-place, energy-close}
 use Rattle.schedule.specs.declared.Recorder.{Recorder}
 use Rattle.schedule.specs.Quantities.{device, jobs, run, uses, Valid}
 use Rattle.schedule.specs.Listing.{start, Feasible, Place, place, used, places, usesOf, soonest, ordered, running}
@@ -33,24 +32,20 @@ unfoldable pub paidFrom : Recorder → ℕ → ℕ → List Place → ℕ
 paidFrom R k e [] = 0
 paidFrom R k e (p ∷ r) =
     cond (uses R k (p .job))
-    (energy (device R k) (gapRow (device R k .t) (p .start - e)) + device R k .pw * run R (p .job) + paidFrom R k (p .start + run R (p .job)) r)
+    (gapCost (device R k) (p .start - e) + device R k .pw * run R (p .job) + paidFrom R k (p .start + run R (p .job)) r)
     (paidFrom R k e r)
 
 -- What a whole plan costs on device k, the gap after the last use too.
 abbrev pub paidWhole : Recorder → ℕ → List Place → ℕ
-paidWhole R k r = paidFrom R k 0 r + energy (device R k) (gapRow (device R k .t) (R .horizon - lastEnd R k 0 r))
+paidWhole R k r = paidFrom R k 0 r + gapCost (device R k) (R .horizon - lastEnd R k 0 r)
 
 -- ---- one use more
-
--- No ticks, no energy.
-energy-none : (d : Device) → energyOf d [] ≡ 0
-energy-none d = ap (energy d) (nothing (rowOf d []) (length-row d []))
 
 -- One use of c ticks from tick x on, where the uses before it end at tick e.
 one-use :
     (d : Device) (f : ℕ → Bool) (e x c : ℕ) → e ≤ x → 1 ≤ c → Ended (pattern f 0 e) → ((t : ℕ) → e ≤ t → t < x → f t ≡ false)
     → ((t : ℕ) → x ≤ t → t < x + c → f t ≡ true)
-    → Ended (pattern f 0 (x + c)) × (energyOf d (pattern f 0 (x + c)) ≡ energyOf d (pattern f 0 e) + (energy d (gapRow (d .t) (x - e)) + d .pw * c))
+    → Ended (pattern f 0 (x + c)) × (energyOf d (pattern f 0 (x + c)) ≡ energyOf d (pattern f 0 e) + (gapCost d (x - e) + d .pw * c))
 one-use d f e x zero l some u free busy = absurd (omega arith)
 one-use d f e x (suc c) l some u free busy =
     let whole : e + (x - e + suc c) ≡ x + suc c = omega arith in
@@ -107,7 +102,7 @@ module _ (R : Recorder) (k : ℕ) where
       let x = p .start in
       let c = run R (p .job) in
       test-cases (λ b. Settles f e (lastEnd R k (cond b (x + c) e) r)
-      (cond b (energy (device R k) (gapRow (device R k .t) (x - e)) + device R k .pw * c + paidFrom R k (x + c) r) (paidFrom R k e r)))
+      (cond b (gapCost (device R k) (x - e) + device R k .pw * c + paidFrom R k (x + c) r) (paidFrom R k e r)))
       (uses R k (p .job))
       (λ q.
       let free : (y : ℕ) → e ≤ y → y < x → f y ≡ false = λ y m n. same y m ∙ used-before (p ∷ r) x h y (omega arith, w .1, w .2) n in
@@ -126,14 +121,14 @@ module _ (R : Recorder) (k : ℕ) where
 
   pub close-is :
       (r : List Place) (h : ℕ) → InTurn R 0 h r
-      → energyOf (device R k) (pattern (used R k r) 0 h) ≡ paidFrom R k 0 r + energy (device R k) (gapRow (device R k .t) (h - lastEnd R k 0 r))
+      → energyOf (device R k) (pattern (used R k r) 0 h) ≡ paidFrom R k 0 r + gapCost (device R k) (h - lastEnd R k 0 r)
   close-is r h w =
       let e = lastEnd R k 0 r in
       let whole : e + (h - e) ≡ h = omega (arith, last-by r 0 0 h w (omega arith)) in
       let parts : pattern (used R k r) 0 h ≡ pattern (used R k r) 0 e ++ replicate (h - e) false =
       ap (pattern (used R k r) 0) (sym whole) ∙ pattern-close (used R k r) e (h - e) (λ t l m. settled r h w .2 t l) in
       ap (energyOf (device R k)) parts ∙ energy-close (device R k) (settled r h w .0) (h - e)
-      ∙ ap (λ (n : ℕ). n + energy (device R k) (gapRow (device R k .t) (h - e))) (paid-is r h w)
+      ∙ ap (λ (n : ℕ). n + gapCost (device R k) (h - e)) (paid-is r h w)
 
   -- ---- one place after the other
 
@@ -148,7 +143,7 @@ module _ (R : Recorder) (k : ℕ) where
   paid-append (p ∷ r) r′ e =
       let x = p .start in
       let c = run R (p .job) in
-      let one = energy (device R k) (gapRow (device R k .t) (x - e)) + device R k .pw * c in
+      let one = gapCost (device R k) (x - e) + device R k .pw * c in
       test-cases (λ b. cond b (one + paidFrom R k (x + c) (r ++ r′)) (paidFrom R k e (r ++ r′))
       ≡ cond b (one + paidFrom R k (x + c) r) (paidFrom R k e r) + paidFrom R k (lastEnd R k (cond b (x + c) e) r) r′)
       (uses R k (p .job))
@@ -165,11 +160,11 @@ module _ (R : Recorder) (k : ℕ) where
       (r : List Place) (p : Place)
       → paidFrom R k 0 (r ++ p ∷ [])
       ≡ cond (uses R k (p .job))
-      (paidFrom R k 0 r + (energy (device R k) (gapRow (device R k .t) (p .start - lastEnd R k 0 r)) + device R k .pw * run R (p .job)))
+      (paidFrom R k 0 r + (gapCost (device R k) (p .start - lastEnd R k 0 r) + device R k .pw * run R (p .job)))
       (paidFrom R k 0 r)
   unfolding paidFrom
   paid-snoc r p =
-      let one = energy (device R k) (gapRow (device R k .t) (p .start - lastEnd R k 0 r)) + device R k .pw * run R (p .job) in
+      let one = gapCost (device R k) (p .start - lastEnd R k 0 r) + device R k .pw * run R (p .job) in
       paid-append r (p ∷ []) 0
       ∙ test-cases (λ b. paidFrom R k 0 r + cond b (one + 0) 0 ≡ cond b (paidFrom R k 0 r + one) (paidFrom R k 0 r)) (uses R k (p .job))
       (λ q. omega arith) (λ q. omega arith)

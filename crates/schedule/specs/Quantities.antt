@@ -7,15 +7,13 @@ use Prim.Native.Nat.{ℕ, _+_, _≤_, _<_}
 use lib.ListN.{getD}
 use Rattle.device.specs.declared.Device.{Device}
 use Rattle.device.specs.Row.{Sound}
+pub use Rattle.device.specs.Row.{noDevice}
 use Rattle.schedule.specs.declared.Job.{Job}
 use Rattle.schedule.specs.declared.Recorder.{Recorder}
 
 -- What a number past the end of the list stands for.
 abbrev pub noJob : Job
 noJob = record { release = 0; deadline = 0; run = 0; uses = [] }
-
-abbrev pub noDevice : Device
-noDevice = record { t = 0; pw = 0; ps = 0; p0 = 0 }
 
 abbrev pub job : Recorder → ℕ → Job
 job R j = getD (R .jobs .list) j noJob

@@ -9,7 +9,7 @@ use lib.ListN.{set, replicate}
 use Rattle.base.specs.Lists.{upFrom, remove}
 use Rattle.base.specs.Loops.{through}
 use Rattle.base.specs.Sums.{total, sum}
-use Rattle.device.specs.Row.{Letter, rowOf, energyOf, pattern}
+use Rattle.device.specs.Row.{Letter, deep, rowOf, energyOf, pattern}
 use Rattle.schedule.specs.declared.Recorder.{Recorder}
 use Rattle.schedule.specs.Quantities.{device, jobs, release, deadline, run, uses}
 use Rattle.schedule.specs.Listing.{Place, place, used, usesOf}
@@ -89,13 +89,13 @@ module _ (R : Recorder) where
   abbrev pub ticks : ℕ → ℕ → ℕ
   ticks k j = cond (uses R k j) (run R j) 0
 
-  -- 'The floor adds, for each device: the least energy of the ticks before the end of its last placed use; Pw for each tick that unplaced jobs will use it; Ps for
-  -- every other tick after that end, up to H.'
+  -- The floor of one device (rule 46): the least energy up to the end of its last placed use; after that the working power for each tick that the unplaced jobs
+  -- will use it, and for every other tick up to H the power of its deepest sleep, which is Ps.
   unfoldable pub deviceFloor : ℕ → Vertex → ℕ
   deviceFloor k v =
       let e = lastEnd k 0 (v .placed) in
       let ahead = total (ticks k) (v .unplaced) in
-      energyOf (device R k) (pattern (used R k (v .placed)) 0 e) + (device R k .pw * ahead + device R k .ps * (R .horizon - e - ahead))
+      energyOf (device R k) (pattern (used R k (v .placed)) 0 e) + (device R k .pw * ahead + deep (device R k) * (R .horizon - e - ahead))
 
   unfoldable pub floor : Vertex → ℕ
   floor v = sum (R .devices .count) (λ k. deviceFloor k v)

@@ -17,28 +17,29 @@ use Rattle.base.proofs.Arrays.{getD-padded}
 use Rattle.base.proofs.Cases.{cond-cases}
 use Rattle.base.proofs.Stores.{length-stored, stored-at, stored-kept}
 use Rattle.device.specs.declared.Device.{Device}
-use Rattle.device.specs.Row.{Sound}
-use Rattle.device.proofs.Least.{gap-most}
+use Rattle.device.specs.Row.{Sound, gapCost}
+use Rattle.device.proofs.Least.{gap-high}
 use Rattle.schedule.specs.declared.Jobs.{Jobs}
 use Rattle.schedule.specs.declared.Recorder.{Recorder}
 use Rattle.visit.specs.declared.Vertex.{Vertex}
 use Rattle.schedule.specs.Quantities.{Valid, device, job, jobs, run}
-use Rattle.visit.specs.Steps.{flagged, jobIn, loadStep, aheadStep, addLoad, addAhead, load, ahead, lastStart, endAt, paidAt, gapCost, paidStep, endStep, payEnd, payOne, withPaid, charged, placeAt, root, Settled, Kept}
+use Rattle.visit.specs.Steps.{flagged, jobIn, loadStep, aheadStep, addLoad, addAhead, load, ahead, lastStart, endAt, paidAt, paidStep, endStep, payEnd, payOne, withPaid, charged, placeAt, root, Settled, Kept}
 
 -- ---- one device
 
--- The sums of the code up to a tick t, for powers of 16 bits.
-module _ (d : Device) (w : d .pw < 65536) (s : d .ps < 65536) (p : d .p0 < 65536) (b e t : ℕ) (h : b ≤ d .pw * e) (l : e ≤ t) where
-  before-fits : d .pw * e ≤ 65535 * e
+-- The sums of the code up to a tick t, where a device has cost b by the tick e: w is its working power, and 16 bits hold it.
+module _ (w b e t : ℕ) (o : w < 65536) (h : b ≤ w * e) (l : e ≤ t) where
+  before-fits : w * e ≤ 65535 * e
   before-fits = mul-le-mul-right e (omega arith)
 
-  pub closing-fits : b + gapCost d (t - e) ≤ 65535 * t
-  closing-fits = omega (arith, before-fits, gap-most d 65535 (omega arith) (omega arith) (omega arith) (t - e))
+  -- With a gap that costs g; and with a ticks of use, and the power p for every other.
+  pub closing-fits : (g : ℕ) → g ≤ 65535 * (t - e) → b + g ≤ 65535 * t
+  closing-fits g k = omega (arith, before-fits)
 
-  pub flooring-fits : (a : ℕ) → e + a ≤ t → b + (d .pw * a + d .ps * (t - e - a)) ≤ 65535 * t
-  flooring-fits a k =
-      let g : d .pw * a ≤ 65535 * a = mul-le-mul-right a (omega arith) in
-      let i : d .ps * (t - e - a) ≤ 65535 * (t - e - a) = mul-le-mul-right (t - e - a) (omega arith) in
+  pub flooring-fits : (p : ℕ) → p < 65536 → (a : ℕ) → e + a ≤ t → b + (w * a + p * (t - e - a)) ≤ 65535 * t
+  flooring-fits p s a k =
+      let g : w * a ≤ 65535 * a = mul-le-mul-right a (omega arith) in
+      let i : p * (t - e - a) ≤ 65535 * (t - e - a) = mul-le-mul-right (t - e - a) (omega arith) in
       omega (arith, before-fits)
 
 pub product-fits : (a b : ℕ) → a < 65536 → b ≤ 4096 → a * b ≤ 268431360
@@ -53,7 +54,7 @@ unfolding paidStep endStep
 paid-cheap false d ok b e s c h l = h
 paid-cheap true d ok b e s c h l =
     let q : e + (s - e) ≡ s = omega arith in
-    let f = paid-more (d .pw) b e (s - e) c (gapCost d (s - e)) h (gap-most d (d .pw) (omega arith) (omega (arith, ok .sleeps-cheaper, ok .works-dearer)) (omega (arith, ok .works-dearer)) (s - e)) in
+    let f = paid-more (d .pw) b e (s - e) c (gapCost d (s - e)) h (gap-high d ok (s - e)) in
     subst (λ (x : ℕ). b + (gapCost d (s - e) + d .pw * c) ≤ d .pw * (x + c)) q f
 
 -- ---- one vertex

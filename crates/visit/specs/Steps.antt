@@ -8,7 +8,7 @@ use Prim.Native.Nat.{ℕ, zero, suc, _+_, _-_, _*_, _≤_, _<_, max}
 use lib.Dec.{leb, ltb, eqb}
 use lib.ListN.{getD, set, replicate, length}
 use Rattle.base.specs.Loops.{each, under}
-use Rattle.device.specs.Row.{energy, gapRow}
+use Rattle.device.specs.Row.{gapCost, deep}
 use Rattle.device.specs.declared.Device.{Device}
 use Rattle.schedule.specs.declared.Job.{Job}
 use Rattle.schedule.specs.declared.Jobs.{Jobs}
@@ -76,10 +76,6 @@ endAt v k = getD (v .ends) k 0
 abbrev pub paidAt : Vertex → ℕ → ℕ
 paidAt v k = getD (v .paid) k 0
 
--- What a device costs over a gap of g ticks.
-abbrev pub gapCost : Device → ℕ → ℕ
-gapCost d g = energy d (gapRow (d .t) g)
-
 -- A job that starts at s and runs for c ticks, and uses a device d or not, whose last use ended at e and which had cost b by then.
 unfoldable pub paidStep : Bool → Device → ℕ → ℕ → ℕ → ℕ → ℕ
 paidStep u d b e s c = cond u (b + (gapCost d (s - e) + d .pw * c)) b
@@ -118,7 +114,7 @@ closed R v = each (addClose (R .devices) (R .horizon) v) (R .devices .count) 0
 
 -- The same device, where a ticks of use are still to come.
 unfoldable pub floorStep : Device → ℕ → ℕ → ℕ → ℕ → ℕ → ℕ
-floorStep d h b e a x = x + (b + (d .pw * a + d .ps * (h - e - a)))
+floorStep d h b e a x = x + (b + (d .pw * a + deep d * (h - e - a)))
 
 abbrev pub addFloor : Devices → Jobs → ℕ → Vertex → ℕ → ℕ → ℕ
 addFloor D J h v k = floorStep (deviceIn D k) h (paidAt v k) (endAt v k) (ahead J (v .placed) k)

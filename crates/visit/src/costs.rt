@@ -21,7 +21,7 @@ fn paid_with(used: bool, d: Device, paid: u32, end: u16, s: u16, c: u16) -> u32
     ensures { λ x. ⌜ x ≡ paidStep used d paid end s c ⌝ }
 {
     if used {
-        let gap = device::gap_energy(d.t, d.pw, d.ps, d.p0, s - end);
+        let gap = device::gap_energy(d, s - end);
         return paid + (gap + wide(d.pw) * wide(c));
     }
     paid
@@ -71,7 +71,7 @@ fn close_with(d: Device, h: u16, paid: u32, end: u16, sum: u32) -> u32
     requires { ⌜ (paid ≤ d .pw * end) × ((end ≤ h) × ((h ≤ 4096) × (sum ≤ 2000000000))) ⌝ }
     ensures { λ x. ⌜ (x ≡ closeStep d h paid end sum) × (x ≤ sum + 268431360) ⌝ }
 {
-    let gap = device::gap_energy(d.t, d.pw, d.ps, d.p0, h - end);
+    let gap = device::gap_energy(d, h - end);
     sum + (paid + gap)
 }
 

@@ -83,7 +83,7 @@ fn floor_with(d: Device, h: u16, paid: u32, end: u16, ahead: u32, sum: u32) -> u
     ensures { λ x. ⌜ (x ≡ floorStep d h paid end ahead sum) × (x ≤ sum + 268431360) ⌝ }
 {
     let idle = wide(h) - wide(end) - ahead;
-    sum + (paid + (wide(d.pw) * ahead + wide(d.ps) * idle))
+    sum + (paid + (wide(d.pw) * ahead + wide(device::deep_power(d)) * idle))
 }
 
 // The floor of a vertex.

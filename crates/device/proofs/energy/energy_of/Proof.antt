@@ -50,7 +50,7 @@ turn c =
     let l = c .before .before .before in
     let s = l .before .before in
     let e = energy-use (s .args .t3) (s .args .h) (s .pre) (s .args .d) (l .before .loop .i) (l .before .loop .at) (l .loop-test .taken) (l .before .loop .inv .1) in
-    (omega (arith, e, l .before .loop .inv .2, c .gap-energy .ensures), small s (end (s .args .t3) (l .before .loop .i)) (fits l .2))
+    (omega (arith, e, l .before .loop .inv .2, c .gap-energy .ensures .0), small s (end (s .args .t3) (l .before .loop .i)) (fits l .2))
 
 mul-begin : tie.Need-mul-begin Inv-loop μ-loop
 mul-begin c = search needs
@@ -120,7 +120,7 @@ last c =
       arith,
       energy-last (s .args .t3) (s .args .h) (s .pre) (s .args .d) (c .before .before .loop .at) (over (c .before)),
       c .before .before .loop .inv .2,
-      c .gap-energy2 .ensures,
+      c .gap-energy2 .ensures .0,
     )
 
 add-result : tie.Need-add-result Inv-loop μ-loop

@@ -5,8 +5,8 @@ use Prim.Native.Nat.{ℕ, _+_, _-_, _*_, _^_, _≤_, _<_}
 use native.Mathlib.Nat.{mul-le-mul, mul-le-mul-right}
 use native.Mathlib.Omega.{arith}
 use borrow.Author.Needs.{needs}
-use Rattle.device.specs.Row.{device}
-use Rattle.device.proofs.Least.{gap-slept, gap-worked}
+use Rattle.device.specs.Row.{gapCost}
+use Rattle.device.proofs.Least.{gap-most, gap-slept, gap-worked}
 use Rattle.device.proofs.energy.gap_energy.Statement.{statement}
 use Rattle.device.proofs.energy.gap_energy.Tie as tie
 
@@ -16,11 +16,27 @@ product hp hm = omega (arith, mul-le-mul hp hm)
 sum : {p m s g : ℕ} → p ≤ 65535 → s ≤ 65535 → m ≤ g → g ≤ 65535 → p * m + s * (g - m) < 2 ^ 32
 sum {p} {m} {s} {g} hp hs hm hg = omega (arith, mul-le-mul-right m hp, mul-le-mul-right (g - m) hs)
 
+-- No tick of it costs more than 65,535.
+most : (c : tie.Start) → gapCost (c .args .d) (c .args .g) ≤ 65535 * c .args .g
+most c = gap-most (c .args .d) 65535 (omega (arith, c .good .0)) (omega (arith, c .good .0)) (omega (arith, c .good .0)) (c .args .g)
+
+cast-moving : tie.Need-cast-moving
+cast-moving c = search needs
+
+cast-moving-2 : tie.Need-cast-moving-2
+cast-moving-2 c = search needs
+
 add-moving : tie.Need-add-moving
 add-moving c = search needs
 
+cast-result : tie.Need-cast-result
+cast-result c = search needs
+
 mul-result : tie.Need-mul-result
 mul-result c = record { fits = product (omega arith) (omega arith) }
+
+cast-result-2 : tie.Need-cast-result-2
+cast-result-2 c = search needs
 
 mul-result-2 : tie.Need-mul-result-2
 mul-result-2 c = record { fits = product (omega arith) (omega arith) }
@@ -28,14 +44,37 @@ mul-result-2 c = record { fits = product (omega arith) (omega arith) }
 add-result : tie.Need-add-result
 add-result c = record { fits = sum (omega arith) (omega arith) (omega arith) (omega arith) }
 
+cast-result-3 : tie.Need-cast-result-3
+cast-result-3 c = search needs
+
 mul-result-3 : tie.Need-mul-result-3
 mul-result-3 c = record { fits = product (omega arith) (omega arith) }
 
 returns : tie.Need-returns
-returns c = sym (gap-slept (device (c .before .args .t) (c .before .args .pw) (c .before .args .ps) (c .before .args .p0)) (c .before .args .g) (c .if1 .taken))
+returns c =
+    let s = c .before .before .before .before .before in
+    let e = gap-slept (s .args .d) (s .args .g) (c .before .before .if1 .taken) in
+    (sym e, omega (arith, e, most s))
 
 returns-2 : tie.Need-returns-2
-returns-2 c = sym (gap-worked (device (c .before .args .t) (c .before .args .pw) (c .before .args .ps) (c .before .args .p0)) (c .before .args .g) (c .if1 .left))
+returns-2 c =
+    let s = c .before .before .before .before in
+    let e = gap-worked (s .args .d) (s .args .g) (c .before .if1 .left) in
+    (sym e, omega (arith, e, most s))
 
 pub gap-energy-spec : {M : Type 1} → statement M
-gap-energy-spec = tie.close (tie.spec add-moving mul-result mul-result-2 add-result mul-result-3 returns returns-2)
+gap-energy-spec =
+    tie.close
+    (tie.spec
+    cast-moving
+    cast-moving-2
+    add-moving
+    cast-result
+    mul-result
+    cast-result-2
+    mul-result-2
+    add-result
+    cast-result-3
+    mul-result-3
+    returns
+    returns-2)

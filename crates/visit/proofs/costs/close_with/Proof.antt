@@ -14,14 +14,14 @@ gap-energy-requires : tie.Need-gap-energy-requires
 gap-energy-requires c κs = search needs
 
 add-result : tie.Need-add-result
-add-result c = record { fits = omega (arith, c .gap-energy .ensures, closing-fits (c .before .args .d) (omega arith) (omega arith) (omega arith) (c .before .args .paid) (c .before .args .end) (c .before .args .h) (search needs) (search needs)) }
+add-result c = record { fits = omega (arith, closing-fits (c .before .args .d .pw) (c .before .args .paid) (c .before .args .end) (c .before .args .h) (omega arith) (search needs) (search needs) (c .gap-energy .result) (c .gap-energy .ensures .1)) }
 
 add-result-2 : tie.Need-add-result-2
-add-result-2 c = record { fits = omega (arith, c .gap-energy .ensures, closing-fits (c .before .args .d) (omega arith) (omega arith) (omega arith) (c .before .args .paid) (c .before .args .end) (c .before .args .h) (search needs) (search needs)) }
+add-result-2 c = record { fits = omega (arith, closing-fits (c .before .args .d .pw) (c .before .args .paid) (c .before .args .end) (c .before .args .h) (omega arith) (search needs) (search needs) (c .gap-energy .result) (c .gap-energy .ensures .1)) }
 
 returns : tie.Need-returns
 unfolding closeStep
-returns c = (simp (c .gap-energy .ensures), omega (arith, c .gap-energy .ensures, closing-fits (c .before .args .d) (omega arith) (omega arith) (omega arith) (c .before .args .paid) (c .before .args .end) (c .before .args .h) (search needs) (search needs)))
+returns c = (simp (c .gap-energy .ensures .0), omega (arith, closing-fits (c .before .args .d .pw) (c .before .args .paid) (c .before .args .end) (c .before .args .h) (omega arith) (search needs) (search needs) (c .gap-energy .result) (c .gap-energy .ensures .1)))
 
 pub close-with-spec : {M : Type 1} → statement M
 close-with-spec =

@@ -23,14 +23,14 @@ mul-result : tie.Need-mul-result
 mul-result c = record { fits = omega (arith, product-fits (c .before .wide .result) (c .wide2 .result) (omega arith) (omega arith)) }
 
 add-result : tie.Need-add-result
-add-result c = record { fits = omega (arith, product-fits (c .before .wide .result) (c .wide2 .result) (omega arith) (omega arith), c .before .before .gap-energy .ensures, closing-fits (c .before .before .before .before .args .d) (omega arith) (omega arith) (omega arith) (c .before .before .before .before .args .paid) (c .before .before .before .before .args .end) (c .before .before .before .before .args .s) (search needs) (search needs)) }
+add-result c = record { fits = omega (arith, product-fits (c .before .wide .result) (c .wide2 .result) (omega arith) (omega arith), closing-fits (c .before .before .before .before .args .d .pw) (c .before .before .before .before .args .paid) (c .before .before .before .before .args .end) (c .before .before .before .before .args .s) (omega arith) (search needs) (search needs) (c .before .before .gap-energy .result) (c .before .before .gap-energy .ensures .1)) }
 
 add-result-2 : tie.Need-add-result-2
-add-result-2 c = record { fits = omega (arith, product-fits (c .before .wide .result) (c .wide2 .result) (omega arith) (omega arith), c .before .before .gap-energy .ensures, closing-fits (c .before .before .before .before .args .d) (omega arith) (omega arith) (omega arith) (c .before .before .before .before .args .paid) (c .before .before .before .before .args .end) (c .before .before .before .before .args .s) (search needs) (search needs)) }
+add-result-2 c = record { fits = omega (arith, product-fits (c .before .wide .result) (c .wide2 .result) (omega arith) (omega arith), closing-fits (c .before .before .before .before .args .d .pw) (c .before .before .before .before .args .paid) (c .before .before .before .before .args .end) (c .before .before .before .before .args .s) (omega arith) (search needs) (search needs) (c .before .before .gap-energy .result) (c .before .before .gap-energy .ensures .1)) }
 
 returns : tie.Need-returns
 unfolding paidStep
-returns c = simp (c .before .before .before .if1 .taken, c .before .before .gap-energy .ensures, c .before .wide .ensures .0, c .wide2 .ensures .0)
+returns c = simp (c .before .before .before .if1 .taken, c .before .before .gap-energy .ensures .0, c .before .wide .ensures .0, c .wide2 .ensures .0)
 
 returns-2 : tie.Need-returns-2
 unfolding paidStep
