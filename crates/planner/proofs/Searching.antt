@@ -1,4 +1,4 @@
--- The search of a recorder, as crate schedule gives it, keeps the promise of `search`; and a larger budget changes no other result.
+-- The search of a recorder, as crate visit gives it, is one of the cases of `search`.
 -- Assumes nothing.
 use mathlib.Core.Path.{_≡_, sym, ap, subst, _∙_}
 use mathlib.Core.Bool.{true, false, cond}
@@ -21,9 +21,8 @@ use Rattle.visit.specs.Steps.{searched, answerOf, copyStart, writtenOf}
 use Rattle.visit.specs.Steps as Steps
 use Rattle.visit.proofs.Agreement.{searched-count, searched-none, searched-best}
 use Rattle.schedule.proofs.Outcome.{visited-first, visited-none}
-use Rattle.request.proofs.Accepted.{accepted-valid}
 use Rattle.planner.specs.declared.Answer.{Answer}
-use Rattle.planner.specs.Promises.{success, refusalAfter, Reads, Searched}
+use Rattle.planner.specs.Promises.{success, refusalAfter, SearchOf}
 use Rattle.planner.specs.Promises as P
 
 -- What is answered of what the search of a recorder found.
@@ -34,18 +33,15 @@ copied : (s : List ℕ) (n : ℕ) (l : List ℕ) → n ≤ length s → n ≤ le
 unfolding copyStart
 copied s n l h k = stored-is (λ j. getD s j 0) n l k ∙ ap (λ (x : List ℕ). x ++ drop n l) (upTo-take s 0 n h)
 
-module _ (file : List ℕ) (budget : ℕ) (lent : List ℕ) {R : Recorder} (r : Reads file R) where
-  valid : Valid R
-  valid = accepted-valid file R r
-
-  -- The promise, of what was found; the lent list is written where a schedule was.
+module _ (budget : ℕ) (lent : List ℕ) (R : Recorder) (valid : Valid R) where
+  -- The cases of `search`, of what was found; the lent list is written where a schedule was.
   Keeps : Found → Type 0
-  Keeps f = Searched file budget lent (told R f) (under (eqb (f .number) 0) (each (copyStart (searched R .best .starts)) (jobs R)) lent)
+  Keeps f = SearchOf budget lent R (told R f) (under (eqb (f .number) 0) (each (copyStart (searched R .best .starts)) (jobs R)) lent)
 
   module _ (roomy : jobs R ≤ length lent) (covered : vertices R ≤ budget) where
     keeps-none : searched R .best .found ≡ false → Keeps (Steps.refusal 19 (searched R .count))
     unfolding Keeps
-    keeps-none q = rw (searched-count R valid) (P.Searched.none r roomy covered (visited-none R valid (searched-none R valid q)))
+    keeps-none q = rw (searched-count R valid) (P.SearchOf.none roomy covered (visited-none R valid (searched-none R valid q)))
 
     keeps-found : searched R .best .found ≡ true → Keeps (Steps.success (searched R))
     unfolding Keeps
@@ -54,25 +50,25 @@ module _ (file : List ℕ) (budget : ℕ) (lent : List ℕ) {R : Recorder} (r : 
         let b = searched-best R valid q in
         let f : FirstLeast R s (searched R .best .energy) = subst (FirstLeast R s) (sym (b .1)) (visited-first R valid s (b .0)) in
         let long : jobs R ≤ length (searched R .best .starts) = omega (arith, f .feasible .one-each, length-take (jobs R) (searched R .best .starts)) in
-        rw (searched-count R valid, copied (searched R .best .starts) (jobs R) lent long roomy) (P.Searched.found r roomy covered f)
+        rw (searched-count R valid, copied (searched R .best .starts) (jobs R) lent long roomy) (P.SearchOf.found roomy covered f)
 
   keeps-answer : Keeps (answerOf R budget (length lent))
   unfolding answerOf Keeps
   keeps-answer =
-      cond-cases Keeps (ltb (length lent) (jobs R)) (λ q. P.Searched.short r (ltb-true (length lent) (jobs R) q))
+      cond-cases Keeps (ltb (length lent) (jobs R)) (λ q. P.SearchOf.short (ltb-true (length lent) (jobs R) q))
       (λ q. let roomy = ltb-false (length lent) (jobs R) q in
-      cond-cases Keeps (ltb budget (searched R .count)) (λ p. P.Searched.over r roomy (omega (arith, ltb-true budget (searched R .count) p, searched-count R valid)))
+      cond-cases Keeps (ltb budget (searched R .count)) (λ p. P.SearchOf.over roomy (omega (arith, ltb-true budget (searched R .count) p, searched-count R valid)))
       (λ p. let covered : vertices R ≤ budget = omega (arith, ltb-false budget (searched R .count) p, searched-count R valid) in
       cond-cases Keeps (searched R .best .found) (keeps-found roomy covered) (keeps-none roomy covered)))
 
   -- What the code answers, where f and l are the search's own answer and list.
   module _ (f : Found) (l : List ℕ) (e : f ≡ answerOf R budget (length lent)) (w : l ≡ writtenOf R budget lent) where
-    kept : Searched file budget lent (told R f) l
+    kept : SearchOf budget lent R (told R f) l
     unfolding writtenOf Keeps
     kept = rw (e, w) keeps-answer
 
-    pub search-refused : (f .number ≡ 0 → ⊥) → Searched file budget lent (refusalAfter (f .number) (f .count)) l
+    pub search-refused : (f .number ≡ 0 → ⊥) → SearchOf budget lent R (refusalAfter (f .number) (f .count)) l
     search-refused ne = rw (ne-eqb (f .number) 0 ne) at kept
 
-    pub search-found : f .number ≡ 0 → Searched file budget lent (success (R .horizon) (f .energy) (f .count)) l
+    pub search-found : f .number ≡ 0 → SearchOf budget lent R (success (R .horizon) (f .energy) (f .count)) l
     search-found z = rw (eq-eqb (f .number) 0 z) at kept

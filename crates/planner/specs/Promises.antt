@@ -1,6 +1,6 @@
--- What the five public operations promise: for each one relation between its inputs and its complete outcome, the answer and the lent memory after it,
--- with a case for each row of document 01's refusal table that it can give, in the document's order, and one for success. proofs/Only: each relation has
--- one outcome for every input.
+-- What the five public operations promise: for each one relation between its inputs and its complete outcome, the answer and the lent memory after it.
+-- The file comes first, in one way for all (`OfFile`); then each operation has its own cases for a recorder, one for each refusal that it can give after the
+-- file, in their order (rule 16), and one for success. proofs/Only: each relation has one outcome for every input.
 -- Assumes nothing.
 use mathlib.Core.Path.{_≡_}
 use mathlib.Core.List.{List, _++_}
@@ -18,7 +18,10 @@ use Rattle.request.specs.Format.{readOf}
 use Rattle.request.specs.Format as Format
 use Rattle.planner.specs.declared.Answer.{Answer}
 
--- 'Success is number 0 with the horizon.' A refusal 'returns its number, and 0 for energy and horizon'; some return a job or a count.
+-- ---- answers
+
+-- Success is 0 with the horizon, and with an energy and a count where the operation has them to give (rule 17). A refusal is its number, some with a job or a
+-- count; all else in it is 0 (rule 18).
 abbrev pub success : ℕ → ℕ → ℕ → Answer
 success h e c = record { number = 0; job = record { 0 = 0 }; horizon = h; energy = e; count = c }
 
@@ -31,6 +34,8 @@ refusalAt n j = record { number = n; job = record { 0 = j }; horizon = 0; energy
 abbrev pub refusalAfter : ℕ → ℕ → Answer
 refusalAfter n c = record { number = n; job = record { 0 = 0 }; horizon = 0; energy = 0; count = c }
 
+-- ---- the file
+
 -- The file is refused, by one of the numbers 1 to 13; or it is read as the recorder R.
 abbrev pub Refused : List ℕ → ℕ → Type 0
 Refused file n = readOf file ≡ Format.refused n
@@ -38,43 +43,67 @@ Refused file n = readOf file ≡ Format.refused n
 abbrev pub Reads : List ℕ → Recorder → Type 0
 Reads file R = readOf file ≡ Format.accepted R
 
--- `check`
-pub data Checked (file : List ℕ) : Answer → Type 0 where
-  refused : {n : ℕ} → Refused file n → Checked file (refusal n)
-  accepted : {R : Recorder} → Reads file R → Checked file (success (R .horizon) 0 0)
+-- The outcome of an operation on a file: the file's refusal, which leaves the lent memory as it was (rule 19); or what the operation's own cases, `Then`, say
+-- of the recorder that the file is read as.
+pub data OfFile {L : Type 0} (file : List ℕ) (lent : L) (Then : Recorder → Answer → L → Type 0) : Answer → L → Type 0 where
+  refused : {n : ℕ} → Refused file n → OfFile file lent Then (refusal n) lent
+  read : {R : Recorder} {a : Answer} {after : L} → Reads file R → Then R a after → OfFile file lent Then a after
 
--- `margins`: the lent numbers before, the answer, the lent numbers after. 'Margins are given for any start times, feasible or not.'
-pub data Margined (file starts : List ℕ) (lent : List ℤ) : Answer → List ℤ → Type 0 where
-  refused : {n : ℕ} → Refused file n → Margined file starts lent (refusal n) lent
-  unequal : {R : Recorder} → Reads file R → (length starts ≡ jobs R → ⊥) → Margined file starts lent (refusal 14) lent
-  short : {R : Recorder} → Reads file R → length starts ≡ jobs R → length lent < jobs R → Margined file starts lent (refusal 15) lent
-  given : {R : Recorder} → Reads file R → length starts ≡ jobs R → jobs R ≤ length lent
-      → Margined file starts lent (success (R .horizon) 0 0) (upTo (margin R starts) (jobs R) ++ drop (jobs R) lent)
+-- The same for an operation that is lent nothing to write to.
+abbrev pub Answered : List ℕ → (Recorder → Answer → Type 0) → Answer → Type 0
+Answered file Then a = OfFile {L = Unit {0}} file tt (λ R b u. Then R b) a tt
 
--- `verdict`
-pub data Judged (file starts : List ℕ) : Answer → Type 0 where
-  refused : {n : ℕ} → Refused file n → Judged file starts (refusal n)
-  unequal : {R : Recorder} → Reads file R → (length starts ≡ jobs R → ⊥) → Judged file starts (refusal 14)
-  faulty : {R : Recorder} {n j : ℕ} → Reads file R → length starts ≡ jobs R → Fault R starts n j → Judged file starts (refusalAt n j)
-  feasible : {R : Recorder} {e : ℕ} → Reads file R → Feasible R starts → Costs R starts e → Judged file starts (success (R .horizon) e 0)
+-- ---- `check`
 
--- `rows`
-pub data Rowed (file starts lent : List ℕ) : Answer → List ℕ → Type 0 where
-  refused : {n : ℕ} → Refused file n → Rowed file starts lent (refusal n) lent
-  unequal : {R : Recorder} → Reads file R → (length starts ≡ jobs R → ⊥) → Rowed file starts lent (refusal 14) lent
-  short : {R : Recorder} → Reads file R → length starts ≡ jobs R → length lent < R .devices .count * R .horizon → Rowed file starts lent (refusal 15) lent
-  faulty : {R : Recorder} {n j : ℕ} → Reads file R → length starts ≡ jobs R → R .devices .count * R .horizon ≤ length lent → Fault R starts n j
-      → Rowed file starts lent (refusalAt n j) lent
-  given : {R : Recorder} {rows : ℕ → List Letter} → Reads file R → R .devices .count * R .horizon ≤ length lent → Feasible R starts → Rows R starts rows
-      → Rowed file starts lent (success (R .horizon) (sum (R .devices .count) (λ k. energy (device R k) (rows k))) 0)
+pub data CheckOf (R : Recorder) : Answer → Type 0 where
+  accepted : CheckOf R (success (R .horizon) 0 0)
+
+abbrev pub Checked : List ℕ → Answer → Type 0
+Checked file a = Answered file CheckOf a
+
+-- ---- `margins`: for any start times, feasible or not (rule 24); what is lent beyond one number for each job stays as it was
+
+pub data MarginsOf (starts : List ℕ) (lent : List ℤ) (R : Recorder) : Answer → List ℤ → Type 0 where
+  unequal : (length starts ≡ jobs R → ⊥) → MarginsOf starts lent R (refusal 14) lent
+  short : length starts ≡ jobs R → length lent < jobs R → MarginsOf starts lent R (refusal 15) lent
+  given : length starts ≡ jobs R → jobs R ≤ length lent
+      → MarginsOf starts lent R (success (R .horizon) 0 0) (upTo (margin R starts) (jobs R) ++ drop (jobs R) lent)
+
+abbrev pub Margined : List ℕ → List ℕ → List ℤ → Answer → List ℤ → Type 0
+Margined file starts lent a after = OfFile file lent (MarginsOf starts lent) a after
+
+-- ---- `verdict`
+
+pub data VerdictOf (starts : List ℕ) (R : Recorder) : Answer → Type 0 where
+  unequal : (length starts ≡ jobs R → ⊥) → VerdictOf starts R (refusal 14)
+  faulty : {n j : ℕ} → length starts ≡ jobs R → Fault R starts n j → VerdictOf starts R (refusalAt n j)
+  feasible : {e : ℕ} → Feasible R starts → Costs R starts e → VerdictOf starts R (success (R .horizon) e 0)
+
+abbrev pub Judged : List ℕ → List ℕ → Answer → Type 0
+Judged file starts a = Answered file (VerdictOf starts) a
+
+-- ---- `rows`: each the legal row of least energy (rule 37), one after the other from the lent buffer's first place on (rule 39)
+
+pub data RowsOf (starts lent : List ℕ) (R : Recorder) : Answer → List ℕ → Type 0 where
+  unequal : (length starts ≡ jobs R → ⊥) → RowsOf starts lent R (refusal 14) lent
+  short : length starts ≡ jobs R → length lent < R .devices .count * R .horizon → RowsOf starts lent R (refusal 15) lent
+  faulty : {n j : ℕ} → length starts ≡ jobs R → R .devices .count * R .horizon ≤ length lent → Fault R starts n j → RowsOf starts lent R (refusalAt n j) lent
+  given : {rows : ℕ → List Letter} → R .devices .count * R .horizon ≤ length lent → Feasible R starts → Rows R starts rows
+      → RowsOf starts lent R (success (R .horizon) (sum (R .devices .count) (λ k. energy (device R k) (rows k))) 0)
       (laid rows (R .devices .count) ++ drop (R .devices .count * R .horizon) lent)
 
--- `search`: 'starts are written by job number into a lent list; places after the last job stay as they were'.
-pub data Searched (file : List ℕ) (budget : ℕ) (lent : List ℕ) : Answer → List ℕ → Type 0 where
-  refused : {n : ℕ} → Refused file n → Searched file budget lent (refusal n) lent
-  short : {R : Recorder} → Reads file R → length lent < jobs R → Searched file budget lent (refusal 15) lent
-  over : {R : Recorder} → Reads file R → jobs R ≤ length lent → budget < vertices R → Searched file budget lent (refusalAfter 20 budget) lent
-  none : {R : Recorder} → Reads file R → jobs R ≤ length lent → vertices R ≤ budget → ((s : List ℕ) → Feasible R s → ⊥)
-      → Searched file budget lent (refusalAfter 19 (vertices R)) lent
-  found : {R : Recorder} {s : List ℕ} {e : ℕ} → Reads file R → jobs R ≤ length lent → vertices R ≤ budget → FirstLeast R s e
-      → Searched file budget lent (success (R .horizon) e (vertices R)) (s ++ drop (jobs R) lent)
+abbrev pub Rowed : List ℕ → List ℕ → List ℕ → Answer → List ℕ → Type 0
+Rowed file starts lent a after = OfFile file lent (RowsOf starts lent) a after
+
+-- ---- `search`: the first of the least-energy schedules of the full listing (rules 47, 49), if the budget covers the vertices counted (rules 42, 48); the
+-- start of job j goes to place j, and what is lent beyond the last job stays as it was
+
+pub data SearchOf (budget : ℕ) (lent : List ℕ) (R : Recorder) : Answer → List ℕ → Type 0 where
+  short : length lent < jobs R → SearchOf budget lent R (refusal 15) lent
+  over : jobs R ≤ length lent → budget < vertices R → SearchOf budget lent R (refusalAfter 20 budget) lent
+  none : jobs R ≤ length lent → vertices R ≤ budget → ((s : List ℕ) → Feasible R s → ⊥) → SearchOf budget lent R (refusalAfter 19 (vertices R)) lent
+  found : {s : List ℕ} {e : ℕ} → jobs R ≤ length lent → vertices R ≤ budget → FirstLeast R s e
+      → SearchOf budget lent R (success (R .horizon) e (vertices R)) (s ++ drop (jobs R) lent)
+
+abbrev pub Searched : List ℕ → ℕ → List ℕ → Answer → List ℕ → Type 0
+Searched file budget lent a after = OfFile file lent (SearchOf budget lent) a after

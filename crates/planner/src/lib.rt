@@ -1,10 +1,6 @@
 // The public operations on the bytes of a request file. None asks anything of its caller: every file, of whatever bytes, every list of start times and every
-// lent buffer gets its answer. specs/Promises.antt says for each the complete outcome, in the words of document 01.
+// lent buffer gets its answer. specs/Promises.antt says for each the complete outcome.
 ghost use Rattle.planner.specs.Promises.{Checked, Margined, Judged, Rowed, Searched};
-use crate::answers::refusal;
-use crate::answers::refusal_after;
-use crate::answers::refusal_at;
-use crate::answers::success;
 use base::JobNumber;
 use request::read;
 use schedule::judge;
@@ -13,6 +9,11 @@ use schedule::write_margins;
 use schedule::write_rows;
 
 mod answers; // answers.rt: the answers, each made in one place
+
+pub use crate::answers::refusal;
+pub use crate::answers::refusal_after;
+pub use crate::answers::refusal_at;
+pub use crate::answers::success;
 
 // What every operation answers: the document's number (0 for success), and what the operation works out; 0 elsewhere.
 pub struct Answer {

@@ -13,13 +13,13 @@ refusal-requires : tie.Need-refusal-requires
 refusal-requires c κs = search needs
 
 returns : tie.Need-returns
-returns c = rw (c .refusal .ensures) (P.Checked.refused (read-refused _ _ (c .before .before .before .read .ensures) (c .before .if1 .taken)))
+returns c = rw (c .refusal .ensures) (P.OfFile.refused (read-refused _ _ (c .before .before .before .read .ensures) (c .before .if1 .taken)))
 
 success-requires : tie.Need-success-requires
 success-requires c κs = search needs
 
 returns-2 : tie.Need-returns-2
-returns-2 c = rw (c .success .ensures) (P.Checked.accepted (read-accepted _ _ (c .before .before .before .read .ensures) (c .before .if1 .left)))
+returns-2 c = rw (c .success .ensures) (P.OfFile.read (read-accepted _ _ (c .before .before .before .read .ensures) (c .before .if1 .left)) P.CheckOf.accepted)
 
 pub check-spec : {M : Type 1} → statement M
 check-spec = tie.close (tie.spec read-requires refusal-requires returns success-requires returns-2)

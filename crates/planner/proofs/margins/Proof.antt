@@ -22,19 +22,19 @@ refusal-requires : tie.Need-refusal-requires
 refusal-requires c κs = search needs
 
 returns : tie.Need-returns
-returns c = rw (c .refusal .ensures) (P.Margined.refused (read-refused _ _ (c .before .before .before .read .ensures) (c .before .if1 .taken)))
+returns c = rw (c .refusal .ensures) (P.OfFile.refused (read-refused _ _ (c .before .before .before .read .ensures) (c .before .if1 .taken)))
 
 refusal-requires-2 : tie.Need-refusal-requires-2
 refusal-requires-2 c κs = search needs
 
 returns-2 : tie.Need-returns-2
-returns-2 c = rw (c .refusal2 .ensures) (P.Margined.unequal (recorded (c .before .before .before .before)) (c .before .if2 .taken))
+returns-2 c = rw (c .refusal2 .ensures) (P.OfFile.read (recorded (c .before .before .before .before)) (P.MarginsOf.unequal (c .before .if2 .taken)))
 
 refusal-requires-3 : tie.Need-refusal-requires-3
 refusal-requires-3 c κs = search needs
 
 returns-3 : tie.Need-returns-3
-returns-3 c = rw (c .refusal3 .ensures) (P.Margined.short (recorded (c .before .before .before .before .before .before)) (c .before .before .before .if2 .left) (c .before .if3 .taken))
+returns-3 c = rw (c .refusal3 .ensures) (P.OfFile.read (recorded (c .before .before .before .before .before .before)) (P.MarginsOf.short (c .before .before .before .if2 .left) (c .before .if3 .taken)))
 
 write-margins-requires : tie.Need-write-margins-requires
 write-margins-requires c κs = (within (c .before .before .before .before .before .before), c .before .before .before .if2 .left, c .before .if3 .left)
@@ -46,7 +46,7 @@ same-length : tie.Need-same-length
 same-length c = search needs
 
 returns-4 : tie.Need-returns-4
-returns-4 c = rw (c .success .ensures, c .before .before .write-margins .ensures) (P.Margined.given (recorded (c .before .before .before .before .before .before .before .before .before)) (c .before .before .before .before .before .before .if2 .left) (c .before .before .before .before .if3 .left))
+returns-4 c = rw (c .success .ensures, c .before .before .write-margins .ensures) (P.OfFile.read (recorded (c .before .before .before .before .before .before .before .before .before)) (P.MarginsOf.given (c .before .before .before .before .before .before .if2 .left) (c .before .before .before .before .if3 .left)))
 
 pub margins-spec : {M : Type 1} → statement M
 margins-spec =

@@ -27,13 +27,13 @@ refusal-requires : tie.Need-refusal-requires
 refusal-requires c κs = search needs
 
 returns : tie.Need-returns
-returns c = rw (c .refusal .ensures) (P.Rowed.refused (read-refused _ _ (c .before .before .before .read .ensures) (c .before .if1 .taken)))
+returns c = rw (c .refusal .ensures) (P.OfFile.refused (read-refused _ _ (c .before .before .before .read .ensures) (c .before .if1 .taken)))
 
 refusal-requires-2 : tie.Need-refusal-requires-2
 refusal-requires-2 c κs = search needs
 
 returns-2 : tie.Need-returns-2
-returns-2 c = rw (c .refusal2 .ensures) (P.Rowed.unequal (recorded (c .before .before .before .before)) (c .before .if2 .taken))
+returns-2 c = rw (c .refusal2 .ensures) (P.OfFile.read (recorded (c .before .before .before .before)) (P.RowsOf.unequal (c .before .if2 .taken)))
 
 cast-h : tie.Need-cast-h
 cast-h c = search needs
@@ -45,7 +45,7 @@ refusal-requires-3 : tie.Need-refusal-requires-3
 refusal-requires-3 c κs = search needs
 
 returns-3 : tie.Need-returns-3
-returns-3 c = rw (c .refusal3 .ensures) (P.Rowed.short (recorded (c .before .before .before .before .before .before .before)) (c .before .before .before .before .if2 .left) (c .before .if3 .taken))
+returns-3 c = rw (c .refusal3 .ensures) (P.OfFile.read (recorded (c .before .before .before .before .before .before .before)) (P.RowsOf.short (c .before .before .before .before .if2 .left) (c .before .if3 .taken)))
 
 judge-requires : tie.Need-judge-requires
 judge-requires c κs = (within (c .before .before .before .before .before .before), c .before .before .before .if2 .left)
@@ -54,7 +54,7 @@ refusal-at-requires : tie.Need-refusal-at-requires
 refusal-at-requires c κs = search needs
 
 returns-4 : tie.Need-returns-4
-returns-4 c = rw (c .refusal-at .ensures) (P.Rowed.faulty (recorded (c .before .before .before .before .before .before .before .before .before .before)) (c .before .before .before .before .before .before .before .if2 .left) (c .before .before .before .before .if3 .left) (judgement-fault _ _ (c .before .before .before .judge .ensures) (c .before .if4 .taken)))
+returns-4 c = rw (c .refusal-at .ensures) (P.OfFile.read (recorded (c .before .before .before .before .before .before .before .before .before .before)) (P.RowsOf.faulty (c .before .before .before .before .before .before .before .if2 .left) (c .before .before .before .before .if3 .left) (judgement-fault _ _ (c .before .before .before .judge .ensures) (c .before .if4 .taken))))
 
 write-rows-requires : tie.Need-write-rows-requires
 write-rows-requires c κs = (within (c .before .before .before .before .before .before .before .before .before .before), judgement-feasible _ _ (c .before .before .before .judge .ensures) (c .before .if4 .left), c .before .before .before .before .if3 .left)
@@ -70,7 +70,7 @@ same-length c = search needs
 
 returns-5 : tie.Need-returns-5
 unfolding planEnergy
-returns-5 c = rw (c .success .ensures, c .before .plan-energy .ensures, c .before .before .before .before .write-rows .ensures) (P.Rowed.given (recorded (c .before .before .before .before .before .before .before .before .before .before .before .before .before .before .before)) (c .before .before .before .before .before .before .before .before .before .if3 .left) (judgement-feasible _ _ (c .before .before .before .before .before .before .before .before .judge .ensures) (c .before .before .before .before .before .before .if4 .left)) (plan-rows _ (within (c .before .before .before .before .before .before .before .before .before .before .before .before .before .before .before)) _))
+returns-5 c = rw (c .success .ensures, c .before .plan-energy .ensures, c .before .before .before .before .write-rows .ensures) (P.OfFile.read (recorded (c .before .before .before .before .before .before .before .before .before .before .before .before .before .before .before)) (P.RowsOf.given (c .before .before .before .before .before .before .before .before .before .if3 .left) (judgement-feasible _ _ (c .before .before .before .before .before .before .before .before .judge .ensures) (c .before .before .before .before .before .before .if4 .left)) (plan-rows _ (within (c .before .before .before .before .before .before .before .before .before .before .before .before .before .before .before)) _)))
 
 pub rows-spec : {M : Type 1} → statement M
 rows-spec =

@@ -19,7 +19,7 @@ refusal-requires : tie.Need-refusal-requires
 refusal-requires c κs = search needs
 
 returns : tie.Need-returns
-returns c = rw (c .refusal .ensures) (P.Searched.refused (read-refused _ _ (c .before .before .before .read .ensures) (c .before .if1 .taken)))
+returns c = rw (c .refusal .ensures) (P.OfFile.refused (read-refused _ _ (c .before .before .before .read .ensures) (c .before .if1 .taken)))
 
 search-requires : tie.Need-search-requires
 search-requires c κs = accepted-valid _ _ (recorded (c .before .before))
@@ -31,7 +31,7 @@ same-length : tie.Need-same-length
 same-length c = search needs
 
 returns-2 : tie.Need-returns-2
-returns-2 c = rw (c .refusal-after .ensures) (search-refused _ _ _ (recorded (c .before .before .before .before .before .before .before .before)) (c .before .before .before .before .before .search .result) (c .before .before .before .before .before .search .last .1 .1 .0) (c .before .before .before .before .before .search .ensures .0) (c .before .before .before .before .before .search .ensures .1) (c .before .if2 .taken))
+returns-2 c = rw (c .refusal-after .ensures) (P.OfFile.read (recorded (c .before .before .before .before .before .before .before .before)) (search-refused _ _ _ (accepted-valid _ _ (recorded (c .before .before .before .before .before .before .before .before))) (c .before .before .before .before .before .search .result) (c .before .before .before .before .before .search .last .1 .1 .0) (c .before .before .before .before .before .search .ensures .0) (c .before .before .before .before .before .search .ensures .1) (c .before .if2 .taken)))
 
 success-requires : tie.Need-success-requires
 success-requires c κs = search needs
@@ -40,7 +40,7 @@ same-length-2 : tie.Need-same-length-2
 same-length-2 c = search needs
 
 returns-3 : tie.Need-returns-3
-returns-3 c = rw (c .success .ensures) (search-found _ _ _ (recorded (c .before .before .before .before .before .before .before .before)) (c .before .before .before .before .before .search .result) (c .before .before .before .before .before .search .last .1 .1 .0) (c .before .before .before .before .before .search .ensures .0) (c .before .before .before .before .before .search .ensures .1) (c .before .if2 .left))
+returns-3 c = rw (c .success .ensures) (P.OfFile.read (recorded (c .before .before .before .before .before .before .before .before)) (search-found _ _ _ (accepted-valid _ _ (recorded (c .before .before .before .before .before .before .before .before))) (c .before .before .before .before .before .search .result) (c .before .before .before .before .before .search .last .1 .1 .0) (c .before .before .before .before .before .search .ensures .0) (c .before .before .before .before .before .search .ensures .1) (c .before .if2 .left)))
 
 pub search-spec : {M : Type 1} → statement M
 search-spec =

@@ -26,13 +26,13 @@ refusal-requires : tie.Need-refusal-requires
 refusal-requires c κs = search needs
 
 returns : tie.Need-returns
-returns c = rw (c .refusal .ensures) (P.Judged.refused (read-refused _ _ (c .before .before .before .read .ensures) (c .before .if1 .taken)))
+returns c = rw (c .refusal .ensures) (P.OfFile.refused (read-refused _ _ (c .before .before .before .read .ensures) (c .before .if1 .taken)))
 
 refusal-requires-2 : tie.Need-refusal-requires-2
 refusal-requires-2 c κs = search needs
 
 returns-2 : tie.Need-returns-2
-returns-2 c = rw (c .refusal2 .ensures) (P.Judged.unequal (recorded (c .before .before .before .before)) (c .before .if2 .taken))
+returns-2 c = rw (c .refusal2 .ensures) (P.OfFile.read (recorded (c .before .before .before .before)) (P.VerdictOf.unequal (c .before .if2 .taken)))
 
 judge-requires : tie.Need-judge-requires
 judge-requires c κs = (within (c .before .before .before), c .if2 .left)
@@ -41,7 +41,7 @@ refusal-at-requires : tie.Need-refusal-at-requires
 refusal-at-requires c κs = search needs
 
 returns-3 : tie.Need-returns-3
-returns-3 c = rw (c .refusal-at .ensures) (P.Judged.faulty (recorded (c .before .before .before .before .before .before .before)) (c .before .before .before .before .if2 .left) (judgement-fault _ _ (c .before .before .before .judge .ensures) (c .before .if3 .taken)))
+returns-3 c = rw (c .refusal-at .ensures) (P.OfFile.read (recorded (c .before .before .before .before .before .before .before)) (P.VerdictOf.faulty (c .before .before .before .before .if2 .left) (judgement-fault _ _ (c .before .before .before .judge .ensures) (c .before .if3 .taken))))
 
 plan-energy-requires : tie.Need-plan-energy-requires
 plan-energy-requires c κs = (within (c .before .before .before .before .before .before), judgement-feasible _ _ (c .before .before .judge .ensures) (c .if3 .left))
@@ -53,7 +53,7 @@ returns-4 : tie.Need-returns-4
 returns-4 c =
     let valid = within (c .before .before .before .before .before .before .before .before) in
     let cost = subst (Costs (c .before .before .before .before .before .before .before .before .before .before .read .result .recorder) (c .before .before .before .before .before .before .before .before .before .before .before .before .before .args .starts .now)) (sym (c .before .plan-energy .ensures)) (plan-costs _ valid _) in
-    rw (c .success .ensures) (P.Judged.feasible (recorded (c .before .before .before .before .before .before .before .before)) (judgement-feasible _ _ (c .before .before .before .before .judge .ensures) (c .before .before .if3 .left)) cost)
+    rw (c .success .ensures) (P.OfFile.read (recorded (c .before .before .before .before .before .before .before .before)) (P.VerdictOf.feasible (judgement-feasible _ _ (c .before .before .before .before .judge .ensures) (c .before .before .if3 .left)) cost))
 
 pub verdict-spec : {M : Type 1} → statement M
 verdict-spec =
