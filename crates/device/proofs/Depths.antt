@@ -1,4 +1,4 @@
--- Request g with requests e, h and j: rows without a seam for a device with sleep levels.
+-- Used when the round loses its seam; until then nothing cites it. Rows without a seam for a device with sleep levels.
 -- Assumes nothing.
 use mathlib.Core.Path.{_≡_, ap}
 use mathlib.Core.Bool.{Bool}

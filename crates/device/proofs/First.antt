@@ -46,7 +46,7 @@ no-tie-zero [] = refl
 no-tie-zero (x ∷ r) = omega (arith, no-tie-zero r)
 
 module _ (d : Device) (ok : Sound d) where
-  sleeps : L.Sleeps (one d)
+  pub sleeps : L.Sleeps (one d)
   sleeps = record { shut-some = ok .moves; wake-some = ok .moves; below = below; below-down = ok .sleeps-cheaper; below-up = ok .sleeps-cheaper }
     where
       below : (k : ℕ) → k < 1 → rung (d .pw) (d .ps) (suc k) < rung (d .pw) (d .ps) k
@@ -82,7 +82,7 @@ module _ (d : Device) (ok : Sound d) where
       go true e = let r : Room (L.moves (one d)) 1 g = omega (arith, leb-true) in rw (twice ∙ e, lt-ltb _ _ (cost-less g r))
       go false e = rw (twice ∙ e)
 
-  fill-is : (g : ℕ) → L.fill (one d) g ≡ map letter (gapRow (d .t) g)
+  pub fill-is : (g : ℕ) → L.fill (one d) g ≡ map letter (gapRow (d .t) g)
   unfolding trip
   fill-is g = rw (level-is g) (go (leb (d .t + d .t) g))
     where

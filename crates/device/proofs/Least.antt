@@ -10,12 +10,13 @@ use lib.Dec.{leb}
 use borrow.Author.Tests.{leb-true, le-leb, lt-leb}
 use lib.ListN.{length, replicate, length-append, length-replicate}
 use Rattle.base.proofs.Cases.{cond-cases}
-use Rattle.base.proofs.Additions.{total-append, total-replicate, total-low, total-high}
+use Rattle.base.proofs.Additions.{total-append, total-replicate, total-high}
 use Rattle.device.specs.declared.Device.{Device}
 use Rattle.device.specs.Row.{Sound, Letter, W, D, S, U, LegalRow, LeastRow, power, energy, gapRow, gapCost, deep, rowOf, energyOf}
 use Rattle.device.proofs.Pattern.{Ended, placed}
 use Rattle.device.proofs.Prefix.{nothing, length-rowFrom, rowFrom-place, rowFrom-close, total-place, total-close}
-use Rattle.device.proofs.First.{first-legal, first-beats}
+use Rattle.device.proofs.Levels.{fill-low}
+use Rattle.device.proofs.First.{one, sleeps, fill-is, first-legal, first-beats}
 use Rattle.device.proofs.Literal.{legal-to, legal-back, letter-only, energy-letter}
 
 -- THEOREM (document 01). For every pattern of use the row by the rule is legal and no legal row has less energy.
@@ -88,13 +89,7 @@ gap-worked d g h = gap-energy d g ∙ rw (lt-leb (d .t + d .t) g h)
 -- No tick of a gap costs less than in the deepest sleep, nor more than at work.
 pub gap-low : (d : Device) → Sound d → (g : ℕ) → deep d * g ≤ gapCost d g
 unfolding gapCost
-gap-low d ok g = rw length-gap at (total-low (power d) (deep d) least (gapRow (d .t) g))
-  where
-    least : (x : Letter) → deep d ≤ power d x
-    least W = omega (arith, ok .sleeps-cheaper, ok .works-dearer)
-    least D = omega (arith, ok .sleeps-cheaper)
-    least S = omega arith
-    least U = omega (arith, ok .sleeps-cheaper)
+gap-low d ok g = omega (arith, rw (fill-is d ok g) at (fill-low (one d) (sleeps d ok) (omega arith) g), energy-letter d (gapRow (d .t) g))
 
 pub gap-high : (d : Device) → Sound d → (g : ℕ) → gapCost d g ≤ d .pw * g
 gap-high d ok g = gap-most d (d .pw) (omega arith) (omega (arith, ok .sleeps-cheaper, ok .works-dearer)) (omega (arith, ok .works-dearer)) g

@@ -1,4 +1,5 @@
--- A device with any number of sleep levels (request j), with times and powers of its own for going down and coming up (request h). Level 0 is working.
+-- A device with any number of sleep levels, with times and powers of its own for going down and coming up. Level 0 is working. Document 01's device is the one
+-- with a single sleep (First); `theorem-levels` is used when devices with more of their own come.
 -- Assumes nothing.
 use mathlib.Core.Path.{_≡_, refl, sym, ap, subst}
 use mathlib.Core.Bool.{Bool}
@@ -10,14 +11,10 @@ use native.Mathlib.Numerals.{add-one}
 use native.Mathlib.Omega.{arith}
 use lib.ListN.{replicate, replicate-append-replicate}
 use Rattle.base.specs.Sums.{total}
-use Rattle.device.specs.Row.{rowFrom, pattern}
+use Rattle.device.specs.Row.{rowFrom}
 use Rattle.device.proofs.Rows.{Machine, Run, stop, tick, Legal, Works, Best, Beats, row-legal, row-beats}
 use Rattle.device.proofs.Walk.{Moves, Walk, done, stay, fall, rise, trip, Cheaper}
 use Rattle.device.proofs.Gap.{Room, Walked, Counts, choose, choice, best, trip-low, total-trip}
-use Rattle.device.proofs.Ticks.{used-ticks}
-use Rattle.device.proofs.Pattern.{Ended}
-use Rattle.device.proofs.Prefix.{nothing}
-use Rattle.device.proofs.Bound.{total-floor}
 
 -- W is `at 0`; `at k` is the letter of level k.
 pub data Letter : Type 0 where
@@ -221,14 +218,14 @@ module _ (d : Ladder) where
         best (moves d) (power d) downs (machine d) (walked (Z .shut-some) (Z .wake-some)) cheaper (choose (moves d) (power d) (d .deepest))
         (choice (moves d) (power d) (Z .shut-some) downs counts)
 
-    -- THEOREM (requests e, h and j). For every pattern of use the row is legal, and no legal row has less energy; of those with the same energy none has fewer ticks of
+    -- THEOREM. For every pattern of use the row is legal, and no legal row has less energy; of those with the same energy none has fewer ticks of
     -- going down, and one that has no more of them is that row.
     pub theorem-levels : (u : List Bool) → Legal (machine d) (level 0) u (row d u)
         × ((r : List Letter) → Legal (machine d) (level 0) u r → Beats (power d) downs (row d u) r)
     theorem-levels u =
         (row-legal (machine d) (power d) downs (fill d) machine-works best-fill u, λ r l. row-beats (machine d) (power d) downs (fill d) machine-works best-fill u r l)
 
-    -- The floor's least power is the deepest level's.
+    -- No tick of a gap costs less than on the deepest level.
     pub low-level : (m : ℕ) → m ≤ d .deepest → d .power-at (d .deepest) ≤ d .power-at m
     low-level m h = ⊎-elim (λ e. omega (arith, ap (d .power-at) e)) (λ l. omega (arith, power-falls m (d .deepest) l (omega arith))) (eq-or-lt-of-le h)
 
@@ -240,14 +237,3 @@ module _ (d : Ladder) where
         rw (total-trip (moves d) (power d) (Z .shut-some) k g)
         (trip-low (moves d) (power d) (d .power-at (d .deepest)) k g
         (omega (arith, low-level 1 some, Z .below-down)) (omega (arith, low-level 1 some, Z .below-up)) (low-level k (c .within g)) (c .fits g))
-
-    pub fill-none : fill d 0 ≡ []
-    fill-none = nothing (fill d 0) (best-fill .sized 0)
-
-    -- THE FLOOR (documents 01 and 02) is below every completion.
-    pub theorem-floor : 1 ≤ d .deepest → (f f′ : ℕ → Bool) (e h : ℕ) → e ≤ h → Ended (pattern f 0 e) → ((t : ℕ) → t < e → f t ≡ f′ t)
-        → total (power d) (row d (pattern f 0 e))
-        + (d .power-at 0 * used-ticks (pattern f′ e (h - e)) + d .power-at (d .deepest) * (h - e - used-ticks (pattern f′ e (h - e))))
-        ≤ total (power d) (row d (pattern f′ 0 h))
-    unfolding power
-    theorem-floor some = total-floor (at 0) (fill d) (power d) (d .power-at (d .deepest)) (fill-low some) fill-none

@@ -1,7 +1,5 @@
 pub mod Pattern
-pub mod Ticks
 pub mod Prefix
-pub mod Bound
 pub mod Walk
 pub mod Rows
 pub mod Gap

@@ -1,9 +1,10 @@
--- Rows without a seam (request g): a row that is legal repeated for ever. With a use in it, it is the row of the pattern that begins after that use, turned back.
+-- Used when the round loses its seam; until then nothing cites it. A row without a seam is one that is legal repeated for ever. With a use in it, it is the row of
+-- the pattern that begins after that use, turned back.
 -- Assumes nothing.
 use mathlib.Core.Path.{_≡_, refl, sym, ap, _∙_, subst}
 use mathlib.Core.Bool.{Bool, true, false}
-use mathlib.Core.List.{List, [], _∷_, _++_, append-assoc, append-nil}
-use Prim.Native.Nat.{ℕ, zero, suc, _+_, _*_, _≤_}
+use mathlib.Core.List.{List, [], _∷_, _++_, append-nil}
+use Prim.Native.Nat.{ℕ, zero, suc, _+_, _≤_}
 use native.Mathlib.Omega.{arith}
 use lib.ListN.{length, take, drop, replicate, take-append-drop}
 use lib.Seq.{take-at, drop-at}
@@ -11,16 +12,7 @@ use Rattle.base.specs.Sums.{total}
 use Rattle.base.proofs.Additions.{total-append}
 use Rattle.device.specs.Row.{rowFrom}
 use Rattle.device.proofs.Rows.{Machine, Legal, end, used, free, Works, Best, Beats, row-legal, row-beats}
-use Rattle.device.proofs.Pattern.{Ended, replicate-more}
-use Rattle.device.proofs.Ticks.{used-ticks, unused-ticks, used-append, used-false}
-use Rattle.device.proofs.Prefix.{rowFrom-join}
-use Rattle.device.proofs.Bound.{rowFrom-low}
-
-unused-more : (u : List Bool) (b : ℕ) → unused-ticks (u ++ replicate b false) ≡ unused-ticks u + b
-unused-more [] zero = refl
-unused-more [] (suc b) = omega (arith, unused-more [] b)
-unused-more (true ∷ u) b = unused-more u b
-unused-more (false ∷ u) b = omega (arith, unused-more u b)
+use Rattle.device.proofs.Pattern.{replicate-more}
 
 module _ {L : Type 0} (A : Machine L) where
   -- From s the machine takes the row, for a pattern of use, to t.
@@ -122,19 +114,6 @@ module _ {L : Type 0} (A : Machine L) where
     pub round-beats : (u u′ : List Bool) (r : List L) → Round (u ++ true ∷ u′) r → Beats w v (turned u u′) r
     round-beats u u′ r R = let c = goes-cut u (R .goes) in rw (c .whole) (round-cut u u′ (c .head) (c .tail) (c .before) (c .after))
 
-  -- The floor of a round: b ticks before the first use, at `lo` each; p placed after the first tick of that use; the rest to come.
-  pub round-floor : (w : L → ℕ) (fill : ℕ → List L) → fill 0 ≡ [] → (lo : ℕ) → ((g : ℕ) → lo * g ≤ total w (fill g))
-      → (p : List Bool) → Ended p → (b : ℕ) (rest : List Bool)
-      → total w (rowFrom (A .work) fill 0 (true ∷ p)) + (w (A .work) * used-ticks rest + lo * (unused-ticks rest + b))
-      ≤ total w (turn (length (p ++ rest)) (rowFrom (A .work) fill 0 (p ++ rest ++ replicate b false)))
-  round-floor w fill z lo low p e b rest =
-      rw (total-turn w (length (p ++ rest)), append-assoc, rowFrom-join (A .work) fill z e (rest ++ replicate b false), z)
-      (omega (
-        arith,
-        total-append w (rowFrom (A .work) fill 0 p) (rowFrom (A .work) fill 0 (rest ++ replicate b false)),
-        rw (used-append rest, used-false b, unused-more rest b) at (rowFrom-low (A .work) fill w lo low 0 (rest ++ replicate b false)),
-      ))
-
   -- Some state stays as it is by the letter x, and no other letter is as cheap.
   pub record Cheapest (w : L → ℕ) (x : L) (z : A .State) : Type 0 where
     pub loop : A .step z x z
@@ -184,6 +163,6 @@ module _ {L : Type 0} (A : Machine L) where
     from-beats g (true ∷ u) r R = round-beats w v fill O B (replicate g false) u r R
     from-beats g (false ∷ u) r R = from-beats (suc g) u r (rw (replicate-more g false u) at R)
 
-    -- THEOREM (request g). The round's row is legal repeated for ever, and beats every such row.
+    -- THEOREM. The round's row is legal repeated for ever, and beats every such row.
     pub theorem-round : (u : List Bool) → Round u (roundFrom fill x 0 u) × ((r : List L) → Round u r → Beats w v (roundFrom fill x 0 u) r)
     theorem-round u = (from-legal 0 u, λ r R. from-beats 0 u r R)

@@ -1,6 +1,6 @@
 // Judging start times: the first fault in the document's order, or none.
 ghost use mathlib.Core.Path.{_≡_};
-ghost use Prim.Native.Nat.{_+_, _<_, _≤_};
+ghost use Prim.Native.Nat.{_+_, _<_};
 ghost use lib.ListN.{length};
 ghost use Rattle.schedule.specs.Quantities.{jobs, Valid};
 ghost use Rattle.schedule.specs.Listing.{Met, Overlaps};

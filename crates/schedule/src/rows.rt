@@ -1,7 +1,7 @@
 // The rows of a plan, one for each device, and their energy.
 ghost use mathlib.Core.Path.{_≡_};
 ghost use mathlib.Core.List.{_++_};
-ghost use Prim.Native.Nat.{ℕ, _*_, _≤_};
+ghost use Prim.Native.Nat.{_*_, _≤_};
 ghost use lib.ListN.{length, drop};
 ghost use Rattle.schedule.specs.Quantities.{Valid};
 ghost use Rattle.schedule.specs.Listing.{Feasible, laid};
