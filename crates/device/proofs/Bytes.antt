@@ -7,6 +7,7 @@ use native.Mathlib.Omega.{arith}
 use borrow.Author.Tests.{le-leb, lt-leb}
 use borrow.Rule.Slice.PartMut.{putMid}
 use lib.ListN.{length, length-map, replicate, length-replicate, take, drop}
+use Rattle.base.proofs.Filling.{Filled, filled-part}
 use Rattle.device.specs.declared.Device.{Device}
 use Rattle.device.specs.declared.Uses.{Uses}
 use Rattle.device.specs.Row.{byteOf, gapRow, rowOf, pattern}
@@ -14,7 +15,6 @@ use Rattle.device.specs.Uses.{begin, end, usedIn, after, Spaced}
 use Rattle.device.proofs.Prefix.{map-replicate}
 use Rattle.device.proofs.Least.{length-gap, gap-none}
 use Rattle.device.proofs.Spacing.{use-fits, row-use, row-last}
-use Rattle.device.proofs.Parts.{Written, written-more}
 
 pub length-gap-bytes : (t g : ℕ) → length (map byteOf (gapRow t g)) ≡ g
 length-gap-bytes t g = length-map (gapRow t g) byteOf ∙ length-gap t g
@@ -32,7 +32,7 @@ bytes-worked t g h = rw (lt-leb (t + t) g h) (simp map-replicate)
 abbrev pub bytes : Uses → Device → ℕ → List ℕ
 bytes u d e = map byteOf (rowOf d (pattern (usedIn u) 0 e))
 
-pub written-none : (u : Uses) (d : Device) (l₀ : List ℕ) → Written l₀ 0 (bytes u d 0) l₀
+pub written-none : (u : Uses) (d : Device) (l₀ : List ℕ) → Filled l₀ 0 (bytes u d 0) l₀
 written-none u d l₀ = record { long = length-gap-bytes (d .t) 0; is = rw (gap-none (d .t)) }
 
 module _ (u : Uses) (h : ℕ) (ok : Spaced u h) (d : Device) where
@@ -44,18 +44,18 @@ module _ (u : Uses) (h : ℕ) (ok : Spaced u h) (d : Device) where
   bytes-last at e = ap (map byteOf) (row-last u h ok d at e) ∙ simp map-append
 
   -- Up to `at` the row is written. The gap before use i is lent and comes back as g; then the use is, and comes back as w.
-  pub written-use : (i at : ℕ) → i < u .count → at ≡ after u i → {l₀ l : List ℕ} → h ≤ length l₀ → Written l₀ at (bytes u d at) l
+  pub written-use : (i at : ℕ) → i < u .count → at ≡ after u i → {l₀ l : List ℕ} → h ≤ length l₀ → Filled l₀ at (bytes u d at) l
       → (g w : List ℕ) → g ≡ map byteOf (gapRow (d .t) (length (take (begin u i - at) (drop at l))))
       → w ≡ replicate (length (take (end u i - begin u i) (drop (begin u i) (putMid at (begin u i - at) l g)))) 87
-      → Written l₀ (end u i) (bytes u d (end u i)) (putMid (begin u i) (end u i - begin u i) (putMid at (begin u i - at) l g) w)
+      → Filled l₀ (end u i) (bytes u d (end u i)) (putMid (begin u i) (end u i - begin u i) (putMid at (begin u i - at) l g) w)
   written-use i at m e {l₀} {l} room z g w eg ew =
       let f = use-fits u h ok i m in
-      let z₁ = written-more (λ n. map byteOf (gapRow (d .t) n)) (length-gap-bytes (d .t)) z (begin u i - at) (begin u i) (omega arith) (omega arith) g eg in
-      rw (bytes-use i at m e) (written-more (λ n. replicate n 87) (λ n. length-replicate n 87) z₁ (end u i - begin u i) (end u i) (omega arith) (omega arith) w ew)
+      let z₁ = filled-part (λ n. map byteOf (gapRow (d .t) n)) (length-gap-bytes (d .t)) z (begin u i - at) (begin u i) (omega arith) (omega arith) g eg in
+      rw (bytes-use i at m e) (filled-part (λ n. replicate n 87) (λ n. length-replicate n 87) z₁ (end u i - begin u i) (end u i) (omega arith) (omega arith) w ew)
 
   -- The gap after the last use is lent and comes back as g.
-  pub written-last : (at : ℕ) → at ≡ after u (u .count) → {l₀ l : List ℕ} → h ≤ length l₀ → Written l₀ at (bytes u d at) l
-      → (g : List ℕ) → g ≡ map byteOf (gapRow (d .t) (length (take (h - at) (drop at l)))) → Written l₀ h (bytes u d h) (putMid at (h - at) l g)
+  pub written-last : (at : ℕ) → at ≡ after u (u .count) → {l₀ l : List ℕ} → h ≤ length l₀ → Filled l₀ at (bytes u d at) l
+      → (g : List ℕ) → g ≡ map byteOf (gapRow (d .t) (length (take (h - at) (drop at l)))) → Filled l₀ h (bytes u d h) (putMid at (h - at) l g)
   written-last at e room z g eg =
       let f = ok .within in
-      rw (bytes-last at e) (written-more (λ n. map byteOf (gapRow (d .t) n)) (length-gap-bytes (d .t)) z (h - at) h (omega arith) room g eg)
+      rw (bytes-last at e) (filled-part (λ n. map byteOf (gapRow (d .t) n)) (length-gap-bytes (d .t)) z (h - at) h (omega arith) room g eg)

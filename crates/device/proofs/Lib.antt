@@ -10,5 +10,4 @@ pub mod First
 pub mod Literal
 pub mod Least
 pub mod Spacing
-pub mod Parts
 pub mod Bytes

@@ -8,9 +8,9 @@ use native.Mathlib.Numerals.{add-one}
 use native.Mathlib.Omega.{arith}
 use lib.ListN.{length, take, drop, length-map}
 use borrow.Rule.Slice.PartMut.{putMid}
+use Rattle.base.proofs.Filling.{Filled, filled-tail}
 use Rattle.device.specs.Row.{Letter, byteOf}
 use Rattle.device.proofs.Least.{length-row}
-use Rattle.device.proofs.Parts.{Written, written-tail}
 use Rattle.device.proofs.Pattern.{length-pattern}
 use Rattle.schedule.specs.declared.Recorder.{Recorder}
 use Rattle.schedule.specs.Quantities.{device}
@@ -26,16 +26,16 @@ module _ (R : Recorder) (s : List ℕ) where
   row-bytes : (k : ℕ) → length (map byteOf (planRow R s k)) ≡ R .horizon
   row-bytes k = length-map (planRow R s k) byteOf ∙ length-row (device R k) (usesOf R s k) ∙ length-pattern (used R k (places R s)) 0 (R .horizon)
 
-  pub laid-none : (l : List ℕ) → Written l (0 * R .horizon) (laid (planRow R s) 0) l
+  pub laid-none : (l : List ℕ) → Filled l (0 * R .horizon) (laid (planRow R s) 0) l
   unfolding laid
   laid-none l = record { long = omega (arith, zero-mul (R .horizon)); is = rw (zero-mul (R .horizon)) }
 
   -- The row of device k goes to place k × H.
-  pub laid-row : {l₀ l : List ℕ} (k : ℕ) → Written l₀ (k * R .horizon) (laid (planRow R s) k) l → (k + 1) * R .horizon ≤ length l₀ → (m : List ℕ)
+  pub laid-row : {l₀ l : List ℕ} (k : ℕ) → Filled l₀ (k * R .horizon) (laid (planRow R s) k) l → (k + 1) * R .horizon ≤ length l₀ → (m : List ℕ)
       → m ≡ map byteOf (planRow R s k) ++ drop (R .horizon) (take (length l - k * R .horizon) (drop (k * R .horizon) l))
-      → Written l₀ ((k + 1) * R .horizon) (laid (planRow R s) (k + 1)) (putMid (k * R .horizon) (length l - k * R .horizon) l m)
+      → Filled l₀ ((k + 1) * R .horizon) (laid (planRow R s) (k + 1)) (putMid (k * R .horizon) (length l - k * R .horizon) l m)
   laid-row {l₀} {l} k w h m e =
       let to : k * R .horizon + length (map byteOf (planRow R s k)) ≡ (k + 1) * R .horizon = omega (arith, row-bytes k, add-mul k 1 (R .horizon), one-mul (R .horizon)) in
-      subst (λ (f : List ℕ). Written l₀ ((k + 1) * R .horizon) f (putMid (k * R .horizon) (length l - k * R .horizon) l m)) (sym (laid-more (planRow R s) k))
-      (written-tail w (map byteOf (planRow R s k)) ((k + 1) * R .horizon) to h m
+      subst (λ (f : List ℕ). Filled l₀ ((k + 1) * R .horizon) f (putMid (k * R .horizon) (length l - k * R .horizon) l m)) (sym (laid-more (planRow R s) k))
+      (filled-tail w (map byteOf (planRow R s k)) ((k + 1) * R .horizon) to h m
       (e ∙ ap (λ (n : ℕ). map byteOf (planRow R s k) ++ drop n (take (length l - k * R .horizon) (drop (k * R .horizon) l))) (sym (row-bytes k))))

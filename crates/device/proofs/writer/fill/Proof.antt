@@ -1,24 +1,22 @@
 -- `device::fill` meets its contract. The loop's invariant: as many bytes as turns are the letter, and the rest are as they were.
 -- Assumes nothing.
-use mathlib.Core.Path.{_≡_, ap, _∙_}
-use mathlib.Core.List.{List, _++_, append-nil}
-use Prim.Native.Nat.{ℕ, _≤_, _-_}
+use mathlib.Core.Path.{_≡_, _∙_}
+use Prim.Native.Nat.{_≤_, _-_}
 use native.Mathlib.Omega.{arith}
 use borrow.Author.Needs.{needs}
-use borrow.Author.Fill.{fill-more}
-use lib.ListN.{length, replicate, drop, set}
-use lib.Seq.{drop-length}
+use lib.ListN.{length, replicate, replicate-append-replicate}
+use Rattle.base.proofs.Filling.{Filled, filled-none, filled-store, filled-whole}
 use Rattle.device.proofs.writer.fill.Statement.{statement}
 use Rattle.device.proofs.writer.fill.Tie as tie
 
 abbrev Inv-loop : tie.InvT-loop
-Inv-loop part₀ letter n i₀ part i = (i ≤ n) × (length part ≡ length part₀) × (part ≡ replicate i letter ++ drop i part₀)
+Inv-loop part₀ letter n i₀ part i = (i ≤ n) × (length part ≡ length part₀) × Filled part₀ i (replicate i letter) part
 
 abbrev μ-loop : tie.MeasureT-loop
 μ-loop part₀ letter n i₀ part i = n - i
 
 loop-holds : tie.Need-loop-holds Inv-loop μ-loop
-loop-holds c = search needs
+loop-holds c = (search needs, search needs, filled-none _)
 
 slice-write-part : tie.Need-slice-write-part Inv-loop μ-loop
 slice-write-part c = search needs
@@ -33,8 +31,7 @@ loop-again : tie.Need-loop-again Inv-loop μ-loop
 loop-again c = (
   search needs,
   search needs,
-  ap (λ (l : List ℕ). set l (c .before .loop .i) (c .before .before .args .letter)) (c .before .loop .inv .2)
-      ∙ fill-more (c .before .loop .i) (c .before .before .args .letter) (c .before .before .args .part .now) (omega arith),
+  rw (← replicate-append-replicate (c .before .loop .i) 1 (c .before .before .args .letter)) (filled-store (c .before .loop .inv .2) (omega arith) (c .before .before .args .letter)),
 )
 
 same-length : tie.Need-same-length Inv-loop μ-loop
@@ -43,7 +40,7 @@ same-length c = search needs
 returns : tie.Need-returns Inv-loop μ-loop
 returns c =
     let end : c .before .loop .i ≡ length (c .before .before .args .part .now) = omega arith in
-    c .before .loop .inv .2 ∙ rw (end, drop-length, append-nil)
+    filled-whole (c .before .loop .inv .2) (omega arith) ∙ rw end
 
 pub fill-spec : {M : Type 1} → statement M
 fill-spec = tie.close (tie.spec Inv-loop μ-loop loop-holds slice-write-part add-i loop-less loop-again same-length returns)

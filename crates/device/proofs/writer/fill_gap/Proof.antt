@@ -1,15 +1,15 @@
 -- `device::fill_gap` meets its contract: three parts are written one after the other, or one.
 -- Assumes nothing.
 use mathlib.Core.Path.{_≡_, refl, sym, ap, subst, _∙_}
-use mathlib.Core.List.{List, _++_, append-nil, map}
+use mathlib.Core.List.{List, _++_, map}
 use Prim.Native.Nat.{ℕ, _+_, _-_, _≤_}
 use native.Mathlib.Omega.{arith}
 use borrow.Author.Needs.{needs}
 use borrow.Rule.Slice.PartMut.{putMid}
 use lib.ListN.{length, replicate, take, drop, length-replicate}
-use lib.Seq.{length-take-le, drop-length}
+use lib.Seq.{length-take-le}
+use Rattle.base.proofs.Filling.{Filled, filled-length, filled-whole, filled-first, filled-part}
 use Rattle.device.specs.Row.{byteOf, gapRow}
-use Rattle.device.proofs.Parts.{Written, written-length, written-front, written-more}
 use Rattle.device.proofs.Bytes.{bytes-slept, bytes-worked}
 use Rattle.device.proofs.writer.fill_gap.Statement.{statement}
 use Rattle.device.proofs.writer.fill_gap.Tie as tie
@@ -22,13 +22,13 @@ slept : (t : ℕ) (l d s u l₂ : List ℕ) → t + t ≤ length l → d ≡ rep
     → putMid (length l - t) (length l₂ - (length l - t)) l₂ u ≡ map byteOf (gapRow t (length l))
 slept t l d s u l₂ h ed es e₂ eu =
     let g = length l in
-    let w₁ = written-front (λ n. replicate n 68) (λ n. length-replicate n 68) l t (omega arith) d ed in
-    let w₂ = written-more (λ n. replicate n 83) (λ n. length-replicate n 83) w₁ (g - t - t) (g - t) (omega arith) (omega arith) s es in
-    let long : length l₂ ≡ g = ap length e₂ ∙ written-length w₂ (omega arith) in
+    let w₁ = filled-first (λ n. replicate n 68) (λ n. length-replicate n 68) l t (omega arith) d ed in
+    let w₂ = filled-part (λ n. replicate n 83) (λ n. length-replicate n 83) w₁ (g - t - t) (g - t) (omega arith) (omega arith) s es in
+    let long : length l₂ ≡ g = ap length e₂ ∙ filled-length w₂ (omega arith) in
     let left : length l₂ - (g - t) ≡ t = omega arith in
-    let w₃ = written-more (λ n. replicate n 85) (λ n. length-replicate n 85) (subst (Written l (g - t) (replicate t 68 ++ replicate (g - t - t) 83)) (sym e₂) w₂)
+    let w₃ = filled-part (λ n. replicate n 85) (λ n. length-replicate n 85) (subst (Filled l (g - t) (replicate t 68 ++ replicate (g - t - t) 83)) (sym e₂) w₂)
     (length l₂ - (g - t)) g (omega arith) (omega arith) u eu in
-    w₃ .is ∙ rw (drop-length l, append-nil, left) (sym (bytes-slept t g h))
+    rw (filled-whole {front = (replicate t 68 ++ replicate (g - t - t) 83) ++ replicate (length l₂ - (g - t)) 85} w₃ (omega arith), left) (sym (bytes-slept t g h))
 
 add-moving : tie.Need-add-moving
 add-moving c = search needs

@@ -6,15 +6,15 @@ use native.Mathlib.Omega.{arith}
 use borrow.Author.Needs.{needs}
 use borrow.Rule.Slice.PartMut.{putMid}
 use lib.ListN.{length}
+use Rattle.base.proofs.Filling.{Filled, filled-length}
 use Rattle.device.specs.Uses.{begin, end, after}
 use Rattle.device.proofs.Spacing.{use-fits, after-next}
-use Rattle.device.proofs.Parts.{Written, written-length}
 use Rattle.device.proofs.Bytes.{bytes, written-none, written-use, written-last}
 use Rattle.device.proofs.writer.write_row.Statement.{statement}
 use Rattle.device.proofs.writer.write_row.Tie as tie
 
 abbrev Inv-loop : tie.InvT-loop
-Inv-loop d h out₀ u at₀ i₀ out at i = (i ≤ u .count) × (at ≡ after u i) × Written out₀ at (bytes u d at) out
+Inv-loop d h out₀ u at₀ i₀ out at i = (i ≤ u .count) × (at ≡ after u i) × Filled out₀ at (bytes u d at) out
 
 abbrev μ-loop : tie.MeasureT-loop
 μ-loop d h out₀ u at₀ i₀ out at i = u .count - i
@@ -31,7 +31,7 @@ fits : (c : tie.In-loop Inv-loop μ-loop)
 fits c =
     let s = c .before .before .before in
     let f = use-fits (s .args .t3) (s .args .h) (s .pre .0) (c .before .loop .i) (c .loop-test .taken) in
-    (omega (arith, c .before .loop .inv .1), f .1, f .2, written-length (c .before .loop .inv .2) (omega (arith, s .pre .1, c .before .loop .inv .1)))
+    (omega (arith, c .before .loop .inv .1), f .1, f .2, filled-length (c .before .loop .inv .2) (omega (arith, s .pre .1, c .before .loop .inv .1)))
 
 mul-begin : tie.Need-mul-begin Inv-loop μ-loop
 mul-begin c = search needs
@@ -101,7 +101,7 @@ over c =
     let s = c .before .before .before in
     let last : c .before .loop .i ≡ s .args .t3 .count = omega arith in
     let e : c .before .loop .at ≡ after (s .args .t3) (s .args .t3 .count) = c .before .loop .inv .1 ∙ ap (after (s .args .t3)) last in
-    (e, omega (arith, s .pre .0 .within), written-length (c .before .loop .inv .2) (omega (arith, s .pre .0 .within, s .pre .1)))
+    (e, omega (arith, s .pre .0 .within), filled-length (c .before .loop .inv .2) (omega (arith, s .pre .0 .within, s .pre .1)))
 
 sub-fill-gap-2 : tie.Need-sub-fill-gap-2 Inv-loop μ-loop
 sub-fill-gap-2 c = omega (arith, over c)
@@ -118,7 +118,7 @@ fill-gap-requires-2 c κs = search needs
 -- The last gap is written too.
 whole : (c : tie.After-fill-gap2 Inv-loop μ-loop) → let l = c .before .before .before in
     let s = l .before .before in
-    Written (s .args .out .now) (s .args .h) (bytes (s .args .t3) (s .args .d) (s .args .h)) (putMid (l .loop .at) (s .args .h - l .loop .at) (l .loop .out) (c .fill-gap2 .last .0))
+    Filled (s .args .out .now) (s .args .h) (bytes (s .args .t3) (s .args .d) (s .args .h)) (putMid (l .loop .at) (s .args .h - l .loop .at) (l .loop .out) (c .fill-gap2 .last .0))
 whole c =
     let l = c .before .before in
     let s = l .before .before .before in
@@ -126,7 +126,7 @@ whole c =
     (c .fill-gap2 .last .0) (c .fill-gap2 .ensures)
 
 same-length : tie.Need-same-length Inv-loop μ-loop
-same-length c = written-length (whole (c .before .before)) (c .before .before .before .before .before .before .before .pre .1)
+same-length c = filled-length (whole (c .before .before)) (c .before .before .before .before .before .before .before .pre .1)
 
 returns : tie.Need-returns Inv-loop μ-loop
 returns c = whole (c .before .before) .is

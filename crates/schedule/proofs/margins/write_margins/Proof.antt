@@ -1,16 +1,15 @@
 -- `schedule::margins::write_margins` meets its contract.
 -- Assumes nothing.
-use mathlib.Core.Path.{_≡_}
-use mathlib.Core.List.{_++_}
+use mathlib.Core.Path.{_≡_, _∙_}
 use Prim.Native.Nat.{_≤_, _<_, _+_, _-_, _^_}
 use native.Mathlib.Omega.{arith}
 use borrow.Author.Needs.{needs}
-use lib.ListN.{length, drop}
+use lib.ListN.{length}
 use mir.Syntax.{w32}
 use mir.Val.{toZ, ofZ}
 use mir.Facts.{toZ-ofZ}
 use Rattle.base.specs.Lists.{upTo}
-use Rattle.base.proofs.Arrays.{filled-none, filled-more, filled-length}
+use Rattle.base.proofs.Filling.{Filled, filled-start, filled-value, filled-length}
 use Rattle.schedule.specs.Quantities.{jobs, deadline, run}
 use Rattle.schedule.specs.Listing.{start, margin}
 use Rattle.schedule.proofs.Judgements.{holding}
@@ -19,7 +18,7 @@ use Rattle.schedule.proofs.margins.write_margins.Statement.{statement}
 use Rattle.schedule.proofs.margins.write_margins.Tie as tie
 
 abbrev Inv-loop : tie.InvT-loop
-Inv-loop starts out₀ jobs j₀ out j = (j ≤ jobs .count) × (jobs .count ≤ length out₀) × (out ≡ upTo (margin (holding jobs) starts) j ++ drop j out₀)
+Inv-loop starts out₀ jobs j₀ out j = (j ≤ jobs .count) × (jobs .count ≤ length out₀) × Filled out₀ j (upTo (margin (holding jobs) starts) j) out
 
 abbrev μ-loop : tie.MeasureT-loop
 μ-loop starts out₀ jobs j₀ out j = jobs .count - j
@@ -37,7 +36,7 @@ stored c =
     rw (c .margin-of .ensures) (toZ-ofZ (difference-fits (deadline R j) (start s j + run R j) d e))
 
 loop-holds : tie.Need-loop-holds Inv-loop μ-loop
-loop-holds c = (omega arith, c .before .before .pre .2, filled-none _ _)
+loop-holds c = (omega arith, c .before .before .pre .2, filled-start _ _)
 
 mul-job : tie.Need-mul-job Inv-loop μ-loop
 mul-job c = omega (arith, c .before .before .before .before .pre .0)
@@ -58,7 +57,7 @@ mul-t15 : tie.Need-mul-t15 Inv-loop μ-loop
 mul-t15 c = omega (arith, c .before .before .before .before .before .before .before .pre .0)
 
 slice-set-from-out : tie.Need-slice-set-from-out Inv-loop μ-loop
-slice-set-from-out c = let i = c .before .before .before .before .loop .inv in omega (arith, filled-length _ (c .before .before .before .before .loop .out) (c .before .before .before .before .before .before .before .args .out .now) (c .before .before .before .before .loop .j) (i .2) (omega arith))
+slice-set-from-out c = let i = c .before .before .before .before .loop .inv in omega (arith, filled-length (i .2) (omega arith))
 
 add-j : tie.Need-add-j Inv-loop μ-loop
 add-j c = omega (arith, c .before .before .before .before .before .before .before .pre .0)
@@ -67,13 +66,13 @@ loop-less : tie.Need-loop-less Inv-loop μ-loop
 loop-less c = omega arith
 
 loop-again : tie.Need-loop-again Inv-loop μ-loop
-loop-again c = let i = c .before .before .before .before .loop .inv in (omega arith, i .1, filled-more _ _ _ _ _ (i .2) (omega arith) (stored c))
+loop-again c = let i = c .before .before .before .before .loop .inv in (omega arith, i .1, filled-value _ (i .2) (omega arith) _ (stored c))
 
 same-length : tie.Need-same-length Inv-loop μ-loop
-same-length c = let i = c .before .loop .inv in filled-length _ _ _ _ (i .2) (omega arith)
+same-length c = let i = c .before .loop .inv in filled-length (i .2) (omega arith)
 
 returns : tie.Need-returns Inv-loop μ-loop
-returns c = let i = c .before .loop .inv in let e : c .before .loop .j ≡ jobs (c .before .before .before .before .args .r) = omega arith in rw (i .2, e)
+returns c = let i = c .before .loop .inv in let e : c .before .loop .j ≡ jobs (c .before .before .before .before .args .r) = omega arith in i .2 .is ∙ rw e
 
 pub write-margins-spec : {M : Type 1} → statement M
 write-margins-spec =

@@ -7,8 +7,8 @@ use Prim.Native.Nat.{ℕ, _≤_, _+_, _-_, _*_}
 use native.Mathlib.Nat.{mul-le-mul-right, mul-le-mul}
 use native.Mathlib.Omega.{arith}
 use lib.ListN.{length, take, drop, length-take, length-drop}
+use Rattle.base.proofs.Filling.{Filled, filled-length}
 use Rattle.device.specs.Row.{byteOf, rowOf}
-use Rattle.device.proofs.Parts.{Written, written-length}
 use Rattle.schedule.specs.Quantities.{device}
 use Rattle.schedule.specs.Listing.{laid}
 use Rattle.schedule.specs.Visiting.{planRow}
@@ -18,7 +18,7 @@ use Rattle.schedule.proofs.rows.write_rows.Statement.{statement}
 use Rattle.schedule.proofs.rows.write_rows.Tie as tie
 
 abbrev Inv-loop : tie.InvT-loop
-Inv-loop r starts out₀ devices h k₀ out k = (k ≤ r .devices .count) × Written out₀ (k * r .horizon) (laid (planRow r starts) k) out
+Inv-loop r starts out₀ devices h k₀ out k = (k ≤ r .devices .count) × Filled out₀ (k * r .horizon) (laid (planRow r starts) k) out
 
 abbrev μ-loop : tie.MeasureT-loop
 μ-loop r starts out₀ devices h k₀ out k = r .devices .count - k
@@ -32,7 +32,7 @@ roomy c =
     let h = s .args .r .horizon in
     let k = c .before .loop .k in
     let next : (k + 1) * h ≤ s .args .r .devices .count * h = mul-le-mul-right h (omega arith) in
-    let size = written-length (c .before .loop .inv .1) (omega (arith, s .pre .2)) in
+    let size = filled-length (c .before .loop .inv .1) (omega (arith, s .pre .2)) in
     let few : k ≤ 8 = omega (arith, s .pre .0) in
     let most : k * h ≤ 8 * 4096 = mul-le-mul few (s .pre .0 .few-ticks) in
     omega (arith, s .pre .2)
@@ -77,7 +77,7 @@ loop-again : tie.Need-loop-again Inv-loop μ-loop
 loop-again c = (omega arith, laid-row (c .before .before .before .before .before .before .before .before .before .before .before .before .args .r) (c .before .before .before .before .before .before .before .before .before .before .before .before .args .starts .now) (c .before .before .before .before .before .before .before .loop .k) (c .before .before .before .before .before .before .before .loop .inv .1) (roomy (c .before .before .before .before .before .before) .0) (c .before .before .write-row .last .1 .1 .1 .0) (c .before .before .write-row .ensures ∙ ap (λ (u : List Bool). map byteOf (rowOf (device (c .before .before .before .before .before .before .before .before .before .before .before .before .args .r) (c .before .before .before .before .before .before .before .loop .k)) u) ++ drop (c .before .before .before .before .before .before .before .before .before .before .before .before .args .r .horizon) (take (length (c .before .before .before .before .before .before .before .loop .out) - c .before .before .before .before .before .before .before .loop .k * c .before .before .before .before .before .before .before .before .before .before .before .before .args .r .horizon) (drop (c .before .before .before .before .before .before .before .loop .k * c .before .before .before .before .before .before .before .before .before .before .before .before .args .r .horizon) (c .before .before .before .before .before .before .before .loop .out)))) (pattern-uses (c .before .before .before .before .before .uses-of .ensures))))
 
 same-length : tie.Need-same-length Inv-loop μ-loop
-same-length c = written-length (c .before .loop .inv .1) (omega (arith, mul-le-mul-right (c .before .before .before .before .before .before .args .r .horizon) (c .before .loop .inv .0), c .before .before .before .before .before .before .pre .2))
+same-length c = filled-length (c .before .loop .inv .1) (omega (arith, mul-le-mul-right (c .before .before .before .before .before .before .args .r .horizon) (c .before .loop .inv .0), c .before .before .before .before .before .before .pre .2))
 
 returns : tie.Need-returns Inv-loop μ-loop
 returns c = let R = c .before .before .before .before .before .before .args .r in let all : c .before .loop .k ≡ R .devices .count = omega arith in c .before .loop .inv .1 .is ∙ ap (λ (n : ℕ). laid (planRow R (c .before .before .before .before .before .before .args .starts .now)) n ++ drop (n * R .horizon) (c .before .before .before .before .before .before .args .out .now)) all
