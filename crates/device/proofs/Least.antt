@@ -86,13 +86,20 @@ gap-slept d g h = gap-energy d g ∙ rw (le-leb (d .t + d .t) g h)
 pub gap-worked : (d : Device) (g : ℕ) → g < d .t + d .t → gapCost d g ≡ d .pw * g
 gap-worked d g h = gap-energy d g ∙ rw (lt-leb (d .t + d .t) g h)
 
--- No tick of a gap costs less than in the deepest sleep, nor more than at work.
+-- No tick costs less than in the deepest sleep, nor more than at work.
 pub gap-low : (d : Device) → Sound d → (g : ℕ) → deep d * g ≤ gapCost d g
 unfolding gapCost
 gap-low d ok g = omega (arith, rw (fill-is d ok g) at (fill-low (one d) (sleeps d ok) (omega arith) g), energy-letter d (gapRow (d .t) g))
 
-pub gap-high : (d : Device) → Sound d → (g : ℕ) → gapCost d g ≤ d .pw * g
-gap-high d ok g = gap-most d (d .pw) (omega arith) (omega (arith, ok .sleeps-cheaper, ok .works-dearer)) (omega (arith, ok .works-dearer)) g
+module _ (d : Device) (ok : Sound d) where
+  works-most : (d .ps ≤ d .pw) × (d .p0 ≤ d .pw)
+  works-most = (omega (arith, ok .sleeps-cheaper, ok .works-dearer), omega (arith, ok .works-dearer))
+
+  pub gap-high : (g : ℕ) → gapCost d g ≤ d .pw * g
+  gap-high g = gap-most d (d .pw) (omega arith) (works-most .0) (works-most .1) g
+
+  pub energy-high : (u : List Bool) → energyOf d u ≤ d .pw * length u
+  energy-high u = energy-most d (d .pw) (omega arith) (works-most .0) (works-most .1) u
 
 -- Job by job: a job of c + 1 ticks placed n ticks after the last use, and the gap after the last job.
 module _ (d : Device) {u : List Bool} (e : Ended u) (n : ℕ) where

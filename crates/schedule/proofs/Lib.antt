@@ -3,6 +3,7 @@ pub mod Runs
 pub mod Tree
 pub mod Gaps
 pub mod Floors
+pub mod Bounds
 pub mod Outcome
 pub mod Judgements
 pub mod Signs

@@ -1,7 +1,7 @@
 -- `schedule::rows::plan_energy` meets its contract.
 -- Assumes nothing.
 use mathlib.Core.Path.{_≡_, refl, ap, _∙_}
-use Prim.Native.Nat.{ℕ, _≤_, _-_, _*_}
+use Prim.Native.Nat.{ℕ, _+_, _≤_, _-_, _*_}
 use native.Mathlib.Omega.{arith}
 use Rattle.base.specs.Sums.{sum}
 use Rattle.base.proofs.Additions.{sum-more}
@@ -9,6 +9,7 @@ use Rattle.device.specs.Row.{energyOf}
 use Rattle.schedule.specs.Quantities.{device}
 use Rattle.schedule.specs.Listing.{usesOf}
 use Rattle.schedule.specs.Visiting.{planEnergy}
+use Rattle.schedule.proofs.Bounds.{device-most, devices-more}
 use Rattle.schedule.proofs.Usage.{pattern-uses}
 use Rattle.schedule.proofs.rows.plan_energy.Statement.{statement}
 use Rattle.schedule.proofs.rows.plan_energy.Tie as tie
@@ -34,8 +35,17 @@ element-copy-out-energy-of c = omega (arith, c .before .before .before .before .
 energy-of-requires : tie.Need-energy-of-requires Inv-loop μ-loop
 energy-of-requires c κs = c .before .uses-of .ensures .spaced
 
+-- The sum with the energy of the device at hand.
+more : (c : tie.After-energy-of Inv-loop μ-loop) → let k = c .before .before .before .before .loop .k in
+    let made = c .before .before .before .before .loop .sum in
+    (made + c .energy-of .result ≤ 268431360 * (k + 1)) × (made + c .energy-of .result ≤ 2147450880)
+more c =
+    let valid = c .before .before .before .before .before .before .before .pre .0 in
+    let l = c .before .before .before .before .loop in
+    devices-more (l .sum) (l .k) (c .energy-of .result) (l .inv .2) (omega (arith, valid .few-devices)) (device-most _ _ (c .energy-of .ensures .1) (valid .few-ticks))
+
 add-sum : tie.Need-add-sum Inv-loop μ-loop
-add-sum c = omega (arith, c .before .before .before .before .before .before .before .pre .0, c .energy-of .ensures .1)
+add-sum c = omega (arith, more c)
 
 add-k : tie.Need-add-k Inv-loop μ-loop
 add-k c = omega (arith, c .before .before .before .before .before .before .before .pre .0)
@@ -49,7 +59,7 @@ loop-again c =
     let s = c .before .before .before .before .before .before .before .args .starts .now in
     let k = c .before .before .before .before .loop .k in
     let here : c .energy-of .result ≡ energyOf (device R k) (usesOf R s k) = c .energy-of .ensures .0 ∙ ap (energyOf (device R k)) (pattern-uses (c .before .before .uses-of .ensures)) in
-    (omega arith, omega (arith, here, c .before .before .before .before .loop .inv .1, sum-more k (λ i. energyOf (device R i) (usesOf R s i))), omega (arith, c .before .before .before .before .before .before .before .pre .0, c .energy-of .ensures .1))
+    (omega arith, omega (arith, here, c .before .before .before .before .loop .inv .1, sum-more k (λ i. energyOf (device R i) (usesOf R s i))), more c .0)
 
 returns : tie.Need-returns Inv-loop μ-loop
 unfolding planEnergy
