@@ -52,10 +52,10 @@ fn first_missed(r: Recorder, starts: &[u16]) -> Verdict
 }
 
 // Whether job i, of c ticks from s on, and job j, of e ticks from t on, are two that share a tick.
-fn clash(i: usize, s: u16, c: u16, j: usize, t: u16, e: u16) -> bool
-    ensures { λ r. ⌜ r ≡ clashes i s c j t e ⌝ }
+fn clash(i: JobNumber, s: u16, c: u16, j: JobNumber, t: u16, e: u16) -> bool
+    ensures { λ r. ⌜ r ≡ clashes (i .0) s c (j .0) t e ⌝ }
 {
-    if i == j {
+    if i.0 == j.0 {
         return false;
     }
     if (s as u32) < t as u32 + e as u32 {
@@ -64,17 +64,18 @@ fn clash(i: usize, s: u16, c: u16, j: usize, t: u16, e: u16) -> bool
     false
 }
 
-// Whether job j overlaps another.
-fn overlaps(r: Recorder, starts: &[u16], j: usize) -> bool
-    requires { ⌜ Valid r × (length (now starts) ≡ jobs r) × (j < jobs r) ⌝ }
-    ensures { λ b. ⌜ Decides (Overlaps r (now (starts .entry)) j) b ⌝ }
+// Whether a job overlaps another.
+fn overlaps(r: Recorder, starts: &[u16], job: JobNumber) -> bool
+    requires { ⌜ Valid r × (length (now starts) ≡ jobs r) × (job .0 < jobs r) ⌝ }
+    ensures { λ b. ⌜ Decides (Overlaps r (now (starts .entry)) (job .0)) b ⌝ }
 {
     let jobs = r.jobs;
+    let j = job.0;
     let own = jobs.list[j];
     let mut i = 0;
     while i < jobs.count {
         let other = jobs.list[i];
-        if clash(i, starts[i], other.run, j, starts[j], own.run) {
+        if clash(JobNumber(i), starts[i], other.run, job, starts[j], own.run) {
             return true;
         }
         i += 1;
@@ -89,7 +90,7 @@ fn first_overlap(r: Recorder, starts: &[u16]) -> Verdict
 {
     let mut j = 0;
     while j < r.jobs.count {
-        if overlaps(r, starts, j) {
+        if overlaps(r, starts, JobNumber(j)) {
             return Verdict {
                 number: 18,
                 job: JobNumber(j),

@@ -12,10 +12,10 @@ use Rattle.schedule.proofs.judging.overlaps.Statement.{statement}
 use Rattle.schedule.proofs.judging.overlaps.Tie as tie
 
 abbrev Inv-loop : tie.InvT-loop
-Inv-loop starts j jobs own i₀ i = (i ≤ jobs .count) × Apart (holding jobs) starts j i
+Inv-loop starts job jobs j own i₀ i = (i ≤ jobs .count) × Apart (holding jobs) starts (job .0) i
 
 abbrev μ-loop : tie.MeasureT-loop
-μ-loop starts j jobs own i₀ i = jobs .count - i
+μ-loop starts job jobs j own i₀ i = jobs .count - i
 
 mul-own : tie.Need-mul-own Inv-loop μ-loop
 mul-own c = omega (arith, c .before .before .pre .0)
@@ -48,7 +48,7 @@ clash-requires : tie.Need-clash-requires Inv-loop μ-loop
 clash-requires c κs = search needs
 
 returns : tie.Need-returns Inv-loop μ-loop
-returns c = let p = c .before .before .before .before .before .before .before .before .before .before .pre in let l = c .before .before .before .before .before .before .loop in let i : l .i < jobs (c .before .before .before .before .before .before .before .before .before .before .args .r) = omega arith in holds (clash-overlaps (c .before .before .before .before .before .before .before .before .before .before .args .r) (c .before .before .before .before .before .before .before .before .before .before .args .starts .now) (l .i) (c .before .before .before .before .before .before .before .before .before .before .args .j) i (p .0 .runs _ i) (p .0 .runs _ (p .2)) (sym (c .before .clash .ensures) ∙ c .if1 .taken))
+returns c = let p = c .before .before .before .before .before .before .before .before .before .before .pre in let l = c .before .before .before .before .before .before .loop in let i : l .i < jobs (c .before .before .before .before .before .before .before .before .before .before .args .r) = omega arith in holds (clash-overlaps (c .before .before .before .before .before .before .before .before .before .before .args .r) (c .before .before .before .before .before .before .before .before .before .before .args .starts .now) (l .i) (c .before .before .before .before .before .before .before .before .before .before .args .job .0) i (p .0 .runs _ i) (p .0 .runs _ (p .2)) (sym (c .before .clash .ensures) ∙ c .if1 .taken))
 
 add-i : tie.Need-add-i Inv-loop μ-loop
 add-i c = omega (arith, c .before .before .before .before .before .before .before .before .before .before .pre .0)
@@ -57,7 +57,7 @@ loop-less : tie.Need-loop-less Inv-loop μ-loop
 loop-less c = omega arith
 
 loop-again : tie.Need-loop-again Inv-loop μ-loop
-loop-again c = let l = c .before .before .before .before .before .before .loop in (omega arith, below-more _ _ (l .inv .1) (clash-apart (c .before .before .before .before .before .before .before .before .before .before .args .r) (c .before .before .before .before .before .before .before .before .before .before .args .starts .now) (l .i) (c .before .before .before .before .before .before .before .before .before .before .args .j) (sym (c .before .clash .ensures) ∙ c .if1 .left)))
+loop-again c = let l = c .before .before .before .before .before .before .loop in (omega arith, below-more _ _ (l .inv .1) (clash-apart (c .before .before .before .before .before .before .before .before .before .before .args .r) (c .before .before .before .before .before .before .before .before .before .before .args .starts .now) (l .i) (c .before .before .before .before .before .before .before .before .before .before .args .job .0) (sym (c .before .clash .ensures) ∙ c .if1 .left)))
 
 returns-2 : tie.Need-returns-2 Inv-loop μ-loop
 returns-2 c = fails (apart-none _ _ _ (λ i h. c .before .loop .inv .1 i (omega arith)))
