@@ -10,7 +10,8 @@ use crate::Uses;
 pub fn gap_energy(d: Device, g: u16) -> u32
     ensures { λ r. ⌜ (r ≡ gapCost d g) × (r ≤ 65535 * g) ⌝ }
 {
-    let moving = d.t as u32 + d.t as u32;
+    let down = d.t as u32;
+    let moving = down + down;
     let gap = g as u32;
     if moving <= gap {
         d.p0 as u32 * moving + d.ps as u32 * (gap - moving)

@@ -37,7 +37,7 @@ fn first_missed(r: Recorder, starts: &[u16]) -> Verdict
     while j < jobs.count {
         let job = jobs.list[j];
         let fault = window_fault(job.release, job.deadline, job.run, starts[j]);
-        if fault != 0 {
+        if fault > 0 {
             return Verdict {
                 number: fault,
                 job: JobNumber(j),

@@ -20,11 +20,8 @@ sum {p} {m} {s} {g} hp hs hm hg = omega (arith, mul-le-mul-right m hp, mul-le-mu
 most : (c : tie.Start) → gapCost (c .args .d) (c .args .g) ≤ 65535 * c .args .g
 most c = gap-most (c .args .d) 65535 (omega (arith, c .good .0)) (omega (arith, c .good .0)) (omega (arith, c .good .0)) (c .args .g)
 
-cast-moving : tie.Need-cast-moving
-cast-moving c = search needs
-
-cast-moving-2 : tie.Need-cast-moving-2
-cast-moving-2 c = search needs
+cast-down : tie.Need-cast-down
+cast-down c = search needs
 
 add-moving : tie.Need-add-moving
 add-moving c = search needs
@@ -52,13 +49,13 @@ mul-result-3 c = record { fits = product (omega arith) (omega arith) }
 
 returns : tie.Need-returns
 returns c =
-    let s = c .before .before .before .before .before in
+    let s = c .before .before .before .before in
     let e = gap-slept (s .args .d) (s .args .g) (c .before .before .if1 .taken) in
     (sym e, omega (arith, e, most s))
 
 returns-2 : tie.Need-returns-2
 returns-2 c =
-    let s = c .before .before .before .before in
+    let s = c .before .before .before in
     let e = gap-worked (s .args .d) (s .args .g) (c .before .if1 .left) in
     (sym e, omega (arith, e, most s))
 
@@ -66,8 +63,7 @@ pub gap-energy-spec : {M : Type 1} → statement M
 gap-energy-spec =
     tie.close
     (tie.spec
-    cast-moving
-    cast-moving-2
+    cast-down
     add-moving
     cast-result
     mul-result

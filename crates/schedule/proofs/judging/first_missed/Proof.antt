@@ -1,6 +1,5 @@
 -- `schedule::judging::first_missed` meets its contract.
 -- Assumes nothing.
-use mathlib.Core.Path.{sym, _∙_}
 use Prim.Native.Nat.{_≤_, _-_}
 use native.Mathlib.Omega.{arith}
 use borrow.Author.Count.{below-none, below-more}
@@ -37,7 +36,7 @@ window-fault-requires : tie.Need-window-fault-requires Inv-loop μ-loop
 window-fault-requires c κs = search needs
 
 returns : tie.Need-returns Inv-loop μ-loop
-returns c = let l = c .before .before .before .before .before .loop in missed (window-missed _ _ _ _ (omega arith) (l .inv .1) (c .before .window-fault .ensures) (c .if1 .taken))
+returns c = let l = c .before .before .before .before .before .loop in missed (window-missed _ _ _ _ (omega arith) (l .inv .1) (c .before .window-fault .ensures) (λ e. omega arith))
 
 add-j : tie.Need-add-j Inv-loop μ-loop
 add-j c = omega arith
@@ -46,7 +45,7 @@ loop-less : tie.Need-loop-less Inv-loop μ-loop
 loop-less c = omega arith
 
 loop-again : tie.Need-loop-again Inv-loop μ-loop
-loop-again c = let l = c .before .before .before .before .before .loop in (omega arith, below-more _ _ (l .inv .1) (window-met (c .before .before .before .before .before .before .before .before .args .r) (c .before .before .before .before .before .before .before .before .args .starts .now) (l .j) (sym (c .if1 .left) ∙ c .before .window-fault .ensures)))
+loop-again c = let l = c .before .before .before .before .before .loop in (omega arith, below-more _ _ (l .inv .1) (window-met (c .before .before .before .before .before .before .before .before .args .r) (c .before .before .before .before .before .before .before .before .args .starts .now) (l .j) (omega (arith, c .before .window-fault .ensures))))
 
 returns-2 : tie.Need-returns-2 Inv-loop μ-loop
 returns-2 c = met (λ i h. c .before .loop .inv .1 i (omega arith))
