@@ -18,18 +18,19 @@ use Rattle.base.proofs.Arrays.{getD-padded}
 use Rattle.base.proofs.Cases.{cond-cases, test-cases}
 use Rattle.device.specs.Row.{energy}
 use Rattle.schedule.specs.declared.Recorder.{Recorder}
-use Rattle.visit.specs.declared.Vertex.{Vertex}
+use Rattle.vertex.specs.declared.Vertex.{Vertex}
 use Rattle.visit.specs.declared.Best.{Best}
 use Rattle.visit.specs.declared.Tally.{Tally}
 use Rattle.schedule.specs.Quantities.{Valid, jobs, release, run, uses, deadline}
 use Rattle.schedule.specs.Listing.{place}
 use Rattle.schedule.specs.Visiting as doc
-use Rattle.visit.specs.Steps.{flagged, lateStep, isLate, late, loadStep, addLoad, load, aheadStep, addAhead, ahead, cutA, endAt, paidAt, lastStart, endStep, paidStep, charged, closeStep, addClose, closed, floorStep, addFloor, floor, improves, offer, cutB, opens, noted, earliest, span, child, placeAt, tryStart, tryJob, visitOf, root, bare, searched, Kept}
+use Rattle.vertex.specs.Vertices.{flagged, lateStep, isLate, late, loadStep, addLoad, load, aheadStep, addAhead, ahead, cutA, endAt, paidAt, lastStart, endStep, paidStep, charged, closeStep, addClose, closed, floorStep, addFloor, floor, placeAt, root, Kept}
+use Rattle.visit.specs.Steps.{improves, offer, cutB, opens, noted, earliest, span, child, tryStart, tryJob, visitOf, bare, searched}
 use Rattle.schedule.proofs.Runs.{length-starts}
 use Rattle.schedule.proofs.Tree.{Reached, starts-child, root-reached, child-reached}
 use Rattle.schedule.proofs.Gaps.{paidFrom, paidWhole, last-snoc, paid-snoc, plan-complete}
 use Rattle.schedule.proofs.Floors.{floor-is}
-use Rattle.visit.proofs.Charging.{charged-alike, charged-settled, at-root, end-now, paid-now, root-kept, child-kept}
+use Rattle.vertex.proofs.Charging.{charged-alike, charged-settled, at-root, end-now, paid-now, root-kept, child-kept}
 use Rattle.visit.proofs.Order.{job-placed, job-open}
 use Rattle.visit.proofs.Flags.{unflagged, among, none-flagged, flag-more, over-flags, over-span}
 

@@ -9,11 +9,12 @@ use lib.ListN.{length}
 use borrow.Author.Tests.{lt-ltb, le-ltb}
 use Rattle.base.specs.Loops.{each}
 use Rattle.schedule.specs.declared.Recorder.{Recorder}
-use Rattle.visit.specs.declared.Vertex.{Vertex}
+use Rattle.vertex.specs.declared.Vertex.{Vertex}
 use Rattle.visit.specs.declared.Tally.{Tally}
 use Rattle.visit.specs.declared.Run.{Run}
 use Rattle.schedule.specs.Quantities.{jobs}
-use Rattle.visit.specs.Steps.{capped, visitOf, root, bare, searched, refusal, success, answerOf, copyStart, writtenOf}
+use Rattle.vertex.specs.Vertices.{root}
+use Rattle.visit.specs.Steps.{capped, visitOf, bare, searched, refusal, success, answerOf, copyStart, writtenOf}
 use Rattle.visit.proofs.Budget.{capped-stopped, capped-going, going-is}
 
 module _ (R : Recorder) (b : ℕ) (l : List ℕ) where

@@ -5,10 +5,11 @@ use mathlib.Core.Bool.{Bool, false, not}
 use Prim.Native.Nat.{ℕ}
 use borrow.Author.Tests.{eq-eqb, ne-eqb}
 use Rattle.schedule.specs.declared.Recorder.{Recorder}
-use Rattle.visit.specs.declared.Vertex.{Vertex}
+use Rattle.vertex.specs.declared.Vertex.{Vertex}
 use Rattle.visit.specs.declared.Best.{Best}
 use Rattle.visit.specs.declared.Tally.{Tally}
-use Rattle.visit.specs.Steps.{cutA, charged, closed, floor, offer, cutB, counting, opens, noted, enteredAt}
+use Rattle.vertex.specs.Vertices.{cutA, charged, closed, floor}
+use Rattle.visit.specs.Steps.{offer, cutB, counting, opens, noted, enteredAt}
 
 -- A vertex that has passed cut A: w is the charged one, and n the tally that has counted it.
 module _ (R : Recorder) (v : Vertex) (t : Tally) (q : cutA R v ≡ false) (w : Vertex) (c : w ≡ charged R v) (n : Tally) (e : n ≡ counting t) where

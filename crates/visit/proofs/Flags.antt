@@ -16,7 +16,7 @@ use Rattle.base.specs.Loops.{each, through}
 use Rattle.base.proofs.Cases.{cond-cases, test-cases}
 use Rattle.base.proofs.Ranges.{upTo-map}
 use Rattle.base.proofs.Turns.{through-append}
-use Rattle.visit.specs.Steps.{flagged}
+use Rattle.vertex.specs.Vertices.{flagged}
 
 -- The numbers below n that are not flagged, rising.
 unfoldable pub unflagged : List Bool → ℕ → List ℕ

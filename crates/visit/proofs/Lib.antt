@@ -1,8 +1,4 @@
-pub mod Shapes
-pub mod Cells
 pub mod Flags
-pub mod Charging
-pub mod Lateness
 pub mod Entry
 pub mod Budget
 pub mod Order

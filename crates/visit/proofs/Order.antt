@@ -11,14 +11,15 @@ use lib.Seq.{set-set}
 use borrow.Author.Tests.{eq-eqb}
 use Rattle.base.specs.Loops.{each, under}
 use Rattle.schedule.specs.declared.Recorder.{Recorder}
-use Rattle.visit.specs.declared.Vertex.{Vertex}
+use Rattle.vertex.specs.declared.Vertex.{Vertex}
 use Rattle.visit.specs.declared.Tally.{Tally}
 use Rattle.visit.specs.declared.Run.{Run}
 use Rattle.visit.specs.declared.Entered.{Entered}
 use Rattle.schedule.specs.Quantities.{Valid, jobs, run}
-use Rattle.visit.specs.Steps.{flagged, cutA, charged, counting, opens, noted, enteredAt, earliest, span, child, openFor, placeAt, tryStart, tryJob, visitOf, capped, Settled, Kept}
+use Rattle.vertex.specs.Vertices.{flagged, cutA, charged, openFor, placeAt, Settled, Kept}
+use Rattle.visit.specs.Steps.{counting, opens, noted, enteredAt, earliest, span, child, tryStart, tryJob, visitOf, capped}
 use Rattle.visit.proofs.Budget.{Grows, each-grows, going, capped-within}
-use Rattle.visit.proofs.Charging.{charged-alike, charged-settled}
+use Rattle.vertex.proofs.Charging.{charged-alike, charged-settled}
 
 under-grows : (b : Bool) (g : Tally → Tally) → ((t : Tally) → t .count ≤ g t .count) → (t : Tally) → t .count ≤ under b g t .count
 under-grows true g h t = h t

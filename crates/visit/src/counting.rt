@@ -1,9 +1,15 @@
-// The tally of a search: the vertices counted and the best so far.
+// The tally of a search: the vertices counted and the best so far; and cut B, which asks for it.
 use crate::Best;
 use crate::Tally;
+use flat::Flat;
+use vertex::Vertex;
+use vertex::cuts::floor_of;
 ghost use mathlib.Core.Path.{_≡_};
-ghost use Prim.Native.Nat.{_+_, _^_, _<_};
-ghost use Rattle.visit.specs.Steps.{improves, offer, counting, bare};
+ghost use Prim.Native.Nat.{_+_, _^_, _<_, _≤_};
+ghost use Rattle.schedule.specs.Quantities.{Valid};
+ghost use Rattle.flat.specs.Flat.{recorderOf};
+ghost use Rattle.vertex.specs.Vertices.{load, floor, Settled};
+ghost use Rattle.visit.specs.Steps.{improves, offer, counting, bare, cutB};
 
 // Complete: it becomes the best if there is no best yet or its energy is smaller.
 fn improves_on(b: Best, e: u32) -> bool
@@ -45,4 +51,16 @@ pub fn empty_tally(count: u32) -> Tally
         starts: [0u16; 16],
     };
     Tally { count, best }
+}
+
+// Cut B: there is a best, and the floor is at least its energy.
+pub fn is_beaten(r: &Flat, v: Vertex, b: Best) -> bool
+    requires { ⌜ Valid (recorderOf (now r)) × (Settled (recorderOf (now r)) v × (v .time + load (recorderOf (now r) .jobs) (v .placed) ≤ recorderOf (now r) .horizon)) ⌝ }
+    ensures { λ x. ⌜ x ≡ cutB b (floor (recorderOf (now (r .entry))) v) ⌝ }
+{
+    if b.found {
+        b.energy <= floor_of(r, v)
+    } else {
+        false
+    }
 }

@@ -6,42 +6,28 @@ ghost use Prim.Native.Nat.{_+_, _-_, _^_, _<_, _≤_};
 ghost use lib.ListN.{length};
 ghost use Rattle.base.specs.Loops.{each};
 ghost use Rattle.schedule.specs.Quantities.{Valid, jobs};
-ghost use Rattle.visit.specs.Flat.{recorderOf};
-ghost use Rattle.visit.specs.Steps.{cutA, enteredAt, openFor, tryJob, visitOf, haltedAt, capped, root, copyStart, answerOf, writtenOf, Settled, Kept};
+ghost use Rattle.flat.specs.Flat.{recorderOf};
+ghost use Rattle.vertex.specs.Vertices.{cutA, openFor, root, Settled, Kept};
+ghost use Rattle.visit.specs.Steps.{enteredAt, tryJob, visitOf, haltedAt, capped, copyStart, answerOf, writtenOf};
 
-mod costs; // costs.rt: what the devices have cost
-mod counting; // counting.rt: the count and the best so far
-mod cuts; // cuts.rt: cut A, the floor and cut B
-mod flat; // flat.rt: the recorder laid flat, to be lent
-mod numbers; // numbers.rt: sums past sixteen bits
+mod counting; // counting.rt: the count, the best so far and cut B
 
-use crate::costs::charge;
-use crate::costs::energy_of;
 use crate::counting::counted;
 use crate::counting::empty_tally;
+use crate::counting::is_beaten;
 use crate::counting::offered;
-use crate::cuts::is_beaten;
-use crate::cuts::is_cut;
-use crate::flat::Flat;
-use crate::flat::deadline_of;
-use crate::flat::flat_of;
-use crate::flat::job_count;
-use crate::flat::release_of;
-use crate::flat::run_of;
-use crate::numbers::earliest_of;
-use crate::numbers::wide;
-
-// A vertex: some jobs placed in running order, at the end of the last one. Of device k, `ends[k]` is the end of the last use and `paid[k]` the least energy
-// of the ticks before it. The job placed last is not in these two until the vertex has passed cut A: a vertex that cut A drops costs nothing dearer.
-pub struct Vertex {
-    pub time: u16,
-    pub left: usize,
-    pub placed: [bool; 16],
-    pub starts: [u16; 16],
-    pub last: usize,
-    pub ends: [u16; 8],
-    pub paid: [u32; 8],
-}
+use flat::Flat;
+use flat::deadline_of;
+use flat::flat_of;
+use flat::job_count;
+use flat::numbers::earliest_of;
+use flat::numbers::wide;
+use flat::release_of;
+use flat::run_of;
+use vertex::Vertex;
+use vertex::costs::charge;
+use vertex::costs::energy_of;
+use vertex::cuts::is_cut;
 
 // The best complete vertex so far, if one was found.
 pub struct Best {

@@ -11,9 +11,9 @@ use borrow.Fn.PlainCycle.{Measures, is, falls, and}
 use Rattle.base.specs.Loops.{each}
 use Rattle.base.proofs.Turns.{each-start, each-step, each-done}
 use Rattle.visit.specs.declared.Tally.{Tally}
-use Rattle.visit.specs.Flat.{recorderOf}
+use Rattle.flat.specs.Flat.{recorderOf}
 use Rattle.visit.specs.Steps.{tryStart, tryJob, visitOf, capped}
-use Rattle.visit.proofs.Charging.{child-kept}
+use Rattle.vertex.proofs.Charging.{child-kept}
 use Rattle.visit.proofs.Order.{visit-counts, jobs-grow, starts-grow, job-placed, job-done, job-runs, entered-count, entered-left, entered-more, entered-settled, visit-cut, visit-open, visit-closes, child-is, Placing, placing-open, placing-start, placing-on}
 use Rattle.visit.proofs.Budget.{stops-here, goes-on, goes-within, ends, capped-over}
 use Rattle.visit.proofs.choices.Reads as choices
@@ -23,15 +23,15 @@ use Rattle.visit.proofs.visit.Reads as visit
 use Rattle.visit.proofs.visit.Kinds as visit-kinds
 use Rattle.visit.proofs.+choices+visit.Lts-visit as visit-lts
 use Rattle.visit.proofs.counting.counted.Reads as counted-reads
-use Rattle.visit.proofs.cuts.is_cut.Reads as is-cut-reads
+use Rattle.vertex.proofs.cuts.is_cut.Reads as is-cut-reads
 use Rattle.visit.proofs.enter.Reads as enter-reads
-use Rattle.visit.proofs.flat.deadline_of.Reads as deadline-of-reads
-use Rattle.visit.proofs.flat.job_count.Reads as job-count-reads
-use Rattle.visit.proofs.flat.release_of.Reads as release-of-reads
-use Rattle.visit.proofs.flat.run_of.Reads as run-of-reads
+use Rattle.flat.proofs.deadline_of.Reads as deadline-of-reads
+use Rattle.flat.proofs.job_count.Reads as job-count-reads
+use Rattle.flat.proofs.release_of.Reads as release-of-reads
+use Rattle.flat.proofs.run_of.Reads as run-of-reads
 use Rattle.visit.proofs.halted.Reads as halted-reads
-use Rattle.visit.proofs.numbers.earliest_of.Reads as earliest-of-reads
-use Rattle.visit.proofs.numbers.wide.Reads as wide-reads
+use Rattle.flat.proofs.numbers.earliest_of.Reads as earliest-of-reads
+use Rattle.flat.proofs.numbers.wide.Reads as wide-reads
 use Rattle.visit.proofs.open_for.Reads as open-for-reads
 use Rattle.visit.proofs.+choices+visit.{statement}
 use Rattle.visit.proofs.+choices+visit.Tie.{close}

@@ -1,8 +1,8 @@
 -- `visit::enter` meets its contract. Each way out is one law of Entry.
 -- Assumes nothing.
 use borrow.Author.Needs.{needs}
-use Rattle.visit.proofs.Charging.{charged-settled}
-use Rattle.visit.proofs.Lateness.{charged-fits}
+use Rattle.vertex.proofs.Charging.{charged-settled}
+use Rattle.vertex.proofs.Lateness.{charged-fits}
 use Rattle.visit.proofs.Entry.{enter-complete, enter-on}
 use Rattle.visit.proofs.enter.Statement.{statement}
 use Rattle.visit.proofs.enter.Tie as tie

@@ -5,7 +5,7 @@ use native.Mathlib.Omega.{arith}
 use borrow.Author.Tests.{not-true, not-false}
 use borrow.Author.Needs.{needs}
 use Rattle.visit.specs.declared.Tally.{Tally}
-use Rattle.visit.proofs.Charging.{root-kept}
+use Rattle.vertex.proofs.Charging.{root-kept}
 use Rattle.visit.proofs.Ending.{is-short, is-over, is-none, is-found}
 use borrow.Author.Needs.{needs}
 use Rattle.visit.proofs.search.Statement.{statement}

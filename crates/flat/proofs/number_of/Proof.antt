@@ -1,0 +1,80 @@
+-- `visit::flat::number_of` meets its contract.
+-- Assumes nothing.
+use borrow.Author.Needs.{needs}
+use borrow.Author.Tests.{lt-ltb, le-ltb, eq-eqb, ne-eqb}
+use Rattle.flat.specs.Flat.{numberOf}
+use Rattle.flat.proofs.number_of.Statement.{statement}
+use Rattle.flat.proofs.number_of.Tie as tie
+
+mul-job-number : tie.Need-mul-job-number
+mul-job-number c = search needs
+
+element-copy-out-job-number : tie.Need-element-copy-out-job-number
+element-copy-out-job-number c = search needs
+
+job-number-requires : tie.Need-job-number-requires
+job-number-requires c κs = search needs
+
+returns : tie.Need-returns
+unfolding numberOf
+returns c = simp (lt-ltb _ _ (c .before .before .before .if1 .taken)) (c .job-number .ensures)
+
+mul-device-number : tie.Need-mul-device-number
+mul-device-number c = search needs
+
+element-copy-out-device-number : tie.Need-element-copy-out-device-number
+element-copy-out-device-number c = search needs
+
+device-number-requires : tie.Need-device-number-requires
+device-number-requires c κs = search needs
+
+returns-2 : tie.Need-returns-2
+unfolding numberOf
+returns-2 c =
+    let t = c .before .before .before in
+    simp (le-ltb _ _ (t .before .before .if1 .left), lt-ltb _ _ (t .before .if2 .taken), lt-ltb _ _ (t .if3 .taken)) (c .device-number .ensures)
+
+returns-3 : tie.Need-returns-3
+unfolding numberOf
+returns-3 c = simp (le-ltb _ _ (c .before .before .if1 .left), lt-ltb _ _ (c .before .if2 .taken), le-ltb _ _ (c .if3 .left))
+
+returns-4 : tie.Need-returns-4
+unfolding numberOf
+returns-4 c = simp (le-ltb _ _ (c .before .before .if1 .left), le-ltb _ _ (c .before .if2 .left), eq-eqb _ _ (c .if4 .taken))
+
+cast-result : tie.Need-cast-result
+cast-result c = search needs
+
+returns-5 : tie.Need-returns-5
+unfolding numberOf
+returns-5 c =
+    let t = c .before .before in
+    simp (le-ltb _ _ (t .before .before .if1 .left), le-ltb _ _ (t .before .if2 .left), ne-eqb _ _ (t .if4 .left), eq-eqb _ _ (c .before .if5 .taken))
+
+cast-result-2 : tie.Need-cast-result-2
+cast-result-2 c = search needs
+
+returns-6 : tie.Need-returns-6
+unfolding numberOf
+returns-6 c =
+    let t = c .before .before in
+    simp (le-ltb _ _ (t .before .before .if1 .left), le-ltb _ _ (t .before .if2 .left), ne-eqb _ _ (t .if4 .left), ne-eqb _ _ (c .before .if5 .left))
+
+pub number-of-spec : {M : Type 1} → statement M
+number-of-spec =
+    tie.close
+    (tie.spec
+    mul-job-number
+    element-copy-out-job-number
+    job-number-requires
+    returns
+    mul-device-number
+    element-copy-out-device-number
+    device-number-requires
+    returns-2
+    returns-3
+    returns-4
+    cast-result
+    returns-5
+    cast-result-2
+    returns-6)
