@@ -26,7 +26,7 @@ fn is_late(t: u16, a: u16, d: u16, c: u16) -> bool
     wide(d) < earliest_of(t, a) + wide(c)
 }
 
-// Cut A: an unplaced job is late, or the running times of all unplaced jobs pass the horizon.
+// Cut A (rule 43): an unplaced job is late, or all of them together run past the horizon.
 pub fn is_cut(r: &Flat, v: Vertex) -> bool
     requires { ⌜ Valid (recorderOf (now r)) ⌝ }
     ensures { λ x. ⌜ x ≡ cutA (recorderOf (now (r .entry))) v ⌝ }

@@ -11,7 +11,7 @@ ghost use Rattle.flat.specs.Flat.{recorderOf};
 ghost use Rattle.vertex.specs.Vertices.{load, floor, Settled};
 ghost use Rattle.visit.specs.Steps.{improves, offer, counting, bare, cutB};
 
-// Complete: it becomes the best if there is no best yet or its energy is smaller.
+// Whether a complete vertex of energy e takes the place of the best (rule 44): at equal energy the one found first stays (rule 47).
 fn improves_on(b: Best, e: u32) -> bool
     ensures { λ x. ⌜ x ≡ improves b e ⌝ }
 {
@@ -53,7 +53,7 @@ pub fn empty_tally(count: u32) -> Tally
     Tally { count, best }
 }
 
-// Cut B: there is a best, and the floor is at least its energy.
+// Cut B (rule 45): the floor shows that nothing below the vertex undercuts the best.
 pub fn is_beaten(r: &Flat, v: Vertex, b: Best) -> bool
     requires { ⌜ Valid (recorderOf (now r)) × (Settled (recorderOf (now r)) v × (v .time + load (recorderOf (now r) .jobs) (v .placed) ≤ recorderOf (now r) .horizon)) ⌝ }
     ensures { λ x. ⌜ x ≡ cutB b (floor (recorderOf (now (r .entry))) v) ⌝ }

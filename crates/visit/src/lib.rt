@@ -1,4 +1,4 @@
-// The search for the cheapest schedule: depth first, under a budget of vertices. Document 01, 'The search'.
+// The search for the cheapest schedule: depth first, under a budget of vertices (rules 40 to 48).
 use schedule::Recorder;
 ghost use mathlib.Core.Path.{_≡_};
 ghost use mathlib.Core.Bool.{false};
