@@ -1,0 +1,152 @@
+-- The figures to reproduce, P1 to P12, and three more, X1 to X3 (X2 is P9's count, 95): one table of cases, and one statement over it. A case is an
+-- operation's complete outcome on a file, and says what that operation promises; so it says that the file is read, or by which number it is refused.
+-- proofs/Hold: the table holds.
+-- Assumes nothing.
+use mathlib.Core.Path.{_≡_}
+use mathlib.Core.List.{List, [], _∷_, _++_, map}
+use Prim.Native.Nat.{ℕ}
+use lib.IntN.{ℤ, pos, negsuc}
+use lib.ListN.{replicate}
+use Rattle.base.specs.Lists.{upTo}
+use Rattle.device.specs.Row.{Letter, W, D, S, U, byteOf}
+use Rattle.schedule.specs.Quantities.{jobs, release, deadline}
+use Rattle.schedule.specs.Listing.{Earlier}
+use Rattle.request.specs.Format.{recorderIn}
+use Rattle.planner.specs.declared.Answer.{Answer}
+use Rattle.planner.specs.Promises.{success, refusal, refusalAfter, Reads, Checked, Margined, Judged, Rowed, Searched}
+
+-- ---- files
+
+-- A number of two bytes.
+abbrev two : ℕ → List ℕ
+two n = 0 ∷ n ∷ []
+
+-- Device A: T 1, Pw 5, Ps 1, P0 3.
+abbrev A : List ℕ
+A = 1 ∷ 0 ∷ 5 ∷ 0 ∷ 1 ∷ 0 ∷ 3 ∷ []
+
+-- A job (a, d, c) with its device set.
+abbrev jobFile : ℕ → ℕ → ℕ → ℕ → List ℕ
+jobFile a d c set = two a ++ two d ++ two c ++ set ∷ []
+
+-- No task and no job.
+abbrev idle : List ℕ
+idle = 0 ∷ 0 ∷ []
+
+abbrev P3 : List ℕ
+P3 = two 5 ++ 1 ∷ A ++ 0 ∷ 1 ∷ jobFile 0 5 2 1
+
+abbrev P5 : List ℕ
+P5 = two 4 ++ 0 ∷ 0 ∷ 2 ∷ jobFile 0 2 2 0 ++ jobFile 0 2 2 0
+
+abbrev P6 : List ℕ
+P6 = two 2 ++ 0 ∷ 0 ∷ 2 ∷ jobFile 0 2 2 0 ++ jobFile 0 2 1 0
+
+abbrev P7 : List ℕ
+P7 = two 3 ++ 1 ∷ A ++ 0 ∷ 2 ∷ jobFile 0 1 1 1 ++ jobFile 2 3 1 1
+
+abbrev P8 : List ℕ
+P8 = two 4 ++ 1 ∷ A ++ 0 ∷ 2 ∷ jobFile 0 1 1 1 ++ jobFile 3 4 1 1
+
+abbrev P9 : List ℕ
+P9 = two 6 ++ 1 ∷ A ++ 0 ∷ 3 ∷ jobFile 0 6 1 1 ++ jobFile 0 6 1 0 ++ jobFile 0 6 1 1
+
+abbrev P10 : List ℕ
+P10 = two 0 ++ 0 ∷ 2 ∷ two 4 ++ two 1 ++ 0 ∷ two 6 ++ two 2 ++ 0 ∷ 0 ∷ []
+
+abbrev P11 : List ℕ
+P11 = two 5 ++ 0 ∷ 0 ∷ 1 ∷ jobFile 0 5 2 0
+
+-- Periods 4,095 and 4,096; periods 64 and 4,096.
+abbrev P12 : List ℕ
+P12 = two 0 ++ 0 ∷ 2 ∷ 15 ∷ 255 ∷ two 1 ++ 0 ∷ 16 ∷ 0 ∷ two 1 ++ 0 ∷ 0 ∷ []
+
+abbrev P12′ : List ℕ
+P12′ = two 0 ++ 0 ∷ 2 ∷ two 64 ++ two 1 ++ 0 ∷ 16 ∷ 0 ∷ two 1 ++ 0 ∷ 0 ∷ []
+
+-- Jobs whose running order is not their job order.
+abbrev X1 : List ℕ
+X1 = two 7 ++ 1 ∷ A ++ 0 ∷ 3 ∷ jobFile 2 5 2 0 ++ jobFile 4 7 2 1 ++ jobFile 0 2 1 1
+
+-- The two tasks of document 001's Table 3, with a device A each.
+abbrev X3 : List ℕ
+X3 = two 0 ++ 2 ∷ A ++ A ++ 2 ∷ two 4 ++ two 1 ++ 1 ∷ two 5 ++ two 3 ++ 2 ∷ 0 ∷ []
+
+-- ---- what a file has
+
+pub data Figure : Type 0 where
+  -- an operation's outcome: its inputs besides the file, the answer, and the lent memory before and after where it is lent any
+  check : (answer : Answer) → Figure
+  margins : (starts : List ℕ) (lent : List ℤ) (answer : Answer) (after : List ℤ) → Figure
+  verdict : (starts : List ℕ) (answer : Answer) → Figure
+  rows : (starts lent : List ℕ) (answer : Answer) (after : List ℕ) → Figure
+  search : (budget : ℕ) (lent : List ℕ) (answer : Answer) (after : List ℕ) → Figure
+  -- the jobs that it is unfolded to: the horizon, the releases and the deadlines
+  unfolds : (horizon : ℕ) (releases deadlines : List ℕ) → Figure
+  -- of two schedules the first comes first
+  comes-first : (s s′ : List ℕ) → Figure
+
+pub record Case : Type 0 where
+  pub file : List ℕ
+  pub figure : Figure
+
+abbrev _has_ : List ℕ → Figure → Case
+f has g = record { file = f; figure = g }
+
+infix 70 _has_
+-- ---- the table: what is lent holds nines, and has a place more than is needed
+
+abbrev letters : List Letter → List ℕ
+letters l = map byteOf l
+
+abbrev pub table : List Case
+table =
+    [] has check (refusal 1)
+    ∷ (0 ∷ 1 ∷ 0 ∷ 0 ∷ 0 ∷ []) has check (success 1 0 0)
+    ∷ (0 ∷ 1 ∷ 0 ∷ 0 ∷ 0 ∷ []) has search 1000 (9 ∷ []) (success 1 0 1) (9 ∷ [])
+    ∷ (0 ∷ 1 ∷ 0 ∷ 0 ∷ 0 ∷ 0 ∷ []) has check (refusal 2)
+    ∷ (0 ∷ 0 ∷ 0 ∷ 0 ∷ 0 ∷ []) has check (refusal 10)
+    ∷ (two 1 ++ 1 ∷ A ++ idle) has rows [] (replicate 2 9) (success 1 5 0) (letters (W ∷ []) ++ 9 ∷ [])
+    ∷ (two 2 ++ 1 ∷ A ++ idle) has rows [] (replicate 3 9) (success 2 6 0) (letters (D ∷ U ∷ []) ++ 9 ∷ [])
+    ∷ (two 5 ++ 1 ∷ A ++ idle) has rows [] (replicate 6 9) (success 5 9 0) (letters (D ∷ S ∷ S ∷ S ∷ U ∷ []) ++ 9 ∷ [])
+    ∷ P3 has verdict (0 ∷ []) (success 5 17 0)
+    ∷ P3 has verdict (1 ∷ []) (success 5 21 0)
+    ∷ P3 has verdict (2 ∷ []) (success 5 21 0)
+    ∷ P3 has verdict (3 ∷ []) (success 5 17 0)
+    ∷ P3 has search 1000 (9 ∷ 9 ∷ []) (success 5 17 5) (0 ∷ 9 ∷ [])
+    ∷ P3 has search 4 (9 ∷ 9 ∷ []) (refusalAfter 20 4) (9 ∷ 9 ∷ [])
+    ∷ P5 has search 1000 (replicate 3 9) (refusalAfter 19 3) (replicate 3 9)
+    ∷ P6 has search 1000 (replicate 3 9) (refusalAfter 19 1) (replicate 3 9)
+    ∷ P7 has rows (0 ∷ 2 ∷ []) (replicate 4 9) (success 3 15 0) (letters (W ∷ W ∷ W ∷ []) ++ 9 ∷ [])
+    ∷ P8 has rows (0 ∷ 3 ∷ []) (replicate 5 9) (success 4 16 0) (letters (W ∷ D ∷ U ∷ W ∷ []) ++ 9 ∷ [])
+    ∷ P9 has search 1000 (replicate 4 9) (success 6 18 95) (0 ∷ 1 ∷ 5 ∷ 9 ∷ [])
+    ∷ P9 has verdict (0 ∷ 1 ∷ 2 ∷ []) (success 6 22 0)
+    ∷ P9 has verdict (0 ∷ 2 ∷ 1 ∷ []) (success 6 18 0)
+    ∷ P9 has comes-first (0 ∷ 1 ∷ 5 ∷ []) (0 ∷ 2 ∷ 1 ∷ [])
+    ∷ P10 has unfolds 12 (0 ∷ 0 ∷ 4 ∷ 6 ∷ 8 ∷ []) (4 ∷ 6 ∷ 8 ∷ 12 ∷ 12 ∷ [])
+    ∷ P11 has margins (0 ∷ []) (replicate 2 (pos 9)) (success 5 0 0) (pos 3 ∷ pos 9 ∷ [])
+    ∷ P11 has margins (3 ∷ []) (replicate 2 (pos 9)) (success 5 0 0) (pos 0 ∷ pos 9 ∷ [])
+    ∷ P11 has margins (65535 ∷ []) (replicate 2 (pos 9)) (success 5 0 0) (negsuc 65531 ∷ pos 9 ∷ [])
+    ∷ P12 has check (refusal 10)
+    ∷ P12′ has check (refusal 12)
+    ∷ X1 has search 1000 (replicate 4 9) (success 7 23 14) (2 ∷ 5 ∷ 0 ∷ 9 ∷ [])
+    ∷ X3 has search 1000000 (replicate 10 9) (success 20 136 3144) (3 ∷ 0 ∷ 4 ∷ 5 ∷ 8 ∷ 10 ∷ 15 ∷ 17 ∷ 16 ∷ 9 ∷ [])
+    ∷ []
+
+-- ---- the statement
+
+-- What a case says: the promise of its operation; and where no operation answers it, that the file is read, and what it is read as.
+abbrev pub Says : List ℕ → Figure → Type 0
+Says f (check a) = Checked f a
+Says f (margins starts lent a after) = Margined f starts lent a after
+Says f (verdict starts a) = Judged f starts a
+Says f (rows starts lent a after) = Rowed f starts lent a after
+Says f (search budget lent a after) = Searched f budget lent a after
+Says f (unfolds h rs ds) =
+    let R = recorderIn f in
+    Reads f R × (R .horizon ≡ h) × (upTo (release R) (jobs R) ≡ rs) × (upTo (deadline R) (jobs R) ≡ ds)
+Says f (comes-first s s′) = Reads f (recorderIn f) × Earlier (recorderIn f) s s′
+
+abbrev pub Hold : List Case → Type 0
+Hold [] = Unit {0}
+Hold (c ∷ cs) = Says (c .file) (c .figure) × Hold cs
