@@ -5,6 +5,7 @@ pub mod Packed
 pub mod Checked
 pub mod Faultless
 pub mod Fitting
+pub mod Unfolding
 pub mod Highest
 pub mod Accepted
 pub mod Beyond

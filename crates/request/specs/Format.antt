@@ -1,5 +1,5 @@
--- Document 01, 'The request file' and 'Refusal numbers' 1 to 13: from a list of bytes to the recorder or to the refusal. 'The file is read left to right and
--- the first fault decides.' Each section takes the place where it begins, and goes on with the next.
+-- The request file (rules 8 to 15): from a list of bytes to the recorder, or to its refusal, one of the numbers 1 to 13. The bytes are looked at in their
+-- order, and whatever is wrong first gives the number: each section takes the place where it begins, and goes on with the next.
 -- Assumes nothing.
 use Prim.Native.Nat.{ℕ, zero, suc, _+_, _-_, _*_, _/_, _%_, _^_}
 use mathlib.Core.List.{List, [], _∷_, _++_}
@@ -28,26 +28,26 @@ pub data Reading : Type 0 where
 
 -- ---- the records at a place
 
--- 'Bit k of a device set, counted from the lowest, stands for device k.'
+-- A device set has one bit a device, device 0 in the lowest (rule 14).
 abbrev pub bit : ℕ → ℕ → Bool
 bit set k = eqb (set / 2 ^ k % 2) 1
 
 abbrev pub setOf : ℕ → List Bool
 setOf set = upTo (bit set) 8
 
--- 'Per device 7 bytes: T (1), Pw (2), Ps (2), P0 (2).'
+-- A device's seven bytes: its transition time, then its powers working, asleep and moving (rule 11).
 abbrev pub deviceAt : List ℕ → ℕ → Device
 deviceAt s at = record { t = byteAt s at; pw = pairAt s (at + 1); ps = pairAt s (at + 3); p0 = pairAt s (at + 5) }
 
--- 'Per task 5 bytes: p (2), c (2), device set (1).'
+-- A task's five: its period, its running time, its device set (rule 12).
 abbrev pub taskAt : List ℕ → ℕ → Task
 taskAt s at = record { period = pairAt s at; run = pairAt s (at + 2); uses = setOf (byteAt s (at + 4)) }
 
--- 'Per job 7 bytes: a (2), d (2), c (2), device set (1).'
+-- A job's seven: its release, its deadline, its running time, its device set (rule 13).
 abbrev pub jobAt : List ℕ → ℕ → Job
 jobAt s at = record { release = pairAt s at; deadline = pairAt s (at + 2); run = pairAt s (at + 4); uses = setOf (byteAt s (at + 6)) }
 
--- ---- what refuses a record that is there: 'its fields' numbers in rising order'
+-- ---- what refuses a record that is there: its lines stand by number (rule 15)
 
 unfoldable pub deviceTable : Device → List Refusal
 deviceTable d =
@@ -88,7 +88,7 @@ recordTable s DeviceRecords at = deviceTable (deviceAt s at)
 recordTable s (TaskRecords n) at = taskTable n (byteAt s (at + 4)) (taskAt s at)
 recordTable s (JobRecords n h) at = jobTable n h (byteAt s (at + 6)) (jobAt s at)
 
--- 'In one record: 1, then its fields' numbers'; and the records of a section in turn.
+-- A record that is not all there is 1, before anything in it is judged; and the records of a section in turn (rule 15).
 unfoldable pub recordFault : List ℕ → Section → ℕ → ℕ
 recordFault s k at = cond (ltb (length s - at) (sizeOf k)) 1 (firstThat (recordTable s k at))
 
@@ -102,21 +102,21 @@ unfoldable pub lcmFrom : List ℕ → ℕ → ℕ → ℕ → ℕ
 lcmFrom s zero at h = h
 lcmFrom s (suc n) at h = lcmFrom s n (at + 5) (lcmOf h (pairAt s at))
 
--- 'With tasks, H is the least common multiple of the periods'; else it is given.
+-- The horizon is worked out where there are tasks (rule 9), and given in the first field where there are none (rule 2).
 unfoldable pub horizonOf : List ℕ → ℕ → ℕ → ℕ
 horizonOf s tasks from = cond (eqb tasks 0) (pairAt s 0) (lcmFrom s tasks from 1)
 
 -- ---- the jobs
 
--- A task's job that is released at t: 'due one period later'.
+-- A task's job that is released at t: it is due when the next one is released (rule 8).
 abbrev pub jobOf : Task → ℕ → Job
 jobOf k t = record { release = t; deadline = t + k .period; run = k .run; uses = k .uses }
 
--- 'Released at 0, p, 2p and so on': what a task releases at t.
+-- What a task releases at t: one job at each multiple of its period (rule 8; proofs/Unfolding: H / p of them).
 abbrev pub released : Task → ℕ → List Job
 released k t = cond (eqb (t % k .period) 0) (jobOf k t ∷ []) []
 
--- What the first n tasks release at t, by task number; and before h, by release: 'numbered by release, equal releases by task number'.
+-- What the first n tasks release at t, by task number; and before h, by release. A job's number is its place in this list (rule 6).
 unfoldable pub releasedAt : List ℕ → ℕ → ℕ → ℕ → List Job
 releasedAt s zero from t = []
 releasedAt s (suc n) from t = releasedAt s n from t ++ released (taskAt s (from + n * 5)) t
@@ -135,7 +135,7 @@ jobsOf s tasks from at = cond (eqb tasks 0) (listed s (byteAt s at) (at + 1)) (u
 
 -- ---- the sections in turn, each number of the refusal table once
 
--- 11: 'tasks given, and the horizon field or the job count is not 0'.
+-- 11: a file with tasks names a horizon, or jobs, besides.
 unfoldable pub mixed : ℕ → ℕ → ℕ → Bool
 mixed tasks field count = not (eqb tasks 0) && (not (eqb field 0) || not (eqb count 0))
 
@@ -151,7 +151,7 @@ jobRecords s n tasks from at h =
     (cond (ltb (at + 1 + byteAt s at * 7) (length s)) 2
     0))
 
--- 'After the job count has been read: 11, then 10, then 12, then the job records, then 2.'
+-- Once the job count is there: 11, 10, and what follows them (rule 15).
 unfoldable pub jobSection : List ℕ → ℕ → ℕ → ℕ → ℕ → ℕ
 jobSection s n tasks from at =
     cond (leb (length s) at) 1
@@ -211,7 +211,7 @@ recorderIn s = record { horizon = horizonIn s; devices = devicesHeld (devicesIn 
 unfoldable pub readOf : List ℕ → Reading
 readOf s = cond (eqb (faultOf s) 0) (accepted (recorderIn s)) (refused (faultOf s))
 
--- What the code hands on of a reading: the document's number, with the recorder or an empty one.
+-- What the code hands on of a reading: its number, with the recorder or an empty one.
 abbrev pub noRecorder : Recorder
 noRecorder = record { horizon = 0; devices = devicesHeld []; jobs = jobsHeld [] }
 

@@ -17,8 +17,8 @@ pub record SoundTasks (s : List ℕ) (n from : ℕ) : Type 0 where
   pub there : from + n * 5 ≤ length s
   pub periods : (i : ℕ) → i < n → (0 < pairAt s (from + i * 5)) × (pairAt s (from + i * 5) ≤ 4096)
 
--- A list of jobs in an array of 16: as many as fit, with its count capped. A file that is accepted has at most 16 jobs, and there it is the document's list in
--- its array (proofs/Packed).
+-- A list of jobs in an array of 16: as many as fit, with its count capped. A file that is accepted has at most 16 jobs, and there it is that list in its array
+-- (proofs/Packed).
 unfoldable pub packed : List Job → Jobs
 packed l = record { count = min (length l) 17; list = padded 16 emptyJob (take 16 l) }
 

@@ -3,7 +3,7 @@ ghost use mathlib.Core.Path.{_≡_};
 ghost use Prim.Native.Nat.{ℕ, _<_, _≤_};
 ghost use Rattle.request.specs.Euclid.{gcdOf, lcmOf};
 
-// The greatest common divisor falls by Euclid's remainder.
+// The remainder falls at each call.
 fn gcd(a: u32, b: u32) -> u32
     ensures { λ r. ⌜ r ≡ gcdOf a b ⌝ }
 {

@@ -2,12 +2,13 @@
 ghost use mathlib.Core.Path.{_≡_};
 ghost use mathlib.Core.List.{[]};
 ghost use Prim.Native.Nat.{ℕ, _+_, _*_, _≤_, _<_};
-ghost use lib.ListN.{length};
-ghost use Rattle.base.specs.Bytes.{byteAt};
-ghost use Rattle.request.specs.Format.{horizonOf, jobOf, unfolded, listed, jobsOf};
+ghost use lib.ListN.{length, set};
+ghost use Rattle.base.specs.Bytes.{byteAt, pairAt};
+ghost use Rattle.request.specs.Format.{horizonOf, taskAt, jobOf, unfolded, listed, jobsOf};
 ghost use Rattle.request.specs.Held.{SoundTasks, packed, pushed, releasedTo};
 use super::Task;
 use super::records;
+use base::JobNumber;
 use base::TaskNumber;
 use schedule::Job;
 use schedule::Jobs;
@@ -27,16 +28,26 @@ pub(crate) fn no_jobs() -> Jobs
     }
 }
 
+// The jobs with the last of them placed at its number.
+fn place(js: Jobs, number: JobNumber, j: Job) -> Jobs
+    requires { ⌜ number .0 < 16 ⌝ }
+    ensures { λ r. ⌜ r ≡ record { count = number .0 + 1; list = set (js .list) (number .0) j } ⌝ }
+{
+    let i = number.0;
+    let mut out = js;
+    out.list[i] = j;
+    out.count = i + 1;
+    out
+}
+
+// One job more: its number is the next.
 fn push(js: Jobs, j: Job) -> Jobs
     ensures { λ r. ⌜ r ≡ pushed js j ⌝ }
 {
-    let n = js.count;
-    let mut out = js;
-    if n < 16 {
-        out.list[n] = j;
-        out.count = n + 1;
-        return out;
+    if js.count < 16 {
+        return place(js, JobNumber(js.count), j);
     }
+    let mut out = js;
     out.count = 17;
     out
 }
@@ -55,11 +66,12 @@ fn job_of(k: Task, t: u32) -> Job
     }
 }
 
-// The jobs with what a task releases at t.
-fn release(k: Task, t: u32, js: Jobs) -> Jobs
-    requires { ⌜ (0 < k .period) × (t + k .period < 65536) ⌝ }
-    ensures { λ r. ⌜ r ≡ releasedTo js k t ⌝ }
+// The jobs with what a task, of those whose records begin at a place, releases at t.
+fn release(s: &[u8], from: usize, task: TaskNumber, t: u32, js: Jobs) -> Jobs
+    requires { ⌜ (from + task .0 * 5 + 4 < length (now s)) × (0 < pairAt (now s) (from + task .0 * 5)) × (t + pairAt (now s) (from + task .0 * 5) < 65536) ⌝ }
+    ensures { λ r. ⌜ r ≡ releasedTo js (taskAt (now (s .entry)) (from + task .0 * 5)) t ⌝ }
 {
+    let k = records::task_of(s, from, task);
     if t % k.period as u32 == 0 {
         push(js, job_of(k, t))
     } else {
@@ -75,8 +87,7 @@ fn tick(s: &[u8], tasks: usize, from: usize, t: u32, before: Jobs) -> Jobs
     let mut js = before;
     let mut i: usize = 0;
     while i < tasks {
-        let k = records::task_of(s, from, TaskNumber(i));
-        js = release(k, t, js);
+        js = release(s, from, TaskNumber(i), t, js);
         i += 1;
     }
     js
@@ -104,7 +115,7 @@ fn listed_jobs(s: &[u8], count: usize, from: usize) -> Jobs
     let mut js = no_jobs();
     let mut j: usize = 0;
     while j < count {
-        js = push(js, records::job_at(s, from + j * 7));
+        js = push(js, records::listed_job(s, from, JobNumber(j)));
         j += 1;
     }
     js

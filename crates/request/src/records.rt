@@ -4,11 +4,12 @@ ghost use Prim.Native.Nat.{ℕ, _+_, _*_, _<_};
 ghost use lib.ListN.{length};
 ghost use Rattle.request.specs.Format.{setOf, deviceAt, taskAt, jobAt};
 use super::Task;
+use base::JobNumber;
 use base::TaskNumber;
 use device::Device;
 use schedule::Job;
 
-// For each device whether a set names it: bit k, counted from the lowest, stands for device k.
+// For each device whether a set names it. Device 0 has the lowest bit, so the bits come off by halving.
 fn set_of(set: u8) -> [bool; 8]
     ensures { λ r. ⌜ r ≡ setOf set ⌝ }
 {
@@ -47,11 +48,11 @@ pub(crate) fn task_at(s: &[u8], at: usize) -> Task
 }
 
 // The task of a number, of those whose records begin at a place.
-pub(crate) fn task_of(s: &[u8], from: usize, k: TaskNumber) -> Task
-    requires { ⌜ from + k .0 * 5 + 4 < length (now s) ⌝ }
-    ensures { λ r. ⌜ r ≡ taskAt (now (s .entry)) (from + k .0 * 5) ⌝ }
+pub(crate) fn task_of(s: &[u8], from: usize, task: TaskNumber) -> Task
+    requires { ⌜ from + task .0 * 5 + 4 < length (now s) ⌝ }
+    ensures { λ r. ⌜ r ≡ taskAt (now (s .entry)) (from + task .0 * 5) ⌝ }
 {
-    let i = k.0;
+    let i = task.0;
     task_at(s, from + i * 5)
 }
 
@@ -65,4 +66,13 @@ pub(crate) fn job_at(s: &[u8], at: usize) -> Job
         run: base::pair_at(s, at + 4),
         uses: set_of(s[at + 6]),
     }
+}
+
+// The job of a number, of those whose records begin at a place.
+pub(crate) fn listed_job(s: &[u8], from: usize, job: JobNumber) -> Job
+    requires { ⌜ from + job .0 * 7 + 6 < length (now s) ⌝ }
+    ensures { λ r. ⌜ r ≡ jobAt (now (s .entry)) (from + job .0 * 7) ⌝ }
+{
+    let j = job.0;
+    job_at(s, from + j * 7)
 }

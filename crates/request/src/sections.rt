@@ -1,4 +1,4 @@
-// The sections in turn: the file is read left to right and the first fault decides. The number 0 stands for none.
+// The sections in turn, from the first byte on: whatever is wrong first gives the number. The number 0 stands for none.
 ghost use mathlib.Core.Path.{_≡_};
 ghost use Prim.Native.Nat.{ℕ, _+_, _*_, _≤_, _<_, min};
 ghost use lib.ListN.{length};

@@ -25,14 +25,8 @@ loop-holds : tie.Need-loop-holds Inv-loop μ-loop
 unfolding upTo
 loop-holds c = (omega arith, c .no-jobs .ensures)
 
-mul-job-at : tie.Need-mul-job-at Inv-loop μ-loop
-mul-job-at c = search needs
-
-add-job-at : tie.Need-add-job-at Inv-loop μ-loop
-add-job-at c = search needs
-
-job-at-requires : tie.Need-job-at-requires Inv-loop μ-loop
-job-at-requires c κs = search needs
+listed-job-requires : tie.Need-listed-job-requires Inv-loop μ-loop
+listed-job-requires c κs = search needs
 
 push-requires : tie.Need-push-requires Inv-loop μ-loop
 push-requires c κs = search needs
@@ -46,7 +40,7 @@ loop-less c = search needs
 loop-again : tie.Need-loop-again Inv-loop μ-loop
 loop-again c =
     let l = c .before .before .before .loop in
-    (omega arith, rw (c .push .ensures, c .before .job-at .ensures, l .inv .1, packed-push, upTo-more))
+    (omega arith, rw (c .push .ensures, c .before .listed-job .ensures, l .inv .1, packed-push, upTo-more))
 
 returns : tie.Need-returns Inv-loop μ-loop
 returns c =
@@ -62,9 +56,7 @@ listed-jobs-spec =
     μ-loop
     no-jobs-requires
     loop-holds
-    mul-job-at
-    add-job-at
-    job-at-requires
+    listed-job-requires
     push-requires
     add-j
     loop-less

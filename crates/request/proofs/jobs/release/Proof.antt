@@ -1,31 +1,45 @@
 -- `request::jobs::release` meets its contract.
 -- Assumes nothing.
-use Rattle.base.proofs.Paths.{paths}
-use Rattle.request.specs.Held.{releasedTo}
 use borrow.Author.Needs.{needs}
+use borrow.Author.Tests.{eq-eqb, ne-eqb}
+use mathlib.Core.Path.{_≡_, ap, _∙_}
+use Rattle.request.specs.declared.Task.{Task}
+use Rattle.request.specs.Held.{releasedTo}
 use Rattle.request.proofs.jobs.release.Statement.{statement}
 use Rattle.request.proofs.jobs.release.Tie as tie
+
+task-of-requires : tie.Need-task-of-requires
+task-of-requires c κs = search needs
 
 cast-if1 : tie.Need-cast-if1
 cast-if1 c = search needs
 
 rem-if1 : tie.Need-rem-if1
-rem-if1 c = search needs
+rem-if1 c = rw (c .before .task-of .ensures) (c .before .before .before .pre .1)
 
 job-of-requires : tie.Need-job-of-requires
-job-of-requires c κs = search needs
+job-of-requires c κs = rw (c .before .before .task-of .ensures) (c .before .before .before .before .pre .2)
 
 push-requires : tie.Need-push-requires
 push-requires c κs = search needs
 
 returns : tie.Need-returns
 unfolding releasedTo
-returns c = rw (c .push .ensures, c .before .job-of .ensures) (search paths)
+returns c =
+    let a = c .before .before .before .before .before .before .args in
+    let k = c .before .before .before .before .task-of in
+    let here : c .push .result ≡ releasedTo (a .js) (k .result) (a .t) = rw (c .push .ensures, c .before .job-of .ensures, eq-eqb _ _ (c .before .before .if1 .taken)) in
+    here ∙ ap (λ (x : Task). releasedTo (a .js) x (a .t)) (k .ensures)
 
 returns-2 : tie.Need-returns-2
 unfolding releasedTo
-returns-2 c = search paths
+returns-2 c =
+    let a = c .before .before .before .before .args in
+    let k = c .before .before .task-of in
+    let here : a .js ≡ releasedTo (a .js) (k .result) (a .t) = rw (ne-eqb _ _ (c .if1 .left)) in
+    here ∙ ap (λ (x : Task). releasedTo (a .js) x (a .t)) (k .ensures)
 
 pub release-spec : {M : Type 1} → statement M
 release-spec =
-    tie.close (tie.spec cast-if1 rem-if1 job-of-requires push-requires returns returns-2)
+    tie.close
+    (tie.spec task-of-requires cast-if1 rem-if1 job-of-requires push-requires returns returns-2)

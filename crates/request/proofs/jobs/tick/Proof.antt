@@ -20,13 +20,11 @@ loop-holds : tie.Need-loop-holds Inv-loop μ-loop
 unfolding releasedAt
 loop-holds c = (omega arith, rw append-nil (c .before .pre .2))
 
-task-of-requires : tie.Need-task-of-requires Inv-loop μ-loop
-task-of-requires c κs = omega (arith, c .before .before .before .pre .0 .there)
-
 release-requires : tie.Need-release-requires Inv-loop μ-loop
 release-requires c κs =
-    let p = c .before .before .before .before .pre .0 .periods (c .before .before .loop .i) (c .before .loop-test .taken) in
-    rw (c .task-of .ensures) (p .0, omega arith)
+    let ok = c .before .before .before .pre .0 in
+    let p = ok .periods (c .before .loop .i) (c .loop-test .taken) in
+    (omega (arith, ok .there), p .0, omega arith)
 
 add-i : tie.Need-add-i Inv-loop μ-loop
 add-i c = search needs
@@ -36,9 +34,9 @@ loop-less c = search needs
 
 loop-again : tie.Need-loop-again Inv-loop μ-loop
 loop-again c =
-    let l = c .before .before .before .loop in
-    let a = c .before .before .before .before .before .args in
-    (omega arith, rw (c .release .ensures, c .before .task-of .ensures, l .inv .1) (tick-more (a .s .now) (a .from) (a .t) (unfolded (a .s .now) (a .tasks) (a .from) (a .t)) (l .i)))
+    let l = c .before .before .loop in
+    let a = c .before .before .before .before .args in
+    (omega arith, rw (c .release .ensures, l .inv .1) (tick-more (a .s .now) (a .from) (a .t) (unfolded (a .s .now) (a .tasks) (a .from) (a .t)) (l .i)))
 
 returns : tie.Need-returns Inv-loop μ-loop
 returns c =
@@ -53,7 +51,6 @@ tick-spec =
     Inv-loop
     μ-loop
     loop-holds
-    task-of-requires
     release-requires
     add-i
     loop-less
