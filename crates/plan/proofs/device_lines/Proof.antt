@@ -40,6 +40,9 @@ part-device-line-end c = omega (arith, room c)
 device-line-requires : tie.Need-device-line-requires Inv-loop μ-loop
 device-line-requires c κs = search needs
 
+returns : tie.Need-returns Inv-loop μ-loop
+returns c = search needs
+
 add-k : tie.Need-add-k Inv-loop μ-loop
 add-k c = search needs
 
@@ -49,8 +52,8 @@ loop-less c = search needs
 loop-again : tie.Need-loop-again Inv-loop μ-loop
 loop-again c = search needs
 
-returns : tie.Need-returns Inv-loop μ-loop
-returns c = search needs
+returns-2 : tie.Need-returns-2 Inv-loop μ-loop
+returns-2 c = search needs
 
 pub device-lines-spec : {M : Type 1} → statement M
 device-lines-spec =
@@ -64,7 +67,8 @@ device-lines-spec =
     part-device-line-start
     part-device-line-end
     device-line-requires
+    returns
     add-k
     loop-less
     loop-again
-    returns)
+    returns-2)

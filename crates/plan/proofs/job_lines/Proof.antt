@@ -30,6 +30,9 @@ shared-slice-copy-out-job-line c = search needs
 job-line-requires : tie.Need-job-line-requires Inv-loop μ-loop
 job-line-requires c κs = search needs
 
+returns : tie.Need-returns Inv-loop μ-loop
+returns c = search needs
+
 add-j : tie.Need-add-j Inv-loop μ-loop
 add-j c = search needs
 
@@ -39,8 +42,8 @@ loop-less c = search needs
 loop-again : tie.Need-loop-again Inv-loop μ-loop
 loop-again c = search needs
 
-returns : tie.Need-returns Inv-loop μ-loop
-returns c = search needs
+returns-2 : tie.Need-returns-2 Inv-loop μ-loop
+returns-2 c = search needs
 
 pub job-lines-spec : {M : Type 1} → statement M
 job-lines-spec =
@@ -54,7 +57,8 @@ job-lines-spec =
     mul-job-line-2
     shared-slice-copy-out-job-line
     job-line-requires
+    returns
     add-j
     loop-less
     loop-again
-    returns)
+    returns-2)

@@ -12,8 +12,8 @@ use Rattle.plan.proofs.print_margin.Tie as tie
 fitted : (c : tie.Start) → SFits w32 (toZ w32 (ofZ w32 (c .args .margin)))
 fitted c = rw (toZ-ofZ (c .fits .margin)) (c .fits .margin)
 
-negated : (c : tie.Then1) → Negated (toZ w32 (ofZ w32 (c .before .args .margin)))
-negated c = size-neg _ (fitted (c .before)) (c .if1 .taken)
+negated : (c : tie.Then2) → Negated (toZ w32 (ofZ w32 (c .before .before .before .before .args .margin)))
+negated c = size-neg _ (fitted (c .before .before .before .before)) (c .before .before .before .if1 .taken)
 
 slice-aggregate-write-all : tie.Need-slice-aggregate-write-all
 slice-aggregate-write-all c = search needs
@@ -22,13 +22,13 @@ write-all-requires : tie.Need-write-all-requires
 write-all-requires c κs = search needs
 
 cast-print-decimal : tie.Need-cast-print-decimal
-cast-print-decimal c = negated (c .before .before) .wide
+cast-print-decimal c = negated c .wide
 
 sub-print-decimal : tie.Need-sub-print-decimal
-sub-print-decimal c = rw (toZ-ofZ (negated (c .before .before) .wide)) (negated (c .before .before) .fits)
+sub-print-decimal c = rw (toZ-ofZ (negated c .wide)) (negated c .fits)
 
 cast-print-decimal-2 : tie.Need-cast-print-decimal-2
-cast-print-decimal-2 c = rw (toZ-ofZ (negated (c .before .before) .wide), toZ-ofZ (negated (c .before .before) .fits)) (negated (c .before .before) .size)
+cast-print-decimal-2 c = rw (toZ-ofZ (negated c .wide), toZ-ofZ (negated c .fits)) (negated c .size)
 
 print-decimal-requires : tie.Need-print-decimal-requires
 print-decimal-requires c κs = search needs
@@ -36,14 +36,17 @@ print-decimal-requires c κs = search needs
 returns : tie.Need-returns
 returns c = search needs
 
+returns-2 : tie.Need-returns-2
+returns-2 c = search needs
+
 cast-print-decimal-3 : tie.Need-cast-print-decimal-3
 cast-print-decimal-3 c = size-pos _ (fitted (c .before)) (c .if1 .left)
 
 print-decimal-requires-2 : tie.Need-print-decimal-requires-2
 print-decimal-requires-2 c κs = search needs
 
-returns-2 : tie.Need-returns-2
-returns-2 c = search needs
+returns-3 : tie.Need-returns-3
+returns-3 c = search needs
 
 pub print-margin-spec : {M : Type 1} → statement M
 print-margin-spec =
@@ -56,6 +59,7 @@ print-margin-spec =
     cast-print-decimal-2
     print-decimal-requires
     returns
+    returns-2
     cast-print-decimal-3
     print-decimal-requires-2
-    returns-2)
+    returns-3)

@@ -26,6 +26,9 @@ figure-line-requires c κs = search needs
 returns : tie.Need-returns
 returns c = search needs
 
+read-requires : tie.Need-read-requires
+read-requires c κs = search needs
+
 slice-aggregate-figure-line-2 : tie.Need-slice-aggregate-figure-line-2
 slice-aggregate-figure-line-2 c = search needs
 
@@ -38,25 +41,25 @@ slice-aggregate-figure-line-3 c = search needs
 figure-line-requires-3 : tie.Need-figure-line-requires-3
 figure-line-requires-3 c κs = search needs
 
-read-requires : tie.Need-read-requires
-read-requires c κs = search needs
-
 array-share-prefix-starts : tie.Need-array-share-prefix-starts
-array-share-prefix-starts c = omega (arith, handed-within _ _ (c .read .ensures))
+array-share-prefix-starts c = omega (arith, handed-within _ _ (c .before .before .before .before .read .ensures))
 
 slice-aggregate-plan-lines : tie.Need-slice-aggregate-plan-lines
-slice-aggregate-plan-lines c = simp length-take (omega (arith, handed-within _ _ (c .before .read .ensures)))
+slice-aggregate-plan-lines c = simp length-take (omega (arith, handed-within _ _ (c .before .before .before .before .before .read .ensures)))
 
 cast-plan-lines : tie.Need-cast-plan-lines
 cast-plan-lines c = search needs
 
 plan-lines-requires : tie.Need-plan-lines-requires
 plan-lines-requires c κs =
-    let few = handed-within _ _ (c .before .before .read .ensures) in
+    let few = handed-within _ _ (c .before .before .before .before .before .before .read .ensures) in
     (simp length-take (omega arith), mul-le-mul (few .1) (few .2))
 
 returns-2 : tie.Need-returns-2
 returns-2 c = search needs
+
+returns-3 : tie.Need-returns-3
+returns-3 c = search needs
 
 pub print-plan-spec : {M : Type 1} → statement M
 print-plan-spec =
@@ -68,13 +71,14 @@ print-plan-spec =
     cast-figure-line
     figure-line-requires
     returns
+    read-requires
     slice-aggregate-figure-line-2
     figure-line-requires-2
     slice-aggregate-figure-line-3
     figure-line-requires-3
-    read-requires
     array-share-prefix-starts
     slice-aggregate-plan-lines
     cast-plan-lines
     plan-lines-requires
-    returns-2)
+    returns-2
+    returns-3)
