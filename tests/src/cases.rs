@@ -47,7 +47,7 @@ impl Kind {
 pub struct Case {
     pub kind: Kind,
     pub file: Vec<u8>,
-    /// Lengths of the pieces in which the file is fed, with a pause between; one piece has none.
+    /// Lengths of the pieces in which the file is fed.
     pub pieces: Vec<usize>,
 }
 
@@ -213,7 +213,8 @@ fn is_small(request: &Request) -> bool {
     listing::size(request) <= 100_000 && steps.fold(0, u64::saturating_add) <= 60_000_000
 }
 
-/// Most files come in one piece. A program that takes the first read for the whole fails on others.
+/// Most files come in one piece, the others in pieces so close together that a read finds now one of
+/// them and now several. (`slow` has those that tell a program which stops at its first read.)
 fn pieces(random: &mut Random, length: usize) -> Vec<usize> {
     let mut pieces = Vec::new();
     let mut left = length;

@@ -1,7 +1,10 @@
-//! An oracle for the printing program, written from document 01 alone, and cases to try it with.
+//! An oracle for the printing program, written from the rules alone (docs/RULES.md), and cases to
+//! try it with.
 //!
-//! Nothing here is taken from the proved code: the reader, the row energies, the listing and the
-//! visit are all made a second time, by other means.
+//! The oracle shares nothing with the proved code but the rules: the reader, the row energies, the
+//! listing and the visit are made a second time, by other means. `plain` is no part of it. It is the
+//! benchmark's other side and shares with the proved search the visit, and the places at which the
+//! two sums over unplaced jobs are made, so that the race is between two makers of the same work.
 
 pub mod cases;
 pub mod damage;
@@ -15,6 +18,8 @@ pub mod random;
 pub mod request;
 pub mod rows;
 pub mod runner;
+pub mod slow;
+pub mod streams;
 pub mod tables;
 pub mod tally;
 pub mod valid;

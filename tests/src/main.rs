@@ -1,21 +1,26 @@
 //! `outside PROGRAM [--seed N] [--cases N]`: runs the built printing program on the examples, on
-//! fixed cases and on random ones, and compares every byte that it prints with the oracle.
+//! fixed cases, on files that come slowly and on random ones, and compares every byte that it prints
+//! with the oracle; then on streams that fail.
 
 use outside::cases::draw;
 use outside::expect::{search, text, BUDGET};
-use outside::runner::run;
+use outside::runner::{piped, run, Feed, Printed};
 use outside::tally::{Mismatch, Tally};
-use outside::{example, fixed};
+use outside::{example, fixed, slow, streams};
 use std::path::{Path, PathBuf};
-use std::process::ExitCode;
+use std::process::{Command, ExitCode};
 use std::sync::atomic::{AtomicU64, Ordering};
 use std::sync::Mutex;
 use std::thread;
+use std::time::Duration;
 
 const USAGE: &str = "usage: outside PROGRAM [--seed N] [--cases N]";
 const SEED: u64 = 2002;
 const CASES: u64 = 4_000;
 const THREADS: usize = 2;
+
+/// Between the pieces of a random case.
+const PAUSE: Duration = Duration::from_millis(2);
 
 /// More of them seldom say more.
 const MOST_MISMATCHES: usize = 3;
@@ -53,14 +58,15 @@ struct Findings {
     mismatches: Vec<Mismatch>,
 }
 
-fn compare(
-    name: &str,
-    program: &Path,
-    file: &[u8],
-    pieces: &[usize],
-    expected: String,
-) -> Option<Mismatch> {
-    let got = run(program, file, pieces);
+/// Takes its first read for the whole file, and is the program otherwise.
+fn one_read(program: &Path) -> Command {
+    let mut command = piped(&Path::new(env!("CARGO_MANIFEST_DIR")).join("one-read"));
+    command.arg(program);
+    command
+}
+
+fn compare(name: &str, mut command: Command, feed: &Feed, expected: String) -> Option<Mismatch> {
+    let got = run(&mut command, feed).and_then(Printed::clean);
     if got
         .as_ref()
         .is_ok_and(|output| output == expected.as_bytes())
@@ -69,7 +75,7 @@ fn compare(
     }
     Some(Mismatch {
         name: name.to_string(),
-        file: file.to_vec(),
+        file: feed.file.to_vec(),
         expected,
         got,
     })
@@ -80,9 +86,8 @@ fn run_examples(program: &Path, findings: &mut Findings) -> Result<u64, String> 
     let examples = example::all(&example::folder())?;
     for example in &examples {
         let name = format!("example {}", example.name);
-        let whole = [example.file.len()];
-        let expected = example.expected.clone();
-        let mismatch = compare(&name, program, &example.file, &whole, expected);
+        let (feed, expected) = (Feed::whole(&example.file), example.expected.clone());
+        let mismatch = compare(&name, piped(program), &feed, expected);
         findings.mismatches.extend(mismatch);
     }
     println!("examples: {}", examples.len());
@@ -93,13 +98,54 @@ fn run_fixed(program: &Path, findings: &mut Findings) -> u64 {
     let all = fixed::all();
     for fixed in &all {
         let name = format!("fixed case {}", fixed.name);
-        let whole = [fixed.file.len()];
         let expected = text(&search(&fixed.file, BUDGET));
-        let mismatch = compare(&name, program, &fixed.file, &whole, expected);
+        let mismatch = compare(&name, piped(program), &Feed::whole(&fixed.file), expected);
         findings.mismatches.extend(mismatch);
     }
     println!("fixed cases: {}", all.len());
     all.len() as u64
+}
+
+fn run_slow(program: &Path, findings: &mut Findings) -> u64 {
+    let all = slow::all();
+    for slow in &all {
+        let name = format!("slow case {}", slow.name);
+        let mismatch = compare(&name, piped(program), &slow.feed(), slow.expected());
+        findings.mismatches.extend(mismatch);
+    }
+    println!("slow cases: {}", all.len());
+    all.len() as u64
+}
+
+/// The slow cases are worth something only if they part the program from one that stops at its first
+/// read, and is the program otherwise: it agrees on the same files fed whole.
+fn refuse_one_read(program: &Path) -> Result<(), String> {
+    let mut is_refused = false;
+    for slow in &slow::all() {
+        let (whole, expected) = (Feed::whole(&slow.file), slow.expected());
+        if let Some(mismatch) = compare(slow.name, one_read(program), &whole, expected.clone()) {
+            return Err(format!(
+                "tests/one-read does not run: {}",
+                mismatch.report()
+            ));
+        }
+        let mismatch = compare(slow.name, one_read(program), &slow.feed(), expected);
+        is_refused |= mismatch.is_some();
+    }
+    if !is_refused {
+        return Err("a program that stops at its first read passes".to_string());
+    }
+    println!("a program that stops at its first read is refused");
+    Ok(())
+}
+
+fn run_streams(program: &Path) -> Result<u64, String> {
+    let trials = streams::all(program)?;
+    if !trials.failures.is_empty() {
+        return Err(trials.failures.concat());
+    }
+    println!("failing streams: {}", trials.count);
+    Ok(trials.count)
 }
 
 /// Draws and runs cases until there are no more, or enough of them have failed.
@@ -116,13 +162,12 @@ fn work(arguments: &Arguments, next: &AtomicU64, findings: &Mutex<Findings>) {
             arguments.seed,
             case.kind.name()
         );
-        let mismatch = compare(
-            &name,
-            &arguments.program,
-            &case.file,
-            &case.pieces,
-            text(&outcome),
-        );
+        let feed = Feed {
+            file: &case.file,
+            pieces: case.pieces.clone(),
+            pause: PAUSE,
+        };
+        let mismatch = compare(&name, piped(&arguments.program), &feed, text(&outcome));
         let mut findings = findings.lock().expect("no thread has failed");
         findings
             .tally
@@ -149,6 +194,9 @@ fn test(arguments: &Arguments) -> Result<u64, String> {
     let mut findings = Findings::default();
     let mut count = run_examples(&arguments.program, &mut findings)?;
     count += run_fixed(&arguments.program, &mut findings);
+    count += run_slow(&arguments.program, &mut findings);
+    refuse_one_read(&arguments.program)?;
+    count += run_streams(&arguments.program)?;
     println!("seed {}, {} random cases", arguments.seed, arguments.cases);
     if findings.mismatches.len() < MOST_MISMATCHES {
         findings = run_random(arguments, findings);

@@ -1,0 +1,103 @@
+//! Files in pieces with a long pause between: the program has read the first piece, and waits, before
+//! the second is there. The pieces of the random cases come so close together that a program which
+//! takes a moment to start finds them all in its first read.
+
+use crate::expect::{search, text, BUDGET};
+use crate::runner::Feed;
+use crate::tables::{device_a, job, task, Tables};
+use std::time::Duration;
+
+const PAUSE: Duration = Duration::from_millis(300);
+
+/// Each of them has another answer than its first piece alone.
+pub struct Slow {
+    pub name: &'static str,
+    pub file: Vec<u8>,
+    pub pieces: Vec<usize>,
+}
+
+impl Slow {
+    pub fn feed(&self) -> Feed<'_> {
+        Feed {
+            file: &self.file,
+            pieces: self.pieces.clone(),
+            pause: PAUSE,
+        }
+    }
+
+    pub fn expected(&self) -> String {
+        text(&search(&self.file, BUDGET))
+    }
+}
+
+fn listed() -> Vec<u8> {
+    Tables {
+        horizon: 5,
+        devices: vec![device_a()],
+        tasks: Vec::new(),
+        jobs: vec![job(0, 5, 2, 1)],
+    }
+    .bytes()
+}
+
+fn periodic() -> Vec<u8> {
+    Tables {
+        devices: vec![device_a()],
+        tasks: vec![task(4, 1, 1), task(6, 2, 0)],
+        ..Tables::default()
+    }
+    .bytes()
+}
+
+/// As long as an accepted file can be: 8 devices, no task, 16 jobs.
+fn longest() -> Vec<u8> {
+    Tables {
+        horizon: 16,
+        devices: vec![device_a(); 8],
+        tasks: Vec::new(),
+        jobs: (0..16).map(|n| job(n, n + 1, 1, 1 << (n % 8))).collect(),
+    }
+    .bytes()
+}
+
+fn with_a_tail() -> Vec<u8> {
+    let mut file = listed();
+    file.push(0);
+    file
+}
+
+pub fn all() -> Vec<Slow> {
+    let slow = |name, file: Vec<u8>, first: &[usize]| {
+        let mut pieces = first.to_vec();
+        pieces.push(file.len() - first.iter().sum::<usize>());
+        Slow { name, file, pieces }
+    };
+    vec![
+        slow("the first byte alone", listed(), &[1]),
+        slow("all but the last byte", listed(), &[18]),
+        slow("a piece a section", periodic(), &[2, 8, 11]),
+        slow("the longest accepted file", longest(), &[100]),
+        slow("a byte after the last section", with_a_tail(), &[19]),
+    ]
+}
+
+#[cfg(test)]
+mod tests {
+    use super::*;
+
+    /// Else a program that stops after its first read would pass.
+    #[test]
+    fn the_first_piece_alone_has_another_answer() {
+        for slow in all() {
+            let first = &slow.file[..slow.pieces[0]];
+            assert_ne!(
+                text(&search(first, BUDGET)),
+                slow.expected(),
+                "{}",
+                slow.name
+            );
+            assert_eq!(slow.pieces.iter().sum::<usize>(), slow.file.len());
+        }
+        assert_eq!(longest().len(), 173);
+    }
+}
