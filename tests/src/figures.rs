@@ -1,5 +1,5 @@
-//! The oracle itself, held to document 01's figures P1 to P12 and to a few worked out by hand or
-//! taken from documents 001 and 002.
+//! The oracle itself, held to the figures P1 to P12 (crates/figures) and to a few worked out by hand
+//! or taken from the two papers that docs/RULES.md names.
 
 use crate::expect::{search, text, Outcome, BUDGET};
 use crate::listing::{energy, uses};
@@ -162,19 +162,19 @@ fn x1_jobs_out_of_release_order() {
     assert_eq!((starts, energy, outcome.count), (vec![2, 5, 0], 23, 14));
 }
 
-/// The two tasks of document 001's Table 3, with device A each.
+/// The two tasks of the pruning paper's Table 3, with device A each.
 #[test]
-fn x3_table_3_of_document_001() {
+fn x3_table_3_of_the_pruning_paper() {
     let file = periodic(2, vec![task(4, 1, 0b01), task(5, 3, 0b10)]);
     let (outcome, _, energy) = planned(&file);
     let (request, _) = outcome.plan.as_ref().unwrap();
     assert_eq!((request.horizon, energy, outcome.count), (20, 136, 3_144));
 }
 
-/// The eight jobs of document 002's Table 2, with device A as k1 to k5. The horizon is 45: the paper
+/// The eight jobs of the I/O paper's Table 2, with device A as k1 to k5. The horizon is 45: the paper
 /// states 1125 units for five devices that work throughout at 5.
 #[test]
-fn x4_table_2_of_document_002() {
+fn x4_table_2_of_the_io_paper() {
     let jobs = vec![
         job(0, 5, 3, 0b00100),
         job(2, 10, 7, 0b00010),

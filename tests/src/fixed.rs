@@ -1,5 +1,5 @@
-//! Cases that are not left to chance: document 01's figures as files, and counts that meet the
-//! budget exactly or pass it by one.
+//! Cases that are not left to chance: the figures P1 to P12 as files, and counts that meet the budget
+//! exactly or pass it by one.
 
 use crate::tables::{device_a, job, task, JobRecord, Tables, TaskRecord};
 

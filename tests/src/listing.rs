@@ -1,6 +1,6 @@
 //! The full listing of all feasible schedules, and the first of those with least energy.
 //!
-//! Document 01 judges the search against a listing that is defined without the tree. So there is no
+//! The search is judged against a listing that is defined without the tree (rule 49). So there is no
 //! tree here: every vector of start times is written out, job by job independently, and thrown away
 //! if two jobs share a tick.
 
@@ -66,8 +66,8 @@ fn no_shared_tick(jobs: &[Job], starts: &[u32]) -> bool {
     (0..jobs.len()).all(|one| (0..one).all(|other| disjoint(one, other)))
 }
 
-/// The schedule as document 01 compares it: (job, start) in running order, so that the order of
-/// vectors is the document's order: smaller job first, then earlier start.
+/// The schedule as rule 47 compares it: (job, start) in running order, so that the order of vectors
+/// is the rule's: smaller job first, then earlier start.
 fn running_order(starts: &[u32]) -> Vec<(usize, u32)> {
     let mut order: Vec<(usize, u32)> = starts.iter().copied().enumerate().collect();
     order.sort_by_key(|&(_, start)| start);

@@ -1,10 +1,10 @@
 //! The oracle's own reader of a request file: bytes to a request, or the number that refuses them.
 //!
-//! Document 01 reads the file from left to right and lets the first fault decide. The reader is
-//! therefore a cursor that only moves forward, and every judgement stands at the place in the file
-//! where the document makes it.
+//! The file is read from left to right and the first fault decides (rule 15). The reader is therefore
+//! a cursor that only moves forward, and every judgement stands at the place in the file where the
+//! rule makes it.
 
-/// One of document 01's refusal numbers.
+/// One of the numbers 1 to 20.
 pub type Refusal = u8;
 
 pub const MOST_DEVICES: u8 = 8;

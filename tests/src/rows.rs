@@ -1,4 +1,4 @@
-//! The legal row of least energy, by dynamic programming over document 01's rules of a legal row.
+//! The legal row of least energy, by dynamic programming over the rules of a legal row (31 to 35).
 //!
 //! The program under test fills gaps by a rule about their length. This file must not know that
 //! rule: it only steps from tick to tick through every state that the rules allow, and keeps the
@@ -116,7 +116,7 @@ impl State {
     }
 }
 
-/// Both ways at one price would be two rows of least energy, which document 01 rules out.
+/// Both ways at one price would be two rows of least energy, which rule 37 rules out.
 fn cheaper(one: (State, u64), other: (State, u64)) -> State {
     assert_ne!(one.1, other.1, "two rows of least energy");
     if one.1 < other.1 {
@@ -180,7 +180,7 @@ impl<'a> Energies<'a> {
 mod tests {
     use super::*;
 
-    /// Document 01's rules again, read off the finished row run by run.
+    /// Rules 31 to 35 again, read off the finished row run by run.
     fn is_legal(row: &[u8], device: &Device, used: &[bool]) -> bool {
         let runs: Vec<&[u8]> = row.chunk_by(|one, next| one == next).collect();
         let letter = |place: Option<usize>| {

@@ -72,7 +72,7 @@ fn put(file: &mut Vec<u8>, numbers: &[u16]) {
     }
 }
 
-/// Device A of document 01's figures.
+/// Device A of the figures.
 pub fn device_a() -> DeviceRecord {
     DeviceRecord {
         transition: 1,
@@ -82,7 +82,7 @@ pub fn device_a() -> DeviceRecord {
     }
 }
 
-/// A job as document 01 writes it: (a, d, c), then its device set.
+/// A job as the figures write it: (a, d, c), then its device set.
 pub fn job(release: u16, deadline: u16, running: u16, devices: u8) -> JobRecord {
     JobRecord {
         release,

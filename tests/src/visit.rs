@@ -1,6 +1,6 @@
-//! The vertex count by document 01's written visiting order.
+//! The vertex count by the visiting order (rules 40 to 46).
 //!
-//! Written as the document says it: a vertex is the sequence of placed jobs with their starts, and
+//! As plain as the rules have it: a vertex is its sequence of placed jobs with their starts, and
 //! everything else about it is worked out from that sequence when it is asked for.
 
 use crate::request::{Job, Request};
