@@ -1,4 +1,4 @@
--- Document 01's device as the ladder with one sleep level: of the ladder's fillings of a gap the rule of specs/Row is the best, and never ties.
+-- The device of specs/Row as the ladder with one sleep level: of the ladder's fillings of a gap the rule of specs/Row is the best, and never ties.
 -- Assumes nothing.
 use mathlib.Core.Path.{_≡_, refl, ap, _∙_, subst, fun-ext}
 use mathlib.Core.Bool.{Bool, true, false, cond}

@@ -129,7 +129,7 @@ module _ {L : Type 0} (M : Moves L) (w : L → ℕ) where
     unfolding trip
     total-trip m g = total-excursion M w m (M .shut * m) (g - (M .shut * m + M .wake * m)) (M .wake * m)
 
-    -- Where no two levels cost the same, nothing is left for `v` to decide: document 01.
+    -- Where no two levels cost the same, nothing is left for `v` to decide: so for the device of specs/Row.
     pub choice-strict : (v : L → ℕ)
         → ((g m k : ℕ) → m ≤ M .deepest → k ≤ M .deepest → Room M m g → Room M k g → trip-cost m g ≡ trip-cost k g → m ≡ k)
         → Choice M w v (choose (M .deepest))

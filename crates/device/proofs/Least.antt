@@ -1,4 +1,4 @@
--- Document 01's device: its row by the rule for gaps is the legal row of least energy and the only one; and what each job placed adds to the row and to its
+-- The device of specs/Row: its row by the rule for gaps is the legal row of least energy and the only one; and what each job placed adds to the row and to its
 -- energy. All in the words of specs/Row: these are the facts that others cite.
 -- Assumes nothing.
 use mathlib.Core.Path.{_≡_, ap, subst, _∙_}
@@ -19,7 +19,7 @@ use Rattle.device.proofs.Levels.{fill-low}
 use Rattle.device.proofs.First.{one, sleeps, fill-is, first-legal, first-beats}
 use Rattle.device.proofs.Literal.{legal-to, legal-back, letter-only, energy-letter}
 
--- THEOREM (document 01). For every pattern of use the row by the rule is legal and no legal row has less energy.
+-- THEOREM (rules 37 and 38). For every pattern of use the row by the rule is legal and no legal row has less energy.
 pub row-least : (d : Device) → Sound d → (u : List Bool) → LeastRow d u (rowOf d u)
 row-least d ok u = record { legal = legal; least = λ r l. omega (arith, first-beats d ok u _ (legal-to d l) .0, energy-letter d (rowOf d u), energy-letter d r) }
   where

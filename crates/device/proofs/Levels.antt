@@ -1,5 +1,5 @@
--- A device with any number of sleep levels, with times and powers of its own for going down and coming up. Level 0 is working. Document 01's device is the one
--- with a single sleep (First); `theorem-levels` is used when devices with more of their own come.
+-- A device with any number of sleep levels, with times and powers of its own for going down and coming up. Level 0 is working. The device of specs/Row is
+-- the one with a single sleep (First); `theorem-levels` is used when devices with levels and moves of their own come.
 -- Assumes nothing.
 use mathlib.Core.Path.{_≡_, refl, sym, ap, subst}
 use mathlib.Core.Bool.{Bool}

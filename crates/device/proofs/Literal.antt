@@ -1,4 +1,4 @@
--- The nine rules of document 01, letter by letter, and the steps of the ladder with one level accept the same rows, at the same energy.
+-- The nine steps of specs/Row, letter by letter, and the steps of the ladder with one level accept the same rows, at the same energy.
 -- Assumes nothing.
 use mathlib.Core.Path.{_≡_, refl, ap, subst, sym, _∙_}
 use mathlib.Core.Bool.{Bool}
@@ -66,7 +66,7 @@ module _ (d : Device) where
   end-to at-work = L.at-work
   end-to woken = L.woken
 
-  -- What is legal by the nine rules is legal for one level.
+  -- What is legal by the nine steps is legal for one level.
   legal-from : {s : State} {u : List Bool} {r : List Letter} → Legal d s u r → M.Legal (L.machine (one d)) (state s) u (map letter r)
   legal-from (end e) = M.end (end-to e)
   legal-from (used st l) = M.used (step-to st) (legal-from l)
@@ -75,7 +75,7 @@ module _ (d : Device) where
   pub legal-to : {u : List Bool} {r : List Letter} → LegalRow d u r → M.Legal (L.machine (one d)) (L.level 0) u (map letter r)
   legal-to l = legal-from l
 
-  -- A step of the ladder, by the nine rules.
+  -- A step of the ladder, by the nine steps.
   record Back (s : State) (y : L.Letter) (z : L.State) : Type 0 where
     pub x : Letter
     pub t : State
@@ -100,7 +100,7 @@ module _ (d : Device) where
   end-back working L.at-work = at-work
   end-back (up zero) L.woken = woken
 
-  -- A row of the ladder, in the document's letters.
+  -- A row of the ladder, in the four letters.
   pub record Plain (s : State) (u : List Bool) (r : List L.Letter) : Type 0 where
     pub row : List Letter
     pub same : map letter row ≡ r
@@ -124,6 +124,6 @@ module _ (d : Device) where
       let er = i .same in
       record { row = b .x ∷ i .row; same = cc; legal = free (b .step) (i .legal) }
 
-  -- And the other way: what is legal for one level is a row of the four letters, legal by the nine rules.
+  -- And the other way: what is legal for one level is a row of the four letters, legal by the nine steps.
   pub legal-back : {u : List Bool} {r : List L.Letter} → M.Legal (L.machine (one d)) (L.level 0) u r → Plain working u r
   legal-back l = back-from working refl l

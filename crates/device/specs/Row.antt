@@ -1,5 +1,5 @@
--- Document 01, 'Device rows': the letters, the legal rows, their energy, the row of least energy, and the rule for gaps.
--- The declared `Device` has the fields t, pw, ps and p0: the document's T, Pw, Ps and P0.
+-- The rows of a device (docs/RULES.md, rules 30 to 38): the letters, the legal rows, their energy, the row of least energy, and the rule for gaps.
+-- The declared `Device` has the fields t, pw, ps and p0: T, Pw, Ps and P0 of rule 3.
 -- Assumes nothing.
 use mathlib.Core.Path.{_≡_}
 use mathlib.Core.Bool.{Bool, true, false, cond}
@@ -14,13 +14,14 @@ use Rattle.device.specs.declared.Device.{Device}
 abbrev pub noDevice : Device
 noDevice = record { t = 0; pw = 0; ps = 0; p0 = 0 }
 
--- 'Quantities': T is at least 1, and Ps < P0 < Pw. (The upper ends of the ranges are those of the file's fields.)
+-- The figures of a device (rule 3): a transition takes time, moving costs more than sleep and less than work. The upper ends of the ranges are those of the
+-- file's fields.
 pub record Sound (d : Device) : Type 0 where
   pub moves : 1 ≤ d .t
   pub sleeps-cheaper : d .ps < d .p0
   pub works-dearer : d .p0 < d .pw
 
--- 'A row has one letter for each tick': working, going down, asleep, coming up.
+-- What a device does in a tick (rule 30): it works, goes down, sleeps or comes up.
 pub data Letter : Type 0 where
   W D S U : Letter
 
@@ -38,9 +39,8 @@ pub data State : Type 0 where
   asleep : State
   up : ℕ → State
 
--- `Step d s x s′`: from s, a tick of letter x leads to s′. 'D comes in blocks of exactly T ticks entered from working (shuts, falls) and followed by asleep
--- or by U (rests, turns); S is entered only from D or S and followed by S or U (sleeps, wakes); U comes in blocks of exactly T ticks entered only from D or
--- S (turns, wakes, rises) and followed by working (resumes).'
+-- `Step d s x s′`: from s, a tick of letter x leads to s′. A move has T ticks: the first is D from work (shuts) or U from sleep (wakes), and the others
+-- follow (falls, rises). Once down, a device sleeps (rests, sleeps) or comes up at once (turns); once up, it works (resumes). These are rules 32 to 34.
 pub data Step (d : Device) : State → Letter → State → Type 0 where
   works : Step d working W working
   shuts : {n : ℕ} → suc n ≡ d .t → Step d working D (down n)
@@ -52,22 +52,22 @@ pub data Step (d : Device) : State → Letter → State → Type 0 where
   rises : {n : ℕ} → Step d (up (suc n)) U (up n)
   resumes : Step d (up 0) W working
 
--- 'The device works just after the last tick': it did in the last tick, or has come up in it.
+-- A row may end where the next tick could be one of work (rule 31): the device works, or has just come up.
 pub data Ends : State → Type 0 where
   at-work : Ends working
   woken : Ends (up 0)
 
--- The row of a pattern of use, `true` for each tick of a job that uses the device: tick by tick, and 'every tick of a job that uses the device is W'.
+-- The rows of a pattern of use, tick by tick. The pattern has `true` for each tick of a job that uses the device, and there the letter is W (rule 35).
 pub data Legal (d : Device) : State → List Bool → List Letter → Type 0 where
   end : {s : State} → Ends s → Legal d s [] []
   used : {s t : State} {u : List Bool} {r : List Letter} → Step d s W t → Legal d t u r → Legal d s (true ∷ u) (W ∷ r)
   free : {s t : State} {x : Letter} {u : List Bool} {r : List Letter} → Step d s x t → Legal d t u r → Legal d s (false ∷ u) (x ∷ r)
 
--- 'The device works just before tick 0.'
+-- Before the first tick the device was at work (rule 31).
 abbrev pub LegalRow : Device → List Bool → List Letter → Type 0
 LegalRow d u r = Legal d working u r
 
--- 'Its energy is Pw, Ps or P0 (D and U alike) summed over ticks.'
+-- What a tick costs, by its letter: both moves cost the same. A row costs what its ticks do (rule 36).
 abbrev pub power : Device → Letter → ℕ
 power d W = d .pw
 power d D = d .p0
@@ -77,12 +77,12 @@ power d U = d .p0
 abbrev pub energy : Device → List Letter → ℕ
 energy d r = total (power d) r
 
--- 'The row given is the legal row of least energy.'
+-- No legal row of the pattern has less energy (rule 37).
 pub record LeastRow (d : Device) (u : List Bool) (r : List Letter) : Type 0 where
   pub legal : LegalRow d u r
   pub least : (r′ : List Letter) → LegalRow d u r′ → energy d r ≤ energy d r′
 
--- 'A gap of g ticks without use is slept exactly when g ≥ 2T, as T of D, g − 2T of S, T of U', and is else worked through.
+-- The rule for gaps (rule 38): in g ticks without use a device goes down, sleeps what is left and comes up, where both moves have room; else it works through.
 abbrev pub gapRow : ℕ → ℕ → List Letter
 gapRow T g = cond (leb (T + T) g) (replicate T D ++ (replicate (g - (T + T)) S ++ replicate T U)) (replicate g W)
 
@@ -98,7 +98,7 @@ deep d = d .ps
 
 -- ---- rows and patterns of use
 
--- The row that fills each gap by `fill`, where g unused ticks have gone by: 'the gaps before the first use and after the last are gaps like any other'.
+-- The row that fills each gap by `fill`, those at both ends too, where g unused ticks have gone by.
 module _ {L : Type 0} (work : L) (fill : ℕ → List L) where
   abbrev pub rowFrom : ℕ → List Bool → List L
   rowFrom g [] = fill g

@@ -77,6 +77,10 @@ module _ (R : Recorder) (valid : Valid R) where
   outcome-best : (o : Option (List ℕ)) → Outcome (planEnergy R) (Earlier R) (Feasible R) o → visited R .best ≡ o
   outcome-best o h = outcome-only (planEnergy R) (Earlier R) (earlier-asym R) (Feasible R) (visited R .best) o outcome h
 
+  pub none-visited : ((s : List ℕ) → Feasible R s → ⊥) → visited R .best ≡ none
+  unfolding Outcome
+  none-visited h = outcome-best none h
+
   pub first-visited : (s : List ℕ) (e : ℕ) → FirstLeast R s e → visited R .best ≡ some s
   unfolding Outcome
   first-visited s e h = outcome-best (some s) (first-chosen s e h)

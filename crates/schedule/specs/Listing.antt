@@ -1,4 +1,5 @@
--- Document 01, 'Judging start times', the plan's energy, and which schedule is the first of the least: the full listing, in which nothing speaks of the tree.
+-- Start times judged (docs/RULES.md, rules 20 to 24), the plan's energy (rules 36 to 39), and which schedule is the first of the least: the full listing
+-- (rules 47 and 49), in which nothing speaks of the tree.
 -- A schedule is a list of start times, one for each job.
 -- Assumes nothing.
 use mathlib.Core.Path.{_≡_}
@@ -21,7 +22,7 @@ start s j = getD s j 0
 
 -- ---- judging
 
--- 'Each job has a ≤ s and s + c ≤ d.'
+-- A job starts no earlier than its release, and ends by its deadline (rule 20).
 abbrev pub Released : Recorder → List ℕ → ℕ → Type 0
 Released R s j = release R j ≤ start s j
 
@@ -32,14 +33,14 @@ InTime R s j = start s j + run R j ≤ deadline R j
 abbrev pub Runs : Recorder → List ℕ → ℕ → ℕ → Type 0
 Runs R s j t = (start s j ≤ t) × (t < start s j + run R j)
 
--- 'No two jobs share a tick.'
+-- One start for each job, each job in its window, and at most one job in a tick (rule 20).
 pub record Feasible (R : Recorder) (s : List ℕ) : Type 0 where
   pub one-each : length s ≡ jobs R
   pub released : (j : ℕ) → j < jobs R → Released R s j
   pub in-time : (j : ℕ) → j < jobs R → InTime R s j
   pub apart : (i j t : ℕ) → i < jobs R → j < jobs R → Runs R s i t → Runs R s j t → i ≡ j
 
--- 'A job's margin is d − (s + c), signed.'
+-- From a job's end to its deadline, below 0 where it ends later (rules 21 and 24).
 abbrev pub margin : Recorder → List ℕ → ℕ → ℤ
 margin R s j = subℕ (deadline R j) (start s j + run R j)
 
@@ -56,8 +57,8 @@ pub record Overlaps (R : Recorder) (s : List ℕ) (j : ℕ) : Type 0 where
 abbrev pub Met : Recorder → List ℕ → ℕ → Type 0
 Met R s j = (i : ℕ) → i < j → Released R s i × InTime R s i
 
--- The faults 16, 17 and 18, each with its job: '16 and 17 job by job (16 first), then 18', 'the first faulty one, and for 18 the smallest number among jobs
--- that overlap another'.
+-- The faults 16, 17 and 18, each with its job. The first job that misses its window decides, and of its two faults the release (rule 22); only where every job
+-- meets its own comes 18, with the smallest job that overlaps another (rule 23).
 pub data Fault (R : Recorder) (s : List ℕ) : ℕ → ℕ → Type 0 where
   early : {j : ℕ} → j < jobs R → Met R s j → start s j < release R j → Fault R s 16 j
   late : {j : ℕ} → j < jobs R → Met R s j → Released R s j → deadline R j < start s j + run R j → Fault R s 17 j
@@ -86,7 +87,7 @@ places R s = upTo (λ j. place j (start s j)) (jobs R)
 abbrev pub usesOf : Recorder → List ℕ → ℕ → List Bool
 usesOf R s k = pattern (used R k (places R s)) 0 (R .horizon)
 
--- The plan's rows, one for each device, each the legal row of least energy; and e is the energy of all.
+-- The plan's rows, a least row for each device (rule 37); and e is the energy of all.
 pub record Rows (R : Recorder) (s : List ℕ) (rows : ℕ → List Letter) : Type 0 where
   pub least : (k : ℕ) → k < R .devices .count → LeastRow (device R k) (usesOf R s k) (rows k)
 
@@ -95,7 +96,7 @@ pub record Costs (R : Recorder) (s : List ℕ) (e : ℕ) : Type 0 where
   pub least : Rows R s rows
   pub sums : e ≡ sum (R .devices .count) (λ k. energy (device R k) (rows k))
 
--- The bytes of the first n rows, one after the other. Each row has H letters, so that 'the row of device k begins at place k × H'.
+-- The bytes of the first n rows, one after the other (rule 39). Each has H letters, so that device k's begin at place k × H.
 unfoldable pub laid : (ℕ → List Letter) → ℕ → List ℕ
 laid rows zero = []
 laid rows (suc k) = laid rows k ++ map byteOf (rows k)
@@ -116,7 +117,7 @@ ordered (suc m) s (i ∷ u) = let j = soonest s i u in place j (start s j) ∷ o
 abbrev pub running : Recorder → List ℕ → List Place
 running R s = ordered (jobs R) s (upFrom 0 (jobs R))
 
--- 'Compare schedules as sequences of (job, start) in running order; smaller job first, then earlier start.'
+-- Of two schedules in running order, the first place at which they differ decides: the smaller job, or the same job at an earlier start (rule 47).
 abbrev pub Sooner : Place → Place → Type 0
 Sooner p q = (p .job < q .job) ⊎ ((p .job ≡ q .job) × (p .start < q .start))
 

@@ -1,4 +1,4 @@
--- Document 01, 'Quantities': the devices and jobs of a recorder, by number, and their ranges.
+-- The devices and jobs of a recorder, by number, and their ranges (docs/RULES.md, rules 1 to 6).
 -- Assumes nothing.
 use mathlib.Core.Path.{_≡_}
 use mathlib.Core.Bool.{Bool, false}
@@ -11,7 +11,7 @@ pub use Rattle.device.specs.Row.{noDevice}
 use Rattle.schedule.specs.declared.Job.{Job}
 use Rattle.schedule.specs.declared.Recorder.{Recorder}
 
--- What a number past the end of the list stands for.
+-- What a number past the end of the jobs stands for; past the end of the devices it is device's own `noDevice`.
 abbrev pub noJob : Job
 noJob = record { release = 0; deadline = 0; run = 0; uses = [] }
 

@@ -1,4 +1,4 @@
--- Document 01, 'The search': the visiting order, without a budget. The count of vertices is its one part that a promise speaks of.
+-- The search (docs/RULES.md, rules 40 to 46): the visiting order, without a budget. The count of vertices is its one part that a promise speaks of.
 -- Assumes nothing.
 use mathlib.Core.Bool.{Bool, false, cond, _||_}
 use mathlib.Core.Option.{Option, none, some}
@@ -14,7 +14,8 @@ use Rattle.schedule.specs.declared.Recorder.{Recorder}
 use Rattle.schedule.specs.Quantities.{device, jobs, release, deadline, run, uses}
 use Rattle.schedule.specs.Listing.{Place, place, used, usesOf}
 
--- 'A vertex is a sequence of placed jobs with starts. Its time t is the end of its last job, 0 at the root.' The unplaced jobs are kept beside, rising.
+-- A vertex (rule 40): jobs placed one after the other, and the time at which the last of them ends, 0 where there is none. The unplaced jobs are kept
+-- beside, rising.
 pub record Vertex : Type 0 where
   pub placed : List Place
   pub time : ℕ
@@ -29,7 +30,7 @@ pub record Visited : Type 0 where
 abbrev pub Walk : Type 0
 Walk = Visited → Visited
 
--- 'Each vertex reached is counted once.'
+-- A vertex is counted when it is reached (rule 42).
 abbrev pub counted : Walk
 counted st = record { count = suc (st .count); best = st .best }
 
@@ -49,18 +50,18 @@ module _ (R : Recorder) where
   abbrev pub startsOf : Vertex → List ℕ
   startsOf v = written (v .placed) (replicate (jobs R) 0)
 
-  -- 'The starts from the larger of t and a up to d − c, rising.'
+  -- The starts of a job after time t (rule 41): from the first tick at which it may start up to the last from which it meets its deadline.
   abbrev pub earliest : ℕ → ℕ → ℕ
   earliest t j = max t (release R j)
 
   unfoldable pub starts : ℕ → ℕ → List ℕ
   starts t j = upFrom (earliest t j) (suc (deadline R j) - (earliest t j + run R j))
 
-  -- 'Its children are: each unplaced job in rising number, and for each the starts'; they are visited by f.
+  -- The children of a vertex (rule 41), job by job and start by start, each visited by f.
   unfoldable pub choices : (Vertex → Walk) → Vertex → Walk
   choices f v = through (λ j. through (λ x. f (child v j x)) (starts (v .time) j)) (v .unplaced)
 
-  -- Cut A: 'some unplaced job has max(t, a) + c > d, or t plus the running times of all unplaced jobs exceeds H'.
+  -- Cut A (rule 43): an unplaced job can no longer meet its deadline, or the unplaced jobs together no longer fit the horizon.
   unfoldable pub late : ℕ → List ℕ → Bool
   late t [] = false
   late t (j ∷ l) = ltb (deadline R j) (earliest t j + run R j) || late t l
@@ -75,12 +76,12 @@ module _ (R : Recorder) where
   unfoldable pub planEnergy : List ℕ → ℕ
   planEnergy s = sum (R .devices .count) (λ k. energyOf (device R k) (usesOf R s k))
 
-  -- Complete: 'it becomes the best if there is no best yet or its energy is smaller'.
+  -- A complete schedule becomes the best where it is the first, or costs less (rule 44).
   unfoldable pub better : Option (List ℕ) → List ℕ → Option (List ℕ)
   better none s = some s
   better (some b) s = cond (ltb (planEnergy s) (planEnergy b)) (some s) (some b)
 
-  -- The end of the last placed use of device k: 'if unused so far, that end is tick 0'.
+  -- The end of the last placed use of device k; e where there is none.
   unfoldable pub lastEnd : ℕ → ℕ → List Place → ℕ
   lastEnd k e [] = e
   lastEnd k e (p ∷ ps) = lastEnd k (cond (uses R k (p .job)) (p .start + run R (p .job)) e) ps
@@ -90,7 +91,7 @@ module _ (R : Recorder) where
   ticks k j = cond (uses R k j) (run R j) 0
 
   -- The floor of one device (rule 46): the least energy up to the end of its last placed use; after that the working power for each tick that the unplaced jobs
-  -- will use it, and for every other tick up to H the power of its deepest sleep, which is Ps.
+  -- will use it, and for every other tick up to H the power of its deepest sleep (Ps).
   unfoldable pub deviceFloor : ℕ → Vertex → ℕ
   deviceFloor k v =
       let e = lastEnd k 0 (v .placed) in
@@ -100,12 +101,12 @@ module _ (R : Recorder) where
   unfoldable pub floor : Vertex → ℕ
   floor v = sum (R .devices .count) (λ k. deviceFloor k v)
 
-  -- Cut B: 'there is a best and the vertex's floor is at least the best's energy'.
+  -- Cut B (rule 45): the floor is no less than the energy of the best, so that nothing below the vertex can cost less than that.
   unfoldable pub cutB : Vertex → Option (List ℕ) → Bool
   cutB v none = false
   cutB v (some b) = leb (planEnergy b) (floor v)
 
-  -- A vertex with no job unplaced, and one whose children are examined by `below`: 'one that is cut or complete examines no children'.
+  -- A vertex with no job unplaced, and one whose children `below` examines where no cut is made.
   unfoldable pub complete : Vertex → Walk
   complete v st = cond (cutA v) (counted st) (record { count = suc (st .count); best = better (st .best) (startsOf v) })
 
@@ -114,12 +115,12 @@ module _ (R : Recorder) where
       let next = below (counted st) in
       cond (cutA v) (counted st) (cond (cutB v (st .best)) (counted st) next)
 
-  -- 'Depth first, a vertex examines its children in turn, and each child is itself a vertex.' m is the number of its unplaced jobs.
+  -- A vertex with m jobs unplaced, and all below it: each child and what is below it before the next child.
   unfoldable pub visit : ℕ → Vertex → Walk
   visit zero v = complete v
   visit (suc m) v = examine v (choices (visit m) v)
 
-  -- 'From the root on.'
+  -- The whole visit.
   unfoldable pub visited : Visited
   visited = visit (jobs R) root (record { count = 0; best = none })
 

@@ -1,4 +1,4 @@
-// Judging start times: the first fault in the document's order, or none.
+// Judging start times: the first fault, in the order of rules 22 and 23, or none.
 ghost use mathlib.Core.Path.{_≡_};
 ghost use Prim.Native.Nat.{_+_, _<_};
 ghost use lib.ListN.{length};
@@ -8,7 +8,7 @@ ghost use Rattle.schedule.specs.Judging.{Judgement, Windows, windowFault
 use crate::Recorder;
 use base::JobNumber;
 
-// The document's number with its job: 16 before the release, 17 after the deadline, 18 for an overlap; 0 where all is well.
+// The fault's number with its job: 16 before the release, 17 after the deadline, 18 for an overlap; 0 where all is well.
 pub struct Verdict {
     pub number: u8,
     pub job: JobNumber,
