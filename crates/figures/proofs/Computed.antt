@@ -105,10 +105,10 @@ all-at t (suc n) e j l =
     by-cases (ℕ-discrete j n) (λ same. ap t same ∙ both .0) (λ other. all-at t n (both .1) j (omega arith))
 
 module _ (R : Recorder) (s : List ℕ) where
-  abbrev pub meets : ℕ → Bool
+  abbrev meets : ℕ → Bool
   meets j = eqb 0 (windowFault (release R j) (deadline R j) (run R j) (start s j))
 
-  abbrev pub parts : ℕ → ℕ → Bool
+  abbrev parts : ℕ → ℕ → Bool
   parts j i = not (clashes i (start s i) (run R i) j (start s j) (run R j))
 
   unfoldable pub feasible : Bool

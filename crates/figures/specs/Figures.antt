@@ -90,10 +90,10 @@ pub record Case : Type 0 where
   pub file : List ℕ
   pub figure : Figure
 
+infix 70 _has_
 abbrev _has_ : List ℕ → Figure → Case
 f has g = record { file = f; figure = g }
 
-infix 70 _has_
 -- ---- the table: what is lent holds nines, and has a place more than is needed
 
 abbrev letters : List Letter → List ℕ
@@ -101,14 +101,17 @@ letters l = map byteOf l
 
 abbrev pub table : List Case
 table =
+    -- P1
     [] has check (refusal 1)
     ∷ (0 ∷ 1 ∷ 0 ∷ 0 ∷ 0 ∷ []) has check (success 1 0 0)
     ∷ (0 ∷ 1 ∷ 0 ∷ 0 ∷ 0 ∷ []) has search 1000 (9 ∷ []) (success 1 0 1) (9 ∷ [])
     ∷ (0 ∷ 1 ∷ 0 ∷ 0 ∷ 0 ∷ 0 ∷ []) has check (refusal 2)
     ∷ (0 ∷ 0 ∷ 0 ∷ 0 ∷ 0 ∷ []) has check (refusal 10)
+    -- P2
     ∷ (two 1 ++ 1 ∷ A ++ idle) has rows [] (replicate 2 9) (success 1 5 0) (letters (W ∷ []) ++ 9 ∷ [])
     ∷ (two 2 ++ 1 ∷ A ++ idle) has rows [] (replicate 3 9) (success 2 6 0) (letters (D ∷ U ∷ []) ++ 9 ∷ [])
     ∷ (two 5 ++ 1 ∷ A ++ idle) has rows [] (replicate 6 9) (success 5 9 0) (letters (D ∷ S ∷ S ∷ S ∷ U ∷ []) ++ 9 ∷ [])
+    -- P3, and with budget 4 P4
     ∷ P3 has verdict (0 ∷ []) (success 5 17 0)
     ∷ P3 has verdict (1 ∷ []) (success 5 21 0)
     ∷ P3 has verdict (2 ∷ []) (success 5 21 0)

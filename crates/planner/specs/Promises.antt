@@ -36,7 +36,7 @@ refusalAfter n c = record { number = n; job = record { 0 = 0 }; horizon = 0; ene
 
 -- ---- the file
 
--- The file is refused, by one of the numbers 1 to 13; or it is read as the recorder R.
+-- The file is refused, by one of the numbers 1 to 13 (rule 15); or it is read as the recorder R.
 abbrev pub Refused : List ℕ → ℕ → Type 0
 Refused file n = readOf file ≡ Format.refused n
 
@@ -61,7 +61,7 @@ pub data CheckOf (R : Recorder) : Answer → Type 0 where
 abbrev pub Checked : List ℕ → Answer → Type 0
 Checked file a = Answered file CheckOf a
 
--- ---- `margins`: for any start times, feasible or not (rule 24); what is lent beyond one number for each job stays as it was
+-- ---- `margins`: a number for each job (rule 21), whether the start times are feasible or not (rule 24); what is lent beyond stays as it was
 
 pub data MarginsOf (starts : List ℕ) (lent : List ℤ) (R : Recorder) : Answer → List ℤ → Type 0 where
   unequal : (length starts ≡ jobs R → ⊥) → MarginsOf starts lent R (refusal 14) lent
@@ -72,7 +72,7 @@ pub data MarginsOf (starts : List ℕ) (lent : List ℤ) (R : Recorder) : Answer
 abbrev pub Margined : List ℕ → List ℕ → List ℤ → Answer → List ℤ → Type 0
 Margined file starts lent a after = OfFile file lent (MarginsOf starts lent) a after
 
--- ---- `verdict`
+-- ---- `verdict`: feasible (rule 20) with the energy of the plan, or the first fault with its job (rules 22, 23)
 
 pub data VerdictOf (starts : List ℕ) (R : Recorder) : Answer → Type 0 where
   unequal : (length starts ≡ jobs R → ⊥) → VerdictOf starts R (refusal 14)
@@ -82,7 +82,7 @@ pub data VerdictOf (starts : List ℕ) (R : Recorder) : Answer → Type 0 where
 abbrev pub Judged : List ℕ → List ℕ → Answer → Type 0
 Judged file starts a = Answered file (VerdictOf starts) a
 
--- ---- `rows`: each the legal row of least energy (rule 37), one after the other from the lent buffer's first place on (rule 39)
+-- ---- `rows`: for each device the legal row of least energy (rule 37), one after the other (rule 39); what is lent beyond stays as it was
 
 pub data RowsOf (starts lent : List ℕ) (R : Recorder) : Answer → List ℕ → Type 0 where
   unequal : (length starts ≡ jobs R → ⊥) → RowsOf starts lent R (refusal 14) lent
@@ -95,8 +95,8 @@ pub data RowsOf (starts lent : List ℕ) (R : Recorder) : Answer → List ℕ �
 abbrev pub Rowed : List ℕ → List ℕ → List ℕ → Answer → List ℕ → Type 0
 Rowed file starts lent a after = OfFile file lent (RowsOf starts lent) a after
 
--- ---- `search`: the first of the least-energy schedules of the full listing (rules 47, 49), if the budget covers the vertices counted (rules 42, 48); the
--- start of job j goes to place j, and what is lent beyond the last job stays as it was
+-- ---- `search`: of all feasible schedules (rule 49) the first that costs least (rule 47), if the budget covers the vertices counted (rules 42, 48); the start
+-- of job j goes to place j, and what is lent beyond stays as it was
 
 pub data SearchOf (budget : ℕ) (lent : List ℕ) (R : Recorder) : Answer → List ℕ → Type 0 where
   short : length lent < jobs R → SearchOf budget lent R (refusal 15) lent

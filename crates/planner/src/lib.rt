@@ -15,7 +15,7 @@ pub use crate::answers::refusal_after;
 pub use crate::answers::refusal_at;
 pub use crate::answers::success;
 
-// What every operation answers: the document's number (0 for success), and what the operation works out; 0 elsewhere.
+// What every operation answers: 0 or the number of its refusal, and what the operation works out; 0 elsewhere.
 pub struct Answer {
     pub number: u8,
     pub job: JobNumber,
@@ -44,10 +44,11 @@ pub fn margins(file: &[u8], starts: &[u16], out: &mut [i32]) -> Answer
         return refusal(request.number);
     }
     let recorder = request.recorder;
-    if starts.len() != recorder.jobs.count {
+    let jobs = recorder.jobs.count;
+    if starts.len() != jobs {
         return refusal(14);
     }
-    if out.len() < recorder.jobs.count {
+    if out.len() < jobs {
         return refusal(15);
     }
     write_margins(recorder, starts, out);

@@ -28,16 +28,16 @@ refusal-requires-2 : tie.Need-refusal-requires-2
 refusal-requires-2 c κs = search needs
 
 returns-2 : tie.Need-returns-2
-returns-2 c = rw (c .refusal2 .ensures) (P.OfFile.read (recorded (c .before .before .before .before)) (P.MarginsOf.unequal (c .before .if2 .taken)))
+returns-2 c = rw (c .refusal2 .ensures) (P.OfFile.read (recorded (c .before .before .before)) (P.MarginsOf.unequal (c .before .if2 .taken)))
 
 refusal-requires-3 : tie.Need-refusal-requires-3
 refusal-requires-3 c κs = search needs
 
 returns-3 : tie.Need-returns-3
-returns-3 c = rw (c .refusal3 .ensures) (P.OfFile.read (recorded (c .before .before .before .before .before .before)) (P.MarginsOf.short (c .before .before .before .if2 .left) (c .before .if3 .taken)))
+returns-3 c = rw (c .refusal3 .ensures) (P.OfFile.read (recorded (c .before .before .before .before)) (P.MarginsOf.short (c .before .before .if2 .left) (c .before .if3 .taken)))
 
 write-margins-requires : tie.Need-write-margins-requires
-write-margins-requires c κs = (within (c .before .before .before .before .before .before), c .before .before .before .if2 .left, c .before .if3 .left)
+write-margins-requires c κs = (within (c .before .before .before .before), c .before .before .if2 .left, c .before .if3 .left)
 
 success-requires : tie.Need-success-requires
 success-requires c κs = search needs
@@ -46,7 +46,7 @@ same-length : tie.Need-same-length
 same-length c = search needs
 
 returns-4 : tie.Need-returns-4
-returns-4 c = rw (c .success .ensures, c .before .before .write-margins .ensures) (P.OfFile.read (recorded (c .before .before .before .before .before .before .before .before .before)) (P.MarginsOf.given (c .before .before .before .before .before .before .if2 .left) (c .before .before .before .before .if3 .left)))
+returns-4 c = rw (c .success .ensures, c .before .before .write-margins .ensures) (P.OfFile.read (recorded (c .before .before .before .before .before .before .before)) (P.MarginsOf.given (c .before .before .before .before .before .if2 .left) (c .before .before .before .before .if3 .left)))
 
 pub margins-spec : {M : Type 1} → statement M
 margins-spec =
