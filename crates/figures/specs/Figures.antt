@@ -68,7 +68,7 @@ P12′ = two 0 ++ 0 ∷ 2 ∷ two 64 ++ two 1 ++ 0 ∷ 16 ∷ 0 ∷ two 1 ++ 0 �
 abbrev X1 : List ℕ
 X1 = two 7 ++ 1 ∷ A ++ 0 ∷ 3 ∷ jobFile 2 5 2 0 ++ jobFile 4 7 2 1 ++ jobFile 0 2 1 1
 
--- The two tasks of document 001's Table 3, with a device A each.
+-- The two tasks of the pruning paper's Table 3, with a device A each.
 abbrev X3 : List ℕ
 X3 = two 0 ++ 2 ∷ A ++ A ++ 2 ∷ two 4 ++ two 1 ++ 1 ∷ two 5 ++ two 3 ++ 2 ∷ 0 ∷ []
 

@@ -1,1 +1,1 @@
-// No code: the figures that the documents give, in specs/Figures.antt, and the proof that the promises give them too.
+// No code: the figures to reproduce, in specs/Figures.antt, and the proof that the promises give them.

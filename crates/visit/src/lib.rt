@@ -55,7 +55,7 @@ pub struct Entered {
     pub vertex: Vertex,
 }
 
-// The answer of the search: document 01's number, and what goes with it.
+// The answer of the search: 0 or the number of its refusal, and what goes with it.
 pub struct Found {
     pub number: u8,
     pub energy: u32,
