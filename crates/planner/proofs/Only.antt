@@ -51,7 +51,7 @@ only-answered file Then one p p′ = only-of-file file tt (λ R a u. Then R a) (
 
 -- ---- `check`
 
-one-check : (R : Recorder) {a a′ : Answer} → CheckOf R a → CheckOf R a′ → a ≡ a′
+pub one-check : (R : Recorder) {a a′ : Answer} → CheckOf R a → CheckOf R a′ → a ≡ a′
 one-check R accepted accepted = refl
 
 pub only-checked : (file : List ℕ) {a a′ : Answer} → Checked file a → Checked file a′ → a ≡ a′
@@ -123,7 +123,7 @@ given-one lent R v {starts} {rows} {rows′} p p′ =
     let f = laid-same (R .devices .count) rows rows′ same in
     (cc, cc)
 
-one-rows : (starts lent : List ℕ) (R : Recorder) → Valid R → {a a′ : Answer} {l l′ : List ℕ}
+pub one-rows : (starts lent : List ℕ) (R : Recorder) → Valid R → {a a′ : Answer} {l l′ : List ℕ}
     → RowsOf starts lent R a l → RowsOf starts lent R a′ l′ → (a ≡ a′) × (l ≡ l′)
 one-rows starts lent R v (P.RowsOf.unequal u) (P.RowsOf.unequal u′) = (refl, refl)
 one-rows starts lent R v (P.RowsOf.unequal u) (P.RowsOf.short e′ h′) = absurd (u e′)
@@ -148,7 +148,7 @@ only-rowed file starts lent = only-of-file file lent (RowsOf starts lent) (λ R 
 
 -- ---- `search`
 
-one-search : (budget : ℕ) (lent : List ℕ) (R : Recorder) → Valid R → {a a′ : Answer} {l l′ : List ℕ}
+pub one-search : (budget : ℕ) (lent : List ℕ) (R : Recorder) → Valid R → {a a′ : Answer} {l l′ : List ℕ}
     → SearchOf budget lent R a l → SearchOf budget lent R a′ l′ → (a ≡ a′) × (l ≡ l′)
 one-search budget lent R v (P.SearchOf.short h) (P.SearchOf.short h′) = (refl, refl)
 one-search budget lent R v (P.SearchOf.short h) (P.SearchOf.over h′ b′) = absurd (omega arith)

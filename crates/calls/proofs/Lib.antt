@@ -1,0 +1,4 @@
+pub mod Digits
+pub mod Crossing
+pub mod Signs
+pub mod Only

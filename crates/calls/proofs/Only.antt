@@ -1,0 +1,67 @@
+-- No second outcome satisfies what a call promises: for every input each of the three relations has one number, and one state of every buffer.
+-- Assumes nothing.
+use mathlib.Core.Path.{_≡_, refl, sym, ap, _∙_}
+use mathlib.Core.List.{List, _++_}
+use Prim.Native.Nat.{ℕ, _*_}
+use native.Mathlib.Omega.{arith}
+use lib.ListN.{take, drop}
+use Rattle.schedule.specs.declared.Recorder.{Recorder}
+use Rattle.schedule.specs.Quantities.{jobs, Valid}
+use Rattle.planner.specs.declared.Answer.{Answer}
+use Rattle.planner.specs.Promises.{CheckOf, RowsOf}
+use Rattle.planner.proofs.Only.{only-of-file, one-check, one-rows, one-search}
+use Rattle.calls.specs.Bytes.{spread, startsIn}
+use Rattle.calls.specs.Calls.{told, Roomed, cramped, roomy, Called, called, CheckCallOf, CheckCalled, SearchCallOf, kept, given, SearchCalled}
+use Rattle.calls.specs.Calls.{RowsCallOf, RowsCalled}
+
+-- The law of every call: what has one outcome for each valid recorder has one for each file and result buffer.
+pub only-called : {L : Type 0} (file result : List ℕ) (lent : L) (Then : Recorder → Answer → L → Type 0)
+    → ((R : Recorder) → Valid R → (a a′ : Answer) (l l′ : L) → Then R a l → Then R a′ l′ → (a ≡ a′) × (l ≡ l′))
+    → {n n′ : ℕ} {r r′ : List ℕ} {l l′ : L} → Called file result lent Then n r l → Called file result lent Then n′ r′ l′ → (n ≡ n′) × (r ≡ r′) × (l ≡ l′)
+only-called file result lent Then one (called p) (called p′) =
+    let e = only-of-file file lent Then one p p′ in
+    (ap (λ (a : Answer). a .number) (e .0), ap (λ (a : Answer). told a result) (e .0), e .1)
+
+one-roomed : {L : Type 0} (result : List ℕ) (lent : L) (X : Answer → L → Type 0)
+    → ((a a′ : Answer) (l l′ : L) → X a l → X a′ l′ → (a ≡ a′) × (l ≡ l′))
+    → {a a′ : Answer} {l l′ : L} → Roomed result lent X a l → Roomed result lent X a′ l′ → (a ≡ a′) × (l ≡ l′)
+one-roomed result lent X one (cramped h) (cramped h′) = (refl, refl)
+one-roomed result lent X one (cramped h) (roomy h′ x′) = absurd (omega arith)
+one-roomed result lent X one (roomy h x) (cramped h′) = absurd (omega arith)
+one-roomed result lent X one (roomy {a = a} {after = l} h x) (roomy {a = a′} {after = l′} h′ x′) = one a a′ l l′ x x′
+
+pub only-check-called : (file result : List ℕ) {n n′ : ℕ} {r r′ : List ℕ}
+    → CheckCalled file result n r → CheckCalled file result n′ r′ → (n ≡ n′) × (r ≡ r′)
+only-check-called file result p p′ =
+    let e = only-called {L = Unit {0}} file result tt (CheckCallOf result)
+    (λ R v a a′ u u′. one-roomed {L = Unit {0}} result tt (λ b w. CheckOf R b) (λ b b′ w w′ x x′. (one-check R x x′, refl))) p p′ in
+    (e .0, e .1)
+
+-- What the search gives or keeps goes by the number of its answer.
+one-search-call : (budget : ℕ) (lent : List ℕ) (R : Recorder) → Valid R → {a a′ : Answer} {l l′ : List ℕ}
+    → SearchCallOf budget lent R a l → SearchCallOf budget lent R a′ l′ → (a ≡ a′) × (l ≡ l′)
+one-search-call budget lent R v (kept n x) (kept n′ x′) = (one-search budget _ R v x x′ .0, refl)
+one-search-call budget lent R v (kept n x) (given z′ x′) = absurd (n (ap (λ (a : Answer). a .number) (one-search budget _ R v x x′ .0) ∙ z′))
+one-search-call budget lent R v (given z x) (kept n′ x′) = absurd (n′ (sym (ap (λ (a : Answer). a .number) (one-search budget _ R v x x′ .0)) ∙ z))
+one-search-call budget lent R v (given z x) (given z′ x′) =
+    let e = one-search budget _ R v x x′ in
+    (e .0, ap (λ (s : List ℕ). spread (take (jobs R) s) ++ drop (jobs R * 2) lent) (e .1))
+
+pub only-search-called : (file : List ℕ) (budget : ℕ) (lent result : List ℕ) {n n′ : ℕ} {l l′ r r′ : List ℕ}
+    → SearchCalled file budget lent result n l r → SearchCalled file budget lent result n′ l′ r′ → (n ≡ n′) × (r ≡ r′) × (l ≡ l′)
+only-search-called file budget lent result =
+    only-called file result lent (λ R a l. Roomed result lent (SearchCallOf budget lent R) a l)
+    (λ R v a a′ l l′. one-roomed result lent (SearchCallOf budget lent R) (λ b b′ m m′. one-search-call budget lent R v))
+
+one-rows-call : (starts lent result : List ℕ) (R : Recorder) → Valid R → {a a′ : Answer} {l l′ : List ℕ}
+    → RowsCallOf starts lent result R a l → RowsCallOf starts lent result R a′ l′ → (a ≡ a′) × (l ≡ l′)
+one-rows-call starts lent result R v (RowsCallOf.unequal u) (RowsCallOf.unequal u′) = (refl, refl)
+one-rows-call starts lent result R v (RowsCallOf.unequal u) (RowsCallOf.equal e′ x′) = absurd (u e′)
+one-rows-call starts lent result R v (RowsCallOf.equal e x) (RowsCallOf.unequal u′) = absurd (u′ e)
+one-rows-call starts lent result R v (RowsCallOf.equal e x) (RowsCallOf.equal e′ x′) =
+    one-roomed result lent (RowsOf (startsIn starts (jobs R)) lent R) (λ b b′ m m′. one-rows (startsIn starts (jobs R)) lent R v) x x′
+
+pub only-rows-called : (file starts lent result : List ℕ) {n n′ : ℕ} {l l′ r r′ : List ℕ}
+    → RowsCalled file starts lent result n l r → RowsCalled file starts lent result n′ l′ r′ → (n ≡ n′) × (r ≡ r′) × (l ≡ l′)
+only-rows-called file starts lent result =
+    only-called file result lent (RowsCallOf starts lent result) (λ R v a a′ l l′. one-rows-call starts lent result R v)

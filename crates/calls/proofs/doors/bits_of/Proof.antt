@@ -1,0 +1,38 @@
+-- `calls::doors::bits_of` meets its contract.
+-- Assumes nothing.
+use mir.Syntax.{w32}
+use mir.Val.{SFits, toZ, ofZ}
+use mir.Facts.{toZ-ofZ}
+use Rattle.calls.proofs.Signs.{size-pos, Raised, raised}
+use borrow.Author.Needs.{needs}
+use Rattle.calls.proofs.doors.bits_of.Statement.{statement}
+use Rattle.calls.proofs.doors.bits_of.Tie as tie
+
+-- What the machine reads of the margin.
+fitted : (c : tie.Start) → SFits w32 (toZ w32 (ofZ w32 (c .args .margin)))
+fitted c = rw (toZ-ofZ (c .fits .margin)) (c .fits .margin)
+
+up : (c : tie.Then1) → Raised (toZ w32 (ofZ w32 (c .before .args .margin)))
+up c = raised _ (fitted (c .before)) (c .if1 .taken)
+
+cast-result : tie.Need-cast-result
+cast-result c = up c .wide
+
+add-result : tie.Need-add-result
+add-result c = rw (toZ-ofZ (up c .wide)) (up c .fits)
+
+cast-result-2 : tie.Need-cast-result-2
+cast-result-2 c = rw (toZ-ofZ (up c .wide), toZ-ofZ (up c .fits)) (up c .size)
+
+returns : tie.Need-returns
+returns c = search needs
+
+cast-result-3 : tie.Need-cast-result-3
+cast-result-3 c = size-pos _ (fitted (c .before)) (c .if1 .left)
+
+returns-2 : tie.Need-returns-2
+returns-2 c = search needs
+
+pub bits-of-spec : {M : Type 1} → statement M
+bits-of-spec =
+    tie.close (tie.spec cast-result add-result cast-result-2 returns cast-result-3 returns-2)

@@ -1,0 +1,61 @@
+-- What a C program gets (rules 70 to 74): for each call one relation between its buffers and its complete outcome, the number returned and every buffer after
+-- it. What is planned stands in the planner's promises; here is how it crosses. proofs/Only: each relation has one outcome for every input.
+-- Assumes nothing.
+use mathlib.Core.Path.{_≡_}
+use mathlib.Core.Bool.{cond}
+use mathlib.Core.List.{List, _++_}
+use Prim.Native.Nat.{ℕ, _*_, _/_, _≤_, _<_}
+use lib.Dec.{leb}
+use lib.ListN.{length, take, drop, replicate}
+use Rattle.schedule.specs.declared.Recorder.{Recorder}
+use Rattle.schedule.specs.Quantities.{jobs}
+use Rattle.planner.specs.declared.Answer.{Answer}
+use Rattle.planner.specs.Promises.{refusal, OfFile, CheckOf, RowsOf, SearchOf}
+use Rattle.calls.specs.Bytes.{eleven, spread, startsIn}
+
+-- ---- the result buffer
+
+-- It holds the eleven bytes of every answer, of a refusal too, if it has room for them; what follows them stays as it was (rule 71).
+unfoldable pub told : Answer → List ℕ → List ℕ
+told a result = cond (leb 11 (length result)) (eleven a ++ drop 11 result) result
+
+-- Too little room for the eleven bytes is a 15; else the call goes on to what `Then` says (rule 72).
+pub data Roomed {L : Type 0} (result : List ℕ) (lent : L) (Then : Answer → L → Type 0) : Answer → L → Type 0 where
+  cramped : length result < 11 → Roomed result lent Then (refusal 15) lent
+  roomy : {a : Answer} {after : L} → 11 ≤ length result → Then a after → Roomed result lent Then a after
+
+-- The outcome of a call on a file: the answer's number is returned, and its eleven bytes are in the result buffer.
+pub data Called {L : Type 0} (file result : List ℕ) (lent : L) (Then : Recorder → Answer → L → Type 0) : ℕ → List ℕ → L → Type 0 where
+  called : {a : Answer} {after : L} → OfFile file lent Then a after → Called file result lent Then (a .number) (told a result) after
+
+-- ---- `floe_check`
+
+abbrev pub CheckCallOf : List ℕ → Recorder → Answer → Unit {0} → Type 0
+CheckCallOf result R a u = Roomed {L = Unit {0}} result tt (λ b v. CheckOf R b) a u
+
+abbrev pub CheckCalled : List ℕ → List ℕ → ℕ → List ℕ → Type 0
+CheckCalled file result n after = Called {L = Unit {0}} file result tt (CheckCallOf result) n after tt
+
+-- ---- `floe_search`: the lent bytes hold as many start times as they have pairs; a plan's go to the first of them, and nothing else is written (rule 73)
+
+abbrev pub blank : List ℕ → List ℕ
+blank lent = replicate (length lent / 2) 0
+
+pub data SearchCallOf (budget : ℕ) (lent : List ℕ) (R : Recorder) : Answer → List ℕ → Type 0 where
+  kept : {a : Answer} {starts : List ℕ} → (a .number ≡ 0 → ⊥) → SearchOf budget (blank lent) R a starts → SearchCallOf budget lent R a lent
+  given : {a : Answer} {starts : List ℕ} → a .number ≡ 0 → SearchOf budget (blank lent) R a starts
+      → SearchCallOf budget lent R a (spread (take (jobs R) starts) ++ drop (jobs R * 2) lent)
+
+abbrev pub SearchCalled : List ℕ → ℕ → List ℕ → List ℕ → ℕ → List ℕ → List ℕ → Type 0
+SearchCalled file budget lent result n lent′ result′ =
+    Called file result lent (λ R a l. Roomed result lent (SearchCallOf budget lent R) a l) n result′ lent′
+
+-- ---- `floe_rows`: two bytes a job, neither more nor fewer (rule 73)
+
+pub data RowsCallOf (starts lent result : List ℕ) (R : Recorder) : Answer → List ℕ → Type 0 where
+  unequal : (length starts ≡ jobs R * 2 → ⊥) → RowsCallOf starts lent result R (refusal 14) lent
+  equal : {a : Answer} {after : List ℕ} → length starts ≡ jobs R * 2 → Roomed result lent (RowsOf (startsIn starts (jobs R)) lent R) a after
+      → RowsCallOf starts lent result R a after
+
+abbrev pub RowsCalled : List ℕ → List ℕ → List ℕ → List ℕ → ℕ → List ℕ → List ℕ → Type 0
+RowsCalled file starts lent result n lent′ result′ = Called file result lent (RowsCallOf starts lent result) n result′ lent′

@@ -1,0 +1,90 @@
+// Doors: the other operations of the library with bytes in and out, for the tests and the benchmark. They are safe, and promise nothing of their own. A door
+// answers 255, and does nothing, for an odd list of start times or a result buffer under 11 bytes; else it tells every answer, a refusal too.
+ghost use mathlib.Core.Path.{_≡_};
+ghost use Prim.Native.Nat.{_*_, _/_, _≤_, min};
+ghost use lib.ListN.{length};
+use crate::bytes::get_starts;
+use crate::bytes::put;
+use crate::results::RESULT;
+use crate::results::tell;
+use planner::Answer;
+use planner::margins;
+use planner::verdict;
+
+const SHUT: u8 = 255;
+
+fn is_shut(starts: usize, result: usize) -> bool {
+    starts % 2 != 0 || result < RESULT
+}
+
+fn least(a: usize, b: usize) -> usize
+    ensures { λ r. ⌜ r ≡ min a b ⌝ }
+{
+    if a < b { a } else { b }
+}
+
+// How many of the start times are handed on: all, or one more than a file can have jobs.
+fn handed(bytes: usize) -> usize
+    ensures { λ r. ⌜ r ≡ min (bytes / 2) 17 ⌝ }
+{
+    least(bytes / 2, 17)
+}
+
+#[no_mangle]
+pub extern "C" fn door_verdict(file: &[u8], starts: &[u8], result: &mut [u8]) -> u8 {
+    if is_shut(starts.len(), result.len()) {
+        return SHUT;
+    }
+    let mut own = [0u16; 17];
+    let n = handed(starts.len());
+    get_starts(starts, &mut own[..n]);
+    tell(verdict(file, &own[..n]), result)
+}
+
+// A margin's four bytes: a negative one by its two's complement.
+fn bits_of(margin: i32) -> u64 {
+    if margin < 0 {
+        return (margin as i64 + 4294967296) as u64;
+    }
+    margin as u64
+}
+
+fn put_margins(margins: &[i32], out: &mut [u8])
+    requires { ⌜ length (now margins) * 4 ≤ length (now out) ⌝ }
+{
+    let mut j = 0;
+    while j < margins.len() {
+        let at = j * 4;
+        let end = at + 4;
+        put(&mut out[at..end], bits_of(margins[j]));
+        j += 1;
+    }
+}
+
+// The margins as four bytes each; what is lent beyond one place a job stays as it was.
+fn margin_bytes(file: &[u8], starts: &[u16], out: &mut [u8]) -> Answer {
+    let mut room = [0i32; 16];
+    let places = least(out.len() / 4, 16);
+    let answer = margins(file, starts, &mut room[..places]);
+    if answer.number == 0 {
+        let jobs = least(starts.len(), places);
+        put_margins(&room[..jobs], out);
+    }
+    answer
+}
+
+#[no_mangle]
+pub extern "C" fn door_margins(
+    file: &[u8],
+    starts: &[u8],
+    out: &mut [u8],
+    result: &mut [u8],
+) -> u8 {
+    if is_shut(starts.len(), result.len()) {
+        return SHUT;
+    }
+    let mut own = [0u16; 17];
+    let n = handed(starts.len());
+    get_starts(starts, &mut own[..n]);
+    tell(margin_bytes(file, &own[..n], out), result)
+}

@@ -1,0 +1,58 @@
+// The functions that a C program calls with numbers and byte buffers: the file check, the search and the rows. Each buffer is a pointer and a length; each
+// function returns the number of its answer, and puts the rest of it into the result buffer. include/floebucket.h declares them; specs/Calls.antt says for each
+// the complete outcome.
+ghost use Rattle.calls.specs.Calls.{CheckCalled, SearchCalled, RowsCalled};
+use crate::paired::rows_bytes;
+use crate::paired::search_bytes;
+use crate::results::RESULT;
+use crate::results::cramped;
+use crate::results::tell;
+use planner::check;
+use planner::refusal;
+use request::read;
+
+mod bytes; // bytes.rt: numbers as bytes, the high byte first
+mod paired; // paired.rt: start times as pairs of bytes
+mod results; // results.rt: the result buffer
+pub mod doors; // doors.rt: the other operations, for tests and the benchmark
+
+// Whether the file is accepted, and its horizon.
+#[no_mangle]
+pub extern "C" fn floe_check(file: &[u8], result: &mut [u8]) -> u8
+    ensures { λ n. ⌜ CheckCalled (now (file .entry)) (now (result .entry)) n (now (result .exit)) ⌝ }
+{
+    if result.len() < RESULT {
+        return cramped(file);
+    }
+    tell(check(file), result)
+}
+
+// The start times of the first of the least-energy schedules that meet all deadlines, if the budget covers the vertices of the search.
+#[no_mangle]
+pub extern "C" fn floe_search(file: &[u8], budget: u32, starts: &mut [u8], result: &mut [u8]) -> u8
+    ensures { λ n. ⌜ SearchCalled (now (file .entry)) budget (now (starts .entry)) (now (result .entry)) n (now (starts .exit)) (now (result .exit)) ⌝ }
+{
+    if result.len() < RESULT {
+        return cramped(file);
+    }
+    tell(search_bytes(file, budget, starts), result)
+}
+
+// The row of every device, the legal row of least energy, for feasible start times.
+#[no_mangle]
+pub extern "C" fn floe_rows(file: &[u8], starts: &[u8], out: &mut [u8], result: &mut [u8]) -> u8
+    ensures { λ n. ⌜ RowsCalled (now (file .entry)) (now (starts .entry)) (now (out .entry)) (now (result .entry)) n (now (out .exit)) (now (result .exit)) ⌝ }
+{
+    let request = read(file);
+    if request.number != 0 {
+        return tell(refusal(request.number), result);
+    }
+    let jobs = request.recorder.jobs.count;
+    if starts.len() != jobs * 2 {
+        return tell(refusal(14), result);
+    }
+    if result.len() < RESULT {
+        return 15;
+    }
+    tell(rows_bytes(file, starts, jobs, out), result)
+}
