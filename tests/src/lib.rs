@@ -12,6 +12,7 @@ pub mod example;
 pub mod expect;
 pub mod faults;
 pub mod fixed;
+pub mod judge;
 pub mod listing;
 pub mod plain;
 pub mod random;

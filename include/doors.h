@@ -1,0 +1,25 @@
+/* Doors to the other operations of the library, for its tests: not part of what it promises.
+ *
+ * They return the number of the answer and put the rest into the result buffer, as in floebucket.h. A door returns 255, and does nothing, for an odd number
+ * of bytes of start times or a result buffer under FLOE_RESULT bytes. */
+#ifndef FLOEBUCKET_DOORS_H
+#define FLOEBUCKET_DOORS_H
+
+#include "floebucket.h"
+
+#ifdef __cplusplus
+extern "C" {
+#endif
+
+/* Whether the start times are feasible, with the plan's energy. */
+uint8_t door_verdict(const uint8_t *file, size_t file_len, const uint8_t *starts, size_t starts_len, uint8_t *result, size_t result_len);
+
+/* The margin of each job for any start times: four bytes each, a negative one by its two's complement. */
+uint8_t door_margins(const uint8_t *file, size_t file_len, const uint8_t *starts, size_t starts_len, uint8_t *out, size_t out_len, uint8_t *result,
+                     size_t result_len);
+
+#ifdef __cplusplus
+}
+#endif
+
+#endif

@@ -1,0 +1,43 @@
+/* Floebucket for C and C++: plans a request with proved functions. Link target/lib/libfloebucket.a, which ./library builds.
+ *
+ * Every buffer is a pointer and a length. Every function returns the number of its answer: 0, or the refusal (README.md lists them), and puts the rest of
+ * the answer into the result buffer, FLOE_RESULT bytes or more, the high byte of a number first:
+ *
+ *     byte 0        job        of 16, 17 and 18: the job at fault
+ *     bytes 1, 2    horizon    on success
+ *     bytes 3 - 6   energy     on success of the search and of the rows
+ *     bytes 7 - 10  count      of the search: its vertices; of 20: the budget
+ *
+ * What does not apply is 0. The result buffer is the one place that a refusal writes to, and bytes after the eleventh stay as they were. A shorter one is a
+ * refusal 15, after the file's own refusals and after 14, and then nothing at all is written.
+ *
+ * A null pointer, a length that is not the buffer's, or buffers that overlap: then nothing is promised. An empty buffer may have any pointer. */
+#ifndef FLOEBUCKET_H
+#define FLOEBUCKET_H
+
+#include <stddef.h>
+#include <stdint.h>
+
+#define FLOE_RESULT 11
+
+#ifdef __cplusplus
+extern "C" {
+#endif
+
+/* Whether the file is a request, and its horizon. */
+uint8_t floe_check(const uint8_t *file, size_t file_len, uint8_t *result, size_t result_len);
+
+/* The plan of least energy: its start times by job number, two bytes each, if the budget covers the vertices of the search. `starts` has at least two bytes
+ * for each job; what follows the last job's stays as it was. */
+uint8_t floe_search(const uint8_t *file, size_t file_len, uint32_t budget, uint8_t *starts, size_t starts_len, uint8_t *result, size_t result_len);
+
+/* For start times that are feasible, two bytes each and exactly one for each job: the row of every device, one letter a tick (W working, D going down,
+ * S asleep, U coming up), that of device k from byte k x horizon on. `rows` has at least devices x horizon bytes; the rest stays as it was. */
+uint8_t floe_rows(const uint8_t *file, size_t file_len, const uint8_t *starts, size_t starts_len, uint8_t *rows, size_t rows_len, uint8_t *result,
+                  size_t result_len);
+
+#ifdef __cplusplus
+}
+#endif
+
+#endif

@@ -1,0 +1,234 @@
+//! What each call must leave, by the rules (70 to 74) and the oracle: its number, its result bytes,
+//! and every byte that is lent.
+
+use outside::judge::judge;
+use outside::listing::{first_of_the_least, uses, Schedule};
+use outside::request::{read, Request};
+use outside::rows::least_row;
+use outside::visit::visit;
+
+pub const RESULT: usize = 11;
+
+/// What a door answers to what it does not hand on.
+const SHUT: u8 = 255;
+
+#[derive(Clone, Copy, Default)]
+struct Answer {
+    number: u8,
+    job: u8,
+    horizon: u16,
+    energy: u32,
+    count: u32,
+}
+
+impl Answer {
+    fn refusal(number: u8) -> Answer {
+        Answer {
+            number,
+            ..Answer::default()
+        }
+    }
+
+    fn bytes(&self) -> Vec<u8> {
+        let mut bytes = vec![self.job];
+        bytes.extend(self.horizon.to_be_bytes());
+        bytes.extend(self.energy.to_be_bytes());
+        bytes.extend(self.count.to_be_bytes());
+        bytes
+    }
+}
+
+/// The complete outcome of a call: of the lent bytes, all of them.
+#[derive(Clone, Debug, PartialEq, Eq)]
+pub struct Outcome {
+    pub number: u8,
+    pub lent: Vec<u8>,
+    pub result: Vec<u8>,
+}
+
+/// The buffers of a call as they are before it.
+#[derive(Clone)]
+pub struct Buffers {
+    pub lent: Vec<u8>,
+    pub result: Vec<u8>,
+}
+
+impl Buffers {
+    fn is_short(&self) -> bool {
+        self.result.len() < RESULT
+    }
+
+    /// An answer that is told, if there is room, and that writes to the front of the lent bytes.
+    fn after(&self, answer: Answer, written: &[u8]) -> Outcome {
+        let mut lent = self.lent.clone();
+        lent[..written.len()].copy_from_slice(written);
+        let mut result = self.result.clone();
+        if !self.is_short() {
+            result[..RESULT].copy_from_slice(&answer.bytes());
+        }
+        Outcome {
+            number: answer.number,
+            lent,
+            result,
+        }
+    }
+
+    fn refused(&self, number: u8) -> Outcome {
+        self.after(Answer::refusal(number), &[])
+    }
+
+    fn untouched(&self, number: u8) -> Outcome {
+        Outcome {
+            number,
+            lent: self.lent.clone(),
+            result: self.result.clone(),
+        }
+    }
+}
+
+fn success(request: &Request, energy: u64, count: u64) -> Answer {
+    Answer {
+        horizon: request.horizon as u16,
+        energy: energy as u32,
+        count: count as u32,
+        ..Answer::default()
+    }
+}
+
+/// The start times of bytes, two each.
+fn pairs(bytes: &[u8]) -> Vec<u32> {
+    let pair = |pair: &[u8]| u32::from(u16::from_be_bytes([pair[0], pair[1]]));
+    bytes.chunks_exact(2).map(pair).collect()
+}
+
+/// A file, with what its search comes to. Worked out once, for any budget.
+pub struct Searched {
+    pub file: Vec<u8>,
+    pub read: Result<Request, u8>,
+    pub count: u64,
+    pub best: Option<Schedule>,
+}
+
+impl Searched {
+    pub fn new(file: Vec<u8>) -> Searched {
+        let read = read(&file);
+        let (mut count, mut best) = (0, None);
+        if let Ok(request) = &read {
+            let visited = visit(request, u64::MAX);
+            count = visited.count;
+            best = first_of_the_least(request);
+            let least = best.as_ref().map(|schedule| schedule.energy);
+            assert_eq!(visited.best, least, "the oracle's two halves disagree");
+        }
+        Searched {
+            file,
+            read,
+            count,
+            best,
+        }
+    }
+
+    pub fn check(&self, before: &Buffers) -> Outcome {
+        match &self.read {
+            Err(number) => before.refused(*number),
+            Ok(_) if before.is_short() => before.refused(15),
+            Ok(request) => before.after(success(request, 0, 0), &[]),
+        }
+    }
+
+    pub fn search(&self, budget: u32, before: &Buffers) -> Outcome {
+        let request = match &self.read {
+            Err(number) => return before.refused(*number),
+            Ok(request) => request,
+        };
+        if before.is_short() || before.lent.len() < 2 * request.jobs.len() {
+            return before.refused(15);
+        }
+        let after = |number, count| Answer {
+            count,
+            ..Answer::refusal(number)
+        };
+        if self.count > u64::from(budget) {
+            return before.after(after(20, budget), &[]);
+        }
+        match &self.best {
+            None => before.after(after(19, self.count as u32), &[]),
+            Some(schedule) => {
+                let start = |start: &u32| (*start as u16).to_be_bytes();
+                let written: Vec<u8> = schedule.starts.iter().flat_map(start).collect();
+                before.after(success(request, schedule.energy, self.count), &written)
+            }
+        }
+    }
+
+    pub fn rows(&self, starts: &[u8], before: &Buffers) -> Outcome {
+        let request = match &self.read {
+            Err(number) => return before.refused(*number),
+            Ok(request) => request,
+        };
+        let size = request.devices.len() * request.horizon as usize;
+        if starts.len() != 2 * request.jobs.len() {
+            return before.refused(14);
+        }
+        if before.is_short() || before.lent.len() < size {
+            return before.refused(15);
+        }
+        let starts = pairs(starts);
+        match judge(request, &starts) {
+            Err(fault) => before.after(faulty(fault), &[]),
+            Ok(energy) => {
+                let row = |(number, device)| {
+                    let uses = uses(request, &starts, number);
+                    least_row(device, &uses, request.horizon).into_bytes()
+                };
+                let rows: Vec<u8> = request.devices.iter().enumerate().flat_map(row).collect();
+                before.after(success(request, energy, 0), &rows)
+            }
+        }
+    }
+
+    pub fn verdict(&self, starts: &[u8], before: &Buffers) -> Outcome {
+        if starts.len() % 2 != 0 || before.is_short() {
+            return before.untouched(SHUT);
+        }
+        let request = match &self.read {
+            Err(number) => return before.refused(*number),
+            Ok(request) => request,
+        };
+        if starts.len() != 2 * request.jobs.len() {
+            return before.refused(14);
+        }
+        match judge(request, &pairs(starts)) {
+            Err(fault) => before.after(faulty(fault), &[]),
+            Ok(energy) => before.after(success(request, energy, 0), &[]),
+        }
+    }
+
+    pub fn margins(&self, starts: &[u8], before: &Buffers) -> Outcome {
+        if starts.len() % 2 != 0 || before.is_short() {
+            return before.untouched(SHUT);
+        }
+        let request = match &self.read {
+            Err(number) => return before.refused(*number),
+            Ok(request) => request,
+        };
+        if starts.len() != 2 * request.jobs.len() {
+            return before.refused(14);
+        }
+        if before.lent.len() < 4 * request.jobs.len() {
+            return before.refused(15);
+        }
+        let margin =
+            |(job, start): (&outside::request::Job, u32)| (job.margin(start) as i32).to_be_bytes();
+        let jobs = request.jobs.iter().zip(pairs(starts));
+        let written: Vec<u8> = jobs.flat_map(margin).collect();
+        before.after(success(request, 0, 0), &written)
+    }
+}
+
+fn faulty((number, job): (u8, usize)) -> Answer {
+    Answer {
+        job: job as u8,
+        ..Answer::refusal(number)
+    }
+}

@@ -1,0 +1,108 @@
+//! The library's C functions, with slices for a pointer and a length.
+
+mod c {
+    extern "C" {
+        pub fn floe_check(f: *const u8, f_len: usize, r: *mut u8, r_len: usize) -> u8;
+        pub fn floe_search(
+            f: *const u8,
+            f_len: usize,
+            budget: u32,
+            s: *mut u8,
+            s_len: usize,
+            r: *mut u8,
+            r_len: usize,
+        ) -> u8;
+        pub fn floe_rows(
+            f: *const u8,
+            f_len: usize,
+            s: *const u8,
+            s_len: usize,
+            o: *mut u8,
+            o_len: usize,
+            r: *mut u8,
+            r_len: usize,
+        ) -> u8;
+        pub fn door_verdict(
+            f: *const u8,
+            f_len: usize,
+            s: *const u8,
+            s_len: usize,
+            r: *mut u8,
+            r_len: usize,
+        ) -> u8;
+        pub fn door_margins(
+            f: *const u8,
+            f_len: usize,
+            s: *const u8,
+            s_len: usize,
+            o: *mut u8,
+            o_len: usize,
+            r: *mut u8,
+            r_len: usize,
+        ) -> u8;
+    }
+}
+
+// SAFETY, of every call below: each pointer comes from a live slice and goes with that slice's own
+// length, no two of a call overlap, and the library keeps none of them.
+
+pub fn check(file: &[u8], result: &mut [u8]) -> u8 {
+    unsafe { c::floe_check(file.as_ptr(), file.len(), result.as_mut_ptr(), result.len()) }
+}
+
+pub fn search(file: &[u8], budget: u32, starts: &mut [u8], result: &mut [u8]) -> u8 {
+    unsafe {
+        c::floe_search(
+            file.as_ptr(),
+            file.len(),
+            budget,
+            starts.as_mut_ptr(),
+            starts.len(),
+            result.as_mut_ptr(),
+            result.len(),
+        )
+    }
+}
+
+pub fn rows(file: &[u8], starts: &[u8], out: &mut [u8], result: &mut [u8]) -> u8 {
+    unsafe {
+        c::floe_rows(
+            file.as_ptr(),
+            file.len(),
+            starts.as_ptr(),
+            starts.len(),
+            out.as_mut_ptr(),
+            out.len(),
+            result.as_mut_ptr(),
+            result.len(),
+        )
+    }
+}
+
+pub fn verdict(file: &[u8], starts: &[u8], result: &mut [u8]) -> u8 {
+    unsafe {
+        c::door_verdict(
+            file.as_ptr(),
+            file.len(),
+            starts.as_ptr(),
+            starts.len(),
+            result.as_mut_ptr(),
+            result.len(),
+        )
+    }
+}
+
+pub fn margins(file: &[u8], starts: &[u8], out: &mut [u8], result: &mut [u8]) -> u8 {
+    unsafe {
+        c::door_margins(
+            file.as_ptr(),
+            file.len(),
+            starts.as_ptr(),
+            starts.len(),
+            out.as_mut_ptr(),
+            out.len(),
+            result.as_mut_ptr(),
+            result.len(),
+        )
+    }
+}

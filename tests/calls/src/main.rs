@@ -1,0 +1,215 @@
+//! Calls every function of the library as C does, on random files, start times, budgets and lent
+//! lengths, and compares the number and every byte of every buffer with the oracle.
+
+mod expected;
+mod library;
+
+use expected::{Buffers, Outcome, Searched, RESULT};
+use outside::cases::{draw, Kind};
+use outside::random::Random;
+use std::collections::BTreeMap;
+use std::process::ExitCode;
+
+const SEED: u64 = 14;
+const FILES: u64 = 1_500;
+const LEAST_CALLS: u64 = 20_000;
+
+/// 255 is a door's own.
+const NUMBERS: std::ops::RangeInclusive<u8> = 0..=20;
+
+/// The stream of the drawn files is another: these draw what goes with a file.
+const STREAM: u64 = 1 << 40;
+
+struct Tester {
+    random: Random,
+    calls: u64,
+    met: BTreeMap<(&'static str, u8), u64>,
+    failure: Option<String>,
+}
+
+impl Tester {
+    /// A length below, at or above the one that is needed.
+    fn length(&mut self, needed: usize) -> usize {
+        match self.random.within(1, 8) {
+            1 => needed.saturating_sub(1),
+            2 => self.random.within(0, needed as u64) as usize,
+            3 => needed + self.random.within(1, 40) as usize,
+            _ => needed,
+        }
+    }
+
+    /// Bytes of which each tells its place, so that any that is written shows.
+    fn buffers(&mut self, needed: usize) -> Buffers {
+        let (lent, result) = (self.length(needed), self.length(RESULT));
+        Buffers {
+            lent: self.random.bytes(lent),
+            result: self.random.bytes(result),
+        }
+    }
+
+    fn compare(&mut self, name: &'static str, file: &[u8], expected: Outcome, got: Outcome) {
+        self.calls += 1;
+        *self.met.entry((name, expected.number)).or_default() += 1;
+        if expected != got && self.failure.is_none() {
+            self.failure = Some(format!(
+                "{name} on file {file:02X?}\n  expected {expected:02X?}\n  got      {got:02X?}"
+            ));
+        }
+    }
+
+    fn check(&mut self, searched: &Searched) {
+        let mut after = self.buffers(0);
+        let expected = searched.check(&after);
+        let number = library::check(&searched.file, &mut after.result);
+        let got = outcome(number, after);
+        self.compare("floe_check", &searched.file, expected, got);
+    }
+
+    fn search(&mut self, searched: &Searched, jobs: usize) {
+        let count = searched.count as u32;
+        let near = [0, count.saturating_sub(1), count, count + 1, u32::MAX];
+        for budget in near {
+            let mut after = self.buffers(2 * jobs);
+            let expected = searched.search(budget, &after);
+            let (lent, result) = (&mut after.lent, &mut after.result);
+            let number = library::search(&searched.file, budget, lent, result);
+            let got = outcome(number, after);
+            self.compare("floe_search", &searched.file, expected, got);
+        }
+    }
+
+    /// Starts in the jobs' windows, or just outside, or anywhere; or those of the plan. As many as
+    /// there are jobs, or not.
+    fn starts(&mut self, searched: &Searched) -> Vec<u8> {
+        let jobs = searched
+            .read
+            .as_ref()
+            .map_or(&[][..], |request| &request.jobs);
+        let mut starts: Vec<u16> = Vec::new();
+        let planned = searched.best.as_ref().filter(|_| self.random.one_in(3));
+        for (number, job) in jobs.iter().enumerate() {
+            let (release, latest) = (job.release as u16, job.latest() as u16);
+            let start = match planned {
+                Some(schedule) => schedule.starts[number] as u16,
+                None => self.random.u16(release, latest),
+            };
+            let many = 6 * jobs.len() as u64;
+            starts.push(match self.random.within(1, many.max(1)) {
+                1 => release.saturating_sub(1),
+                2 => latest + 1,
+                3 => self.random.u16(0, u16::MAX),
+                _ => start,
+            });
+        }
+        let mut bytes: Vec<u8> = starts
+            .iter()
+            .flat_map(|start| start.to_be_bytes())
+            .collect();
+        match self.random.within(1, 24) {
+            1 => drop(bytes.pop()),
+            2 => bytes.push(0),
+            3 => bytes.extend([0, 0]),
+            4 => bytes.truncate(bytes.len().saturating_sub(2)),
+            5 => bytes = self.random.bytes(64),
+            _ => {}
+        }
+        bytes
+    }
+
+    fn rows(&mut self, searched: &Searched, size: usize) {
+        let starts = self.starts(searched);
+        let mut after = self.buffers(size);
+        let expected = searched.rows(&starts, &after);
+        let number = library::rows(&searched.file, &starts, &mut after.lent, &mut after.result);
+        let got = outcome(number, after);
+        self.compare("floe_rows", &searched.file, expected, got);
+    }
+
+    fn verdict(&mut self, searched: &Searched) {
+        let starts = self.starts(searched);
+        let mut after = self.buffers(0);
+        let expected = searched.verdict(&starts, &after);
+        let number = library::verdict(&searched.file, &starts, &mut after.result);
+        let got = outcome(number, after);
+        self.compare("door_verdict", &searched.file, expected, got);
+    }
+
+    fn margins(&mut self, searched: &Searched, jobs: usize) {
+        let starts = self.starts(searched);
+        let mut after = self.buffers(4 * jobs);
+        let expected = searched.margins(&starts, &after);
+        let number = library::margins(&searched.file, &starts, &mut after.lent, &mut after.result);
+        let got = outcome(number, after);
+        self.compare("door_margins", &searched.file, expected, got);
+    }
+
+    fn all(&mut self, searched: &Searched) {
+        let (mut jobs, mut size) = (0, 0);
+        if let Ok(request) = &searched.read {
+            jobs = request.jobs.len();
+            size = request.devices.len() * request.horizon as usize;
+        }
+        self.check(searched);
+        self.search(searched, jobs);
+        for _ in 0..3 {
+            self.rows(searched, size);
+            self.verdict(searched);
+            self.margins(searched, jobs);
+        }
+    }
+}
+
+fn outcome(number: u8, after: Buffers) -> Outcome {
+    Outcome {
+        number,
+        lent: after.lent,
+        result: after.result,
+    }
+}
+
+fn test() -> Result<String, String> {
+    let mut tester = Tester {
+        random: Random::new(SEED, STREAM),
+        calls: 0,
+        met: BTreeMap::new(),
+        failure: None,
+    };
+    for number in 0..FILES {
+        let case = draw(SEED, number);
+        // Too long to list; the printing program is tried on such.
+        if case.kind != Kind::OverBudget {
+            tester.all(&Searched::new(case.file));
+        }
+        if let Some(failure) = tester.failure {
+            return Err(failure);
+        }
+    }
+    for ((name, number), count) in &tester.met {
+        println!("{count:7}  {name} {number}");
+    }
+    let is_met = |number: &u8| tester.met.keys().any(|(_, met)| met == number);
+    let missed: Vec<u8> = NUMBERS
+        .chain([255])
+        .filter(|number| !is_met(number))
+        .collect();
+    if !missed.is_empty() {
+        return Err(format!("never met: {missed:?}"));
+    }
+    if tester.calls < LEAST_CALLS {
+        return Err(format!("only {} calls", tester.calls));
+    }
+    Ok(format!("{} calls agree", tester.calls))
+}
+
+fn main() -> ExitCode {
+    match test() {
+        Ok(said) => {
+            println!("calls: {said}");
+            ExitCode::SUCCESS
+        }
+        Err(reason) => {
+            println!("{reason}\ncalls: FAILED");
+            ExitCode::FAILURE
+        }
+    }
+}

@@ -1,0 +1,64 @@
+//! Given start times judged by rules 20 to 23: the plan's energy, or the first fault with its job.
+
+use crate::listing::energy;
+use crate::request::Request;
+use crate::rows::Energies;
+
+/// A refusal number and the job that it names.
+pub type Fault = (u8, usize);
+
+pub fn judge(request: &Request, starts: &[u32]) -> Result<u64, Fault> {
+    let jobs = &request.jobs;
+    for (number, (job, &start)) in jobs.iter().zip(starts).enumerate() {
+        if start < job.release {
+            return Err((16, number));
+        }
+        if start + job.running > job.deadline {
+            return Err((17, number));
+        }
+    }
+    let runs_in =
+        |job: usize, tick: u32| (starts[job]..starts[job] + jobs[job].running).contains(&tick);
+    let meets_another = |job: usize| {
+        let others = (0..jobs.len()).filter(|&other| other != job);
+        let mut ticks = starts[job]..starts[job] + jobs[job].running;
+        others.clone().count() > 0
+            && ticks.any(|tick| others.clone().any(|other| runs_in(other, tick)))
+    };
+    if let Some(job) = (0..jobs.len()).find(|&job| meets_another(job)) {
+        return Err((18, job));
+    }
+    Ok(energy(
+        request,
+        starts,
+        &mut Energies::new(&request.devices),
+    ))
+}
+
+#[cfg(test)]
+mod tests {
+    use super::*;
+    use crate::request::read;
+    use crate::tables::{device_a, job, Tables};
+
+    fn three() -> Request {
+        let tables = Tables {
+            horizon: 9,
+            devices: vec![device_a()],
+            tasks: Vec::new(),
+            jobs: vec![job(1, 9, 2, 1), job(0, 9, 2, 0), job(0, 8, 2, 0)],
+        };
+        read(&tables.bytes()).unwrap()
+    }
+
+    #[test]
+    fn the_first_fault_decides_and_names_its_job() {
+        let judged = |starts: [u32; 3]| judge(&three(), &starts);
+        assert_eq!(judged([0, 8, 8]), Err((16, 0)));
+        assert_eq!(judged([1, 8, 0]), Err((17, 1)));
+        assert_eq!(judged([1, 3, 7]), Err((17, 2)));
+        assert_eq!(judged([1, 5, 4]), Err((18, 1)));
+        assert_eq!(judged([1, 2, 5]), Err((18, 0)));
+        assert!(judged([1, 3, 5]).is_ok());
+    }
+}
