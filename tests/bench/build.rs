@@ -9,13 +9,13 @@ fn main() {
         return;
     }
     let here = env::var("CARGO_MANIFEST_DIR").expect("cargo names the folder of the manifest");
-    let folder = Path::new(&here).join("../../target/staticlib");
-    let library = folder.join("libbench.a");
+    let folder = Path::new(&here).join("../../target/lib");
+    let library = folder.join("libfloebucket.a");
     assert!(
         library.exists(),
-        "there is no target/staticlib/libbench.a: run ./bench at the top, which builds it first"
+        "there is no target/lib/libfloebucket.a: run ./bench at the top, which builds it first"
     );
     println!("cargo:rerun-if-changed={}", library.display());
     println!("cargo:rustc-link-search=native={}", folder.display());
-    println!("cargo:rustc-link-lib=static=bench");
+    println!("cargo:rustc-link-lib=static=floebucket");
 }

@@ -1,13 +1,13 @@
 -- Laws of numbers as bytes.
 -- Assumes nothing.
-use mathlib.Core.Path.{_≡_, refl, sym, subst, _∙_}
+use mathlib.Core.Path.{_≡_, refl, sym, ap, subst, _∙_}
 use mathlib.Core.List.{List, [], _∷_, _++_, append-assoc, append-nil}
 use Prim.Native.Nat.{ℕ, zero, suc, _+_, _*_, _/_, _%_, _≤_, _<_}
 use native.Mathlib.Numerals.{add-one}
 use native.Mathlib.Omega.{arith}
 use lib.ListN.{length, set, take, drop, getD, length-append, drop-of-length-le}
 use lib.Seq.{drop-cons, drop-set-lt, getD-set-same, lt-length-set, take-suc}
-use Rattle.device.proofs.Parts.{Written, written-length, written-front, written-more}
+use Rattle.base.proofs.Filling.{Filled, filled-store, filled-first, filled-part}
 use borrow.Author.Tests.{le-leb, lt-leb}
 use borrow.Rule.Slice.PartMut.{putMid}
 use Rattle.planner.specs.declared.Answer.{Answer}
@@ -37,21 +37,27 @@ unfolding big
 put-done whole part i rest z e = rw (e, z)
 
 -- What is written, said in another way.
-pub written-as : {l₀ front front′ l : List ℕ} {at : ℕ} → Written l₀ at front l → front ≡ front′ → Written l₀ at front′ l
-written-as {l₀} {l = l} {at = at} w e = subst (λ (f : List ℕ). Written l₀ at f l) e w
+pub filled-as : {l₀ front front′ l : List ℕ} {at : ℕ} → Filled l₀ at front l → front ≡ front′ → Filled l₀ at front′ l
+filled-as {l₀} {l = l} {at = at} w e = subst (λ (f : List ℕ). Filled l₀ at f l) e w
 
 -- One start time more.
-pub spread-more : (l : List ℕ) (x : ℕ) → spread (l ++ (x ∷ [])) ≡ spread l ++ big 2 x
+spread-more : (l : List ℕ) (x : ℕ) → spread (l ++ (x ∷ [])) ≡ (spread l ++ (x / 256 ∷ [])) ++ (x % 256 ∷ [])
 unfolding spread
-spread-more [] x = append-nil (big 2 x)
-spread-more (y ∷ l) x = rw (spread-more l x, append-assoc)
+spread-more [] x = refl
+spread-more (y ∷ l) x = rw (spread-more l x)
 
-pub spread-none : (l bytes : List ℕ) → Written bytes 0 (spread (take 0 l)) bytes
+pub spread-none : (l bytes : List ℕ) → Filled bytes 0 (spread (take 0 l)) bytes
 unfolding spread
 spread-none l bytes = record { long = refl; is = refl }
 
-pub spread-next : (l : List ℕ) (j : ℕ) → j < length l → spread (take j l) ++ big 2 (getD l j 0) ≡ spread (take (j + 1) l)
-spread-next l j h = rw (add-one j, take-suc l j 0 h) (sym (spread-more (take j l) (getD l j 0)))
+pub spread-next :
+    (l bytes₀ bytes : List ℕ) (j : ℕ) → j < length l → j * 2 + 2 ≤ length bytes₀ → Filled bytes₀ (j * 2) (spread (take j l)) bytes
+    → Filled bytes₀ ((j + 1) * 2) (spread (take (j + 1) l)) (set (set bytes (j * 2) (getD l j 0 / 256)) (j * 2 + 1) (getD l j 0 % 256))
+spread-next l bytes₀ bytes j h room w =
+    let x = getD l j 0 in
+    let both = filled-store (filled-store w (omega arith) (x / 256)) (omega arith) (x % 256) in
+    let at : j * 2 + 1 + 1 ≡ (j + 1) * 2 = omega arith in
+    rw (← at) (filled-as both (sym (spread-more (take j l) x) ∙ ap spread (sym (rw (add-one j) (take-suc l j 0 h)))))
 
 -- ---- the result buffer
 
@@ -69,8 +75,8 @@ pub told-whole :
     → putMid 7 4 (putMid 3 4 (putMid 1 2 (m₁ ++ drop 1 l) m₂) m₃) m₄ ≡ told a l
 unfolding told
 told-whole a l m₁ m₂ m₃ m₄ h e₁ e₂ e₃ e₄ =
-    let w₁ = written-front (λ n. big n (a .job .0)) (λ n. length-big n (a .job .0)) l 1 (omega arith) m₁ e₁ in
-    let w₂ = written-more (λ n. big n (a .horizon)) (λ n. length-big n (a .horizon)) w₁ 2 3 (omega arith) (omega arith) m₂ e₂ in
-    let w₃ = written-more (λ n. big n (a .energy)) (λ n. length-big n (a .energy)) w₂ 4 7 (omega arith) (omega arith) m₃ e₃ in
-    let w₄ = written-more (λ n. big n (a .count)) (λ n. length-big n (a .count)) w₃ 4 11 (omega arith) (omega arith) m₄ e₄ in
+    let w₁ = filled-first (λ n. big n (a .job .0)) (λ n. length-big n (a .job .0)) l 1 (omega arith) m₁ e₁ in
+    let w₂ = filled-part (λ n. big n (a .horizon)) (λ n. length-big n (a .horizon)) w₁ 2 3 (omega arith) (omega arith) m₂ e₂ in
+    let w₃ = filled-part (λ n. big n (a .energy)) (λ n. length-big n (a .energy)) w₂ 4 7 (omega arith) (omega arith) m₃ e₃ in
+    let w₄ = filled-part (λ n. big n (a .count)) (λ n. length-big n (a .count)) w₃ 4 11 (omega arith) (omega arith) m₄ e₄ in
     rw (le-leb 11 (length l) h) (w₄ .is)

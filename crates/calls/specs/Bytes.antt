@@ -18,7 +18,7 @@ eleven a = ((big 1 (a .job .0) ++ big 2 (a .horizon)) ++ big 4 (a .energy)) ++ b
 -- Start times as two bytes each; and the first n start times of a list of bytes.
 unfoldable pub spread : List ℕ → List ℕ
 spread [] = []
-spread (x ∷ l) = big 2 x ++ spread l
+spread (x ∷ l) = x / 256 ∷ x % 256 ∷ spread l
 
 abbrev pub startsIn : List ℕ → ℕ → List ℕ
 startsIn s n = upTo (λ j. pairAt s (j * 2)) n

@@ -39,8 +39,8 @@ pub fn put_starts(starts: &[u16], bytes: &mut [u8])
     let mut j = 0;
     while j < starts.len() {
         let at = j * 2;
-        let end = at + 2;
-        put(&mut bytes[at..end], starts[j] as u64);
+        bytes[at] = (starts[j] / 256) as u8;
+        bytes[at + 1] = (starts[j] % 256) as u8;
         j += 1;
     }
 }

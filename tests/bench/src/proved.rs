@@ -1,32 +1,39 @@
-//! The proved search, from the static library that `./bench` has built by `rt staticlib bench`.
+//! The proved search, from the library that `./library` builds.
 
 use crate::Outcome;
 
+/// One start time, of two bytes, for each of at most 16 jobs.
+const STARTS: usize = 32;
+const RESULT: usize = 11;
+
 extern "C" {
-    /// Returns the refusal number, and writes energy and count to the 8 bytes of `answer`.
-    fn bench_search(
+    fn floe_search(
         file: *const u8,
         file_len: usize,
         budget: u32,
-        answer: *mut u8,
-        answer_len: usize,
+        starts: *mut u8,
+        starts_len: usize,
+        result: *mut u8,
+        result_len: usize,
     ) -> u8;
 }
 
 pub fn search(file: &[u8], budget: u32) -> Outcome {
-    let mut answer = [0u8; 8];
-    // SAFETY: both pointers come from live buffers and go with their own lengths; the library keeps
-    // neither of them.
+    let (mut starts, mut result) = ([0u8; STARTS], [0u8; RESULT]);
+    // SAFETY: each pointer comes from a live buffer and goes with its own length; no two of them
+    // overlap, and the library keeps none.
     let number = unsafe {
-        bench_search(
+        floe_search(
             file.as_ptr(),
             file.len(),
             budget,
-            answer.as_mut_ptr(),
-            answer.len(),
+            starts.as_mut_ptr(),
+            starts.len(),
+            result.as_mut_ptr(),
+            result.len(),
         )
     };
-    let [a, b, c, d, e, f, g, h] = answer;
+    let [_, _, _, a, b, c, d, e, f, g, h] = result;
     Outcome {
         number,
         energy: u32::from_be_bytes([a, b, c, d]),

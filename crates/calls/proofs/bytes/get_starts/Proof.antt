@@ -1,29 +1,27 @@
 -- `calls::get_starts` meets its contract.
 -- Assumes nothing.
-use mathlib.Core.Path.{_≡_}
-use mathlib.Core.List.{_++_, append-nil}
+use mathlib.Core.Path.{_≡_, ap, _∙_}
 use Prim.Native.Nat.{_≤_, _<_, _-_}
 use native.Mathlib.Omega.{arith}
-use lib.ListN.{length, drop}
-use lib.Seq.{drop-length}
-use Rattle.base.proofs.Arrays.{filled-none, filled-more, filled-length}
+use lib.ListN.{length}
+use Rattle.base.proofs.Filling.{Filled, filled-start, filled-value, filled-whole, filled-length}
 use Rattle.calls.specs.Bytes.{startsIn}
 use borrow.Author.Needs.{needs}
 use Rattle.calls.proofs.bytes.get_starts.Statement.{statement}
 use Rattle.calls.proofs.bytes.get_starts.Tie as tie
 
 abbrev Inv-loop : tie.InvT-loop
-Inv-loop bytes starts₀ j₀ starts j = (j ≤ length starts₀) × (starts ≡ startsIn bytes j ++ drop j starts₀)
+Inv-loop bytes starts₀ j₀ starts j = (j ≤ length starts₀) × Filled starts₀ j (startsIn bytes j) starts
 
 abbrev μ-loop : tie.MeasureT-loop
 μ-loop bytes starts₀ j₀ starts j = length starts₀ - j
 
 -- The list to fill keeps its length.
 long : (c : tie.At-loop Inv-loop μ-loop) → length (c .loop .starts) ≡ length (c .before .before .before .args .starts .now)
-long c = filled-length _ _ _ _ (c .loop .inv .1) (omega arith)
+long c = filled-length (c .loop .inv .1) (omega arith)
 
 loop-holds : tie.Need-loop-holds Inv-loop μ-loop
-loop-holds c = (omega arith, filled-none _ _)
+loop-holds c = (omega arith, filled-start _ _)
 
 mul-pair-at : tie.Need-mul-pair-at Inv-loop μ-loop
 mul-pair-at c = search needs
@@ -46,7 +44,7 @@ loop-less c = omega (arith, long (c .before .before))
 loop-again : tie.Need-loop-again Inv-loop μ-loop
 loop-again c =
     let more : c .before .before .loop .j < length (c .before .before .before .before .before .args .starts .now) = omega (arith, long (c .before .before)) in
-    (omega arith, filled-more _ _ _ _ _ (c .before .before .loop .inv .1) more (c .pair-at .ensures))
+    (omega arith, filled-value _ (c .before .before .loop .inv .1) more _ (c .pair-at .ensures))
 
 same-length : tie.Need-same-length Inv-loop μ-loop
 same-length c = long (c .before)
@@ -54,7 +52,7 @@ same-length c = long (c .before)
 returns : tie.Need-returns Inv-loop μ-loop
 returns c =
     let all : c .before .loop .j ≡ length (c .before .before .before .before .args .starts .now) = omega (arith, long (c .before)) in
-    rw (c .before .loop .inv .1, all, drop-length, append-nil)
+    filled-whole (c .before .loop .inv .1) (omega arith) ∙ ap (startsIn (c .before .before .before .before .args .bytes .now)) all
 
 pub get-starts-spec : {M : Type 1} → statement M
 get-starts-spec =

@@ -1,60 +1,62 @@
 -- `calls::put_starts` meets its contract.
 -- Assumes nothing.
-use mathlib.Core.Path.{_≡_, ap, _∙_}
-use mathlib.Core.List.{_++_}
-use Prim.Native.Nat.{ℕ, _≤_, _<_, _-_, _+_, _*_}
+use mathlib.Core.Path.{_≡_}
+use Prim.Native.Nat.{_≤_, _-_, _+_, _*_}
 use native.Mathlib.Omega.{arith}
-use lib.ListN.{length, take, getD}
+use lib.ListN.{length, take, length-set}
 use lib.Seq.{take-all}
-use Rattle.device.proofs.Parts.{Written, written-length, written-more}
-use Rattle.calls.specs.Bytes.{big, spread}
-use Rattle.calls.proofs.Digits.{length-big, written-as, spread-none, spread-next}
+use Rattle.base.proofs.Filling.{Filled, filled-length}
+use Rattle.calls.specs.Bytes.{spread}
+use Rattle.calls.proofs.Digits.{spread-none, spread-next}
 use borrow.Author.Needs.{needs}
 use Rattle.calls.proofs.bytes.put_starts.Statement.{statement}
 use Rattle.calls.proofs.bytes.put_starts.Tie as tie
 
 abbrev Inv-loop : tie.InvT-loop
-Inv-loop starts bytes₀ j₀ bytes j = (j ≤ length starts) × Written bytes₀ (j * 2) (spread (take j starts)) bytes
+Inv-loop starts bytes₀ j₀ bytes j = (j ≤ length starts) × Filled bytes₀ (j * 2) (spread (take j starts)) bytes
 
 abbrev μ-loop : tie.MeasureT-loop
 μ-loop starts bytes₀ j₀ bytes j = length starts - j
 
 -- The bytes to write keep their length, and the next two are there.
-roomy : (c : tie.In-loop Inv-loop μ-loop) → let s = c .before .before .before .before in
-    (length (c .before .loop .bytes) ≡ length (s .args .bytes .now)) × (c .before .loop .j * 2 + 2 ≤ length (s .args .bytes .now))
+roomy : (c : tie.In-loop Inv-loop μ-loop)
+    → (length (c .before .loop .bytes) ≡ length (c .before .before .args .bytes .now)) × (c .before .loop .j * 2 + 2 ≤ length (c .before .before .args .bytes .now))
 roomy c =
-    let p = c .before .before .before .before .pre in
-    (written-length (c .before .loop .inv .1) (omega arith), omega arith)
+    let p = c .before .before .pre in
+    (filled-length (c .before .loop .inv .1) (omega arith), omega arith)
 
 loop-holds : tie.Need-loop-holds Inv-loop μ-loop
-loop-holds c = (omega arith, spread-none (c .before .before .args .starts .now) (c .before .before .args .bytes .now))
+loop-holds c = (omega arith, spread-none (c .args .starts .now) (c .args .bytes .now))
 
 mul-at : tie.Need-mul-at Inv-loop μ-loop
 mul-at c = search needs
 
-add-end : tie.Need-add-end Inv-loop μ-loop
-add-end c = omega (arith, roomy c)
+mul-bytes : tie.Need-mul-bytes Inv-loop μ-loop
+mul-bytes c = search needs
 
-sub-put : tie.Need-sub-put Inv-loop μ-loop
-sub-put c = omega (arith, roomy c)
+shared-slice-read-bytes : tie.Need-shared-slice-read-bytes Inv-loop μ-loop
+shared-slice-read-bytes c = search needs
 
-part-put-start : tie.Need-part-put-start Inv-loop μ-loop
-part-put-start c = omega (arith, roomy c)
+cast-bytes : tie.Need-cast-bytes Inv-loop μ-loop
+cast-bytes c = record { fits = omega (arith, c .shared-slice-known .given (c .before .before .loop .j)) }
 
-part-put-end : tie.Need-part-put-end Inv-loop μ-loop
-part-put-end c = omega (arith, roomy c)
+slice-write-bytes : tie.Need-slice-write-bytes Inv-loop μ-loop
+slice-write-bytes c = omega (arith, roomy (c .before))
 
-mul-put : tie.Need-mul-put Inv-loop μ-loop
-mul-put c = search needs
+mul-bytes-2 : tie.Need-mul-bytes-2 Inv-loop μ-loop
+mul-bytes-2 c = search needs
 
-shared-slice-read-put : tie.Need-shared-slice-read-put Inv-loop μ-loop
-shared-slice-read-put c = search needs
+shared-slice-read-bytes-2 : tie.Need-shared-slice-read-bytes-2 Inv-loop μ-loop
+shared-slice-read-bytes-2 c = search needs
 
-cast-put : tie.Need-cast-put Inv-loop μ-loop
-cast-put c = record { fits = omega (arith, c .shared-slice-known2 .given (c .before .before .before .loop .j)) }
+cast-bytes-2 : tie.Need-cast-bytes-2 Inv-loop μ-loop
+cast-bytes-2 c = record { fits = omega (arith, c .shared-slice-known2 .given (c .before .before .before .loop .j)) }
 
-put-requires : tie.Need-put-requires Inv-loop μ-loop
-put-requires c κs = search needs
+add-bytes : tie.Need-add-bytes Inv-loop μ-loop
+add-bytes c = omega (arith, roomy (c .before .before))
+
+slice-write-bytes-2 : tie.Need-slice-write-bytes-2 Inv-loop μ-loop
+slice-write-bytes-2 c = simp length-set (omega (arith, roomy (c .before .before)))
 
 add-j : tie.Need-add-j Inv-loop μ-loop
 add-j c = search needs
@@ -63,22 +65,16 @@ loop-less : tie.Need-loop-less Inv-loop μ-loop
 loop-less c = search needs
 
 loop-again : tie.Need-loop-again Inv-loop μ-loop
-loop-again c =
-    let s = c .before .before .before .before .before .before .before .before .before in
-    let l = c .before .before .before .before .before .before .loop in
-    let x = getD (s .args .starts .now) (l .j) 0 in
-    let two : l .j * 2 + 2 - l .j * 2 ≡ 2 = omega arith in
-    let more = written-more (λ n. big n x) (λ n. length-big n x) (l .inv .1) (l .j * 2 + 2 - l .j * 2) ((l .j + 1) * 2) (omega arith) (omega (arith, roomy (c .before .before .before .before .before))) _ (c .before .before .put .ensures) in
-    (omega arith, written-as more (ap (λ (n : ℕ). spread (take (l .j) (s .args .starts .now)) ++ big n x) two ∙ spread-next (s .args .starts .now) (l .j) (omega arith)))
+loop-again c = (omega arith, spread-next (c .before .before .before .before .args .starts .now) (c .before .before .before .before .args .bytes .now) (c .before .before .before .loop .bytes) (c .before .before .before .loop .j) (omega arith) (roomy (c .before .before) .1) (c .before .before .before .loop .inv .1))
 
 same-length : tie.Need-same-length Inv-loop μ-loop
-same-length c = written-length (c .before .loop .inv .1) (omega (arith, c .before .before .before .before .pre))
+same-length c = filled-length (c .before .loop .inv .1) (omega (arith, c .before .before .pre))
 
 returns : tie.Need-returns Inv-loop μ-loop
 returns c =
-    let s = c .before .before .before .before in
-    let all : c .before .loop .j ≡ length (s .args .starts .now) = omega arith in
-    rw (c .before .loop .inv .1 .is, all, take-all (length (s .args .starts .now)) (s .args .starts .now) (omega arith))
+    let s = c .before .before .args .starts .now in
+    let all : c .before .loop .j ≡ length s = omega arith in
+    rw (c .before .loop .inv .1 .is, all, take-all (length s) s (omega arith))
 
 pub put-starts-spec : {M : Type 1} → statement M
 put-starts-spec =
@@ -88,14 +84,15 @@ put-starts-spec =
     μ-loop
     loop-holds
     mul-at
-    add-end
-    sub-put
-    part-put-start
-    part-put-end
-    mul-put
-    shared-slice-read-put
-    cast-put
-    put-requires
+    mul-bytes
+    shared-slice-read-bytes
+    cast-bytes
+    slice-write-bytes
+    mul-bytes-2
+    shared-slice-read-bytes-2
+    cast-bytes-2
+    add-bytes
+    slice-write-bytes-2
     add-j
     loop-less
     loop-again
