@@ -1,0 +1,122 @@
+//! Figures that must come out of the calls: each file and buffer in hex, and what is left of them.
+//! Every buffer is full of AA before the call.
+
+use crate::library;
+
+/// A search's output, an output for rows, and a result buffer that is a byte too short.
+const STARTS: usize = 32;
+const ROWS: usize = 5;
+const SHORT: usize = 10;
+
+const P3: &str = "00050101000500010003000100000005000201";
+const THREE: &str = "0009000003000000090002000000000900020000000009000200";
+
+enum Call {
+    Check,
+    Search { budget: u32, result: usize },
+    Rows { starts: &'static str, room: usize },
+}
+
+struct Figure {
+    name: &'static str,
+    file: &'static str,
+    call: Call,
+    number: u8,
+    result: &'static str,
+    /// What the output begins with; the rest of it is still AA.
+    written: &'static str,
+}
+
+fn figure(
+    name: &'static str,
+    file: &'static str,
+    call: Call,
+    (number, result, written): (u8, &'static str, &'static str),
+) -> Figure {
+    Figure {
+        name,
+        file,
+        call,
+        number,
+        result,
+        written,
+    }
+}
+
+fn table() -> Vec<Figure> {
+    let search = |budget| Call::Search { budget, result: 11 };
+    let rows = |starts, room| Call::Rows { starts, room };
+    vec![
+        figure(
+            "N1",
+            P3,
+            search(1_000_000),
+            (0, "0000050000001100000005", "0000"),
+        ),
+        figure("N2", P3, search(4), (20, "0000000000000000000004", "")),
+        figure(
+            "N4",
+            P3,
+            Call::Search {
+                budget: 1_000_000,
+                result: SHORT,
+            },
+            (15, "aaaaaaaaaaaaaaaaaaaa", ""),
+        ),
+        figure("N5", P3, Call::Check, (0, "0000050000000000000000", "")),
+        figure("N8", "", Call::Check, (1, "0000000000000000000000", "")),
+        figure(
+            "N9",
+            P3,
+            rows("0003", ROWS),
+            (0, "0000050000001100000000", "4453555757"),
+        ),
+        figure(
+            "N11",
+            P3,
+            rows("00", ROWS),
+            (14, "0000000000000000000000", ""),
+        ),
+        figure(
+            "N14",
+            THREE,
+            rows("000000050004", 0),
+            (18, "0100000000000000000000", ""),
+        ),
+    ]
+}
+
+fn bytes(hex: &str) -> Vec<u8> {
+    let byte = |place: usize| u8::from_str_radix(&hex[place..place + 2], 16).expect("hex");
+    (0..hex.len()).step_by(2).map(byte).collect()
+}
+
+fn fails(figure: &Figure) -> bool {
+    let file = bytes(figure.file);
+    let full = |length: usize| vec![0xAA; length];
+    let (mut lent, mut result) = (Vec::new(), full(11));
+    let number = match figure.call {
+        Call::Check => library::check(&file, &mut result),
+        Call::Search {
+            budget,
+            result: room,
+        } => {
+            (lent, result) = (full(STARTS), full(room));
+            library::search(&file, budget, &mut lent, &mut result)
+        }
+        Call::Rows { starts, room } => {
+            lent = full(room);
+            library::rows(&file, &bytes(starts), &mut lent, &mut result)
+        }
+    };
+    let mut after = full(lent.len());
+    let written = bytes(figure.written);
+    after[..written.len()].copy_from_slice(&written);
+    (number, result, lent) != (figure.number, bytes(figure.result), after)
+}
+
+/// The names of those that do not come out.
+pub fn failures() -> Vec<&'static str> {
+    let failing = table().into_iter().filter(fails);
+    failing.map(|figure| figure.name).collect()
+}
