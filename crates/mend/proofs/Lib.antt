@@ -1,0 +1,10 @@
+pub mod Order
+pub mod Queue
+pub mod Outcome
+pub mod Finding
+pub mod Standing
+pub mod Moves
+pub mod Only
+pub mod Promised
+pub mod Laws
+pub mod Figures

@@ -1,0 +1,4 @@
+pub mod Mending
+pub mod Settling
+pub mod Moving
+pub mod Promises
