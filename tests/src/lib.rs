@@ -14,6 +14,7 @@ pub mod faults;
 pub mod fixed;
 pub mod judge;
 pub mod listing;
+pub mod mend;
 pub mod plain;
 pub mod random;
 pub mod request;
