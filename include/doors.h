@@ -18,6 +18,11 @@ uint8_t door_verdict(const uint8_t *file, size_t file_len, const uint8_t *starts
 uint8_t door_margins(const uint8_t *file, size_t file_len, const uint8_t *starts, size_t starts_len, uint8_t *out, size_t out_len, uint8_t *result,
                      size_t result_len);
 
+/* The start times mended. `out`: the new ones by job number, two bytes each. `moved`: six bytes for each job that moved, two each for its number, its given
+ * start and its new one; the count of the answer is how many moved. */
+uint8_t door_mend(const uint8_t *file, size_t file_len, const uint8_t *starts, size_t starts_len, uint8_t *out, size_t out_len, uint8_t *moved,
+                  size_t moved_len, uint8_t *result, size_t result_len);
+
 #ifdef __cplusplus
 }
 #endif

@@ -11,20 +11,20 @@ use planner::Answer;
 use planner::margins;
 use planner::verdict;
 
-const SHUT: u8 = 255;
+pub const SHUT: u8 = 255;
 
-fn is_shut(starts: usize, result: usize) -> bool {
+pub fn is_shut(starts: usize, result: usize) -> bool {
     starts % 2 != 0 || result < RESULT
 }
 
-fn least(a: usize, b: usize) -> usize
+pub fn least(a: usize, b: usize) -> usize
     ensures { λ r. ⌜ r ≡ min a b ⌝ }
 {
     if a < b { a } else { b }
 }
 
 // How many of the start times are handed on: all, or one more than a file can have jobs.
-fn handed(bytes: usize) -> usize
+pub fn handed(bytes: usize) -> usize
     ensures { λ r. ⌜ r ≡ min (bytes / 2) 17 ⌝ }
 {
     least(bytes / 2, 17)

@@ -15,6 +15,7 @@ mod bytes; // bytes.rt: numbers as bytes, the high byte first
 mod paired; // paired.rt: start times as pairs of bytes
 mod results; // results.rt: the result buffer
 pub mod doors; // doors.rt: the other operations, for tests and the benchmark
+pub mod door_mend; // door_mend.rt: mending
 
 // Whether the file is accepted, and its horizon.
 #[no_mangle]

@@ -10,7 +10,7 @@ use outside::visit::visit;
 pub const RESULT: usize = 11;
 
 /// What a door answers to what it does not hand on.
-const SHUT: u8 = 255;
+pub const SHUT: u8 = 255;
 
 #[derive(Clone, Copy, Default)]
 struct Answer {

@@ -40,6 +40,18 @@ mod c {
             r: *mut u8,
             r_len: usize,
         ) -> u8;
+        pub fn door_mend(
+            f: *const u8,
+            f_len: usize,
+            s: *const u8,
+            s_len: usize,
+            o: *mut u8,
+            o_len: usize,
+            m: *mut u8,
+            m_len: usize,
+            r: *mut u8,
+            r_len: usize,
+        ) -> u8;
     }
 }
 
@@ -101,6 +113,23 @@ pub fn margins(file: &[u8], starts: &[u8], out: &mut [u8], result: &mut [u8]) ->
             starts.len(),
             out.as_mut_ptr(),
             out.len(),
+            result.as_mut_ptr(),
+            result.len(),
+        )
+    }
+}
+
+pub fn mend(file: &[u8], starts: &[u8], out: &mut [u8], moved: &mut [u8], result: &mut [u8]) -> u8 {
+    unsafe {
+        c::door_mend(
+            file.as_ptr(),
+            file.len(),
+            starts.as_ptr(),
+            starts.len(),
+            out.as_mut_ptr(),
+            out.len(),
+            moved.as_mut_ptr(),
+            moved.len(),
             result.as_mut_ptr(),
             result.len(),
         )

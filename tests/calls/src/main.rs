@@ -4,6 +4,7 @@
 mod expected;
 mod figures;
 mod library;
+mod mend;
 
 use expected::{Buffers, Outcome, Searched, RESULT};
 use outside::cases::{draw, Kind};
@@ -188,6 +189,10 @@ fn test() -> Result<String, String> {
         if let Some(failure) = tester.failure {
             return Err(failure);
         }
+    }
+    for (number, count) in mend::test()? {
+        tester.calls += count;
+        tester.met.insert(("door_mend", number), count);
     }
     for ((name, number), count) in &tester.met {
         println!("{count:7}  {name} {number}");

@@ -1,0 +1,43 @@
+// The door to mending: two bytes a number, in the given starts, the new ones and the moves.
+use crate::bytes::get_starts;
+use crate::bytes::put_starts;
+use crate::doors::SHUT;
+use crate::doors::handed;
+use crate::doors::is_shut;
+use crate::doors::least;
+use crate::results::tell;
+use mend::mend;
+use planner::Answer;
+
+// What is lent beyond the new starts and the moves stays as it was.
+fn mend_bytes(file: &[u8], given: &[u16], out: &mut [u8], moved: &mut [u8]) -> Answer {
+    let mut starts = [0u16; 16];
+    let mut moves = [0u16; 48];
+    let places = least(out.len() / 2, 16);
+    let numbers = least(moved.len() / 2, 48);
+    let answer = mend(file, given, &mut starts[..places], &mut moves[..numbers]);
+    if answer.number == 0 {
+        let jobs = least(given.len(), places);
+        put_starts(&starts[..jobs], out);
+        let listed = least(answer.count as usize * 3, numbers);
+        put_starts(&moves[..listed], moved);
+    }
+    answer
+}
+
+#[no_mangle]
+pub extern "C" fn door_mend(
+    file: &[u8],
+    starts: &[u8],
+    out: &mut [u8],
+    moved: &mut [u8],
+    result: &mut [u8],
+) -> u8 {
+    if is_shut(starts.len(), result.len()) {
+        return SHUT;
+    }
+    let mut own = [0u16; 17];
+    let n = handed(starts.len());
+    get_starts(starts, &mut own[..n]);
+    tell(mend_bytes(file, &own[..n], out, moved), result)
+}
