@@ -1,0 +1,27 @@
+-- `tables::laying::push_pair` meets its contract.
+-- Assumes nothing.
+use borrow.Author.Needs.{needs}
+use native.Mathlib.Omega.{arith}
+use Rattle.tables.specs.Held.{appended}
+use Rattle.tables.proofs.laying.push_pair.Statement.{statement}
+use Rattle.tables.proofs.laying.push_pair.Tie as tie
+
+cast-push : tie.Need-cast-push
+cast-push c = search needs
+
+push-requires : tie.Need-push-requires
+push-requires c κs = search needs
+
+cast-push-2 : tie.Need-cast-push-2
+cast-push-2 c = search needs
+
+push-requires-2 : tie.Need-push-requires-2
+unfolding appended
+push-requires-2 c κs = rw (c .push .ensures) (omega arith)
+
+returns : tie.Need-returns
+unfolding appended
+returns c = rw (c .push2 .ensures, c .before .push .ensures)
+
+pub push-pair-spec : {M : Type 1} → statement M
+push-pair-spec = tie.close (tie.spec cast-push push-requires cast-push-2 push-requires-2 returns)

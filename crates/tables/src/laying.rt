@@ -1,0 +1,170 @@
+// The bytes of tables, from the first to the last, in an array.
+ghost use mathlib.Core.Path.{_≡_};
+ghost use mathlib.Core.List.{List, [], _∷_, _++_};
+ghost use Prim.Native.Nat.{ℕ, _+_, _*_, _≤_, _<_, min};
+ghost use lib.ListN.{length, drop, getD};
+ghost use Rattle.tables.specs.Records.{pairBytes, deviceBytes, taskBytes, jobBytes, blankDevice, blankTask, blankJob};
+ghost use Rattle.tables.specs.Layout.{deviceIn, taskIn, jobIn, countIn, recordIn, sizeIn, sectionOf, bytesOf};
+ghost use Rattle.tables.specs.Held.{cut, held, appended};
+use crate::DeviceRecord;
+use crate::DeviceTable;
+use crate::File;
+use crate::JobRecord;
+use crate::JobTable;
+use crate::Part;
+use crate::Tables;
+use crate::TaskRecord;
+use crate::TaskTable;
+use crate::listing::blank_device;
+use crate::listing::blank_job;
+use crate::listing::blank_task;
+
+fn empty() -> File
+    ensures { λ r. ⌜ r ≡ held [] ⌝ }
+{
+    File {
+        count: 0,
+        bytes: [0; 232],
+    }
+}
+
+fn push(f: File, byte: u8) -> File
+    requires { ⌜ f .count < 232 ⌝ }
+    ensures { λ r. ⌜ r ≡ appended f (byte ∷ []) ⌝ }
+{
+    let n = f.count;
+    let mut out = f;
+    out.bytes[n] = byte;
+    out.count = n + 1;
+    out
+}
+
+fn push_pair(f: File, number: u16) -> File
+    requires { ⌜ f .count + 2 ≤ 232 ⌝ }
+    ensures { λ r. ⌜ r ≡ appended f (pairBytes number) ⌝ }
+{
+    let high = push(f, (number / 256) as u8);
+    push(high, (number % 256) as u8)
+}
+
+fn push_device(f: File, d: DeviceRecord) -> File
+    requires { ⌜ f .count + 7 ≤ 232 ⌝ }
+    ensures { λ r. ⌜ r ≡ appended f (deviceBytes d) ⌝ }
+{
+    let a = push(f, d.t);
+    let b = push_pair(a, d.pw);
+    let c = push_pair(b, d.ps);
+    push_pair(c, d.p0)
+}
+
+fn push_task(f: File, k: TaskRecord) -> File
+    requires { ⌜ f .count + 5 ≤ 232 ⌝ }
+    ensures { λ r. ⌜ r ≡ appended f (taskBytes k) ⌝ }
+{
+    let a = push_pair(f, k.period);
+    let b = push_pair(a, k.run);
+    push(b, k.set)
+}
+
+fn push_job(f: File, j: JobRecord) -> File
+    requires { ⌜ f .count + 7 ≤ 232 ⌝ }
+    ensures { λ r. ⌜ r ≡ appended f (jobBytes j) ⌝ }
+{
+    let a = push_pair(f, j.release);
+    let b = push_pair(a, j.deadline);
+    let c = push_pair(b, j.run);
+    push(c, j.set)
+}
+
+// The record of a number. One past the end of the list is blank.
+fn device_of(t: DeviceTable, k: usize) -> DeviceRecord
+    ensures { λ r. ⌜ r ≡ getD (t .list) k blankDevice ⌝ }
+{
+    if k < 8 { t.list[k] } else { blank_device() }
+}
+
+fn task_of(t: TaskTable, i: usize) -> TaskRecord
+    ensures { λ r. ⌜ r ≡ getD (t .list) i blankTask ⌝ }
+{
+    if i < 8 { t.list[i] } else { blank_task() }
+}
+
+fn job_of(t: JobTable, j: usize) -> JobRecord
+    ensures { λ r. ⌜ r ≡ getD (t .list) j blankJob ⌝ }
+{
+    if j < 16 { t.list[j] } else { blank_job() }
+}
+
+fn push_record(f: File, t: Tables, part: Part, k: usize) -> File
+    requires { ⌜ f .count + sizeIn part ≤ 232 ⌝ }
+    ensures { λ r. ⌜ r ≡ appended f (recordIn t part k) ⌝ }
+{
+    match part {
+        Part::Devices => {
+            let devices = t.devices;
+            push_device(f, device_of(devices, k))
+        }
+        Part::Tasks => {
+            let tasks = t.tasks;
+            push_task(f, task_of(tasks, k))
+        }
+        Part::Jobs => {
+            let jobs = t.jobs;
+            push_job(f, job_of(jobs, k))
+        }
+    }
+}
+
+fn at_most(n: usize, limit: usize) -> usize
+    ensures { λ r. ⌜ r ≡ min n limit ⌝ }
+{
+    if limit < n { limit } else { n }
+}
+
+// The count of a table, as far as it matters: one above the limit stands for all above it.
+fn count_of(t: Tables, part: Part) -> usize
+    ensures { λ r. ⌜ r ≡ countIn (cut t) part ⌝ }
+{
+    match part {
+        Part::Devices => at_most(t.devices.count, 9),
+        Part::Tasks => at_most(t.tasks.count, 9),
+        Part::Jobs => at_most(t.jobs.count, 17),
+    }
+}
+
+// A table after its count.
+fn push_section(f: File, t: Tables, part: Part) -> File
+    requires { ⌜ f .count + 1 + countIn (cut t) part * sizeIn part ≤ 232 ⌝ }
+    ensures { λ r. ⌜ r ≡ appended f (sectionOf (cut t) part) ⌝ }
+{
+    let n = count_of(t, part);
+    let mut out = push(f, n as u8);
+    let mut k: usize = 0;
+    while k < n {
+        out = push_record(out, t, part, k);
+        k += 1;
+    }
+    out
+}
+
+// The file that the tables make.
+pub fn file_of(t: Tables) -> File
+    ensures { λ r. ⌜ r ≡ held (bytesOf (cut t)) ⌝ }
+{
+    let a = push_pair(empty(), t.horizon);
+    let b = push_section(a, t, Part::Devices);
+    let c = push_section(b, t, Part::Tasks);
+    push_section(c, t, Part::Jobs)
+}
+
+// Writes bytes to the front of a lent buffer, and keeps what follows them.
+pub fn copy(s: &[u8], out: &mut [u8])
+    requires { ⌜ length (now s) ≤ length (now out) ⌝ }
+    ensures { λ r. ⌜ now (out .exit) ≡ now (s .entry) ++ drop (length (now (s .entry))) (now (out .entry)) ⌝ }
+{
+    let mut i: usize = 0;
+    while i < s.len() {
+        out[i] = s[i];
+        i += 1;
+    }
+}

@@ -1,0 +1,72 @@
+// What a request file says, as numbers: its tables. They are read from the bytes of a file and laid out as one; whether they can be planned with is for
+// crate request to judge, from the bytes.
+mod laying; // laying.rt: the bytes of tables, from the first to the last
+mod listing; // listing.rt: the tables of a file
+
+pub use crate::laying::copy;
+pub use crate::laying::file_of;
+pub use crate::listing::device_at;
+pub use crate::listing::job_at;
+pub use crate::listing::no_tables;
+pub use crate::listing::tables_in;
+pub use crate::listing::task_at;
+
+// A device as the file gives it: transition time, and the powers working, sleeping and moving.
+pub struct DeviceRecord {
+    pub t: u8,
+    pub pw: u16,
+    pub ps: u16,
+    pub p0: u16,
+}
+
+// A task as the file gives it: period, running time, and its device set, a bit for each device.
+pub struct TaskRecord {
+    pub period: u16,
+    pub run: u16,
+    pub set: u8,
+}
+
+// A job as the file gives it: release, deadline, running time and device set.
+pub struct JobRecord {
+    pub release: u16,
+    pub deadline: u16,
+    pub run: u16,
+    pub set: u8,
+}
+
+// A table is the first `count` records of its list. The count may be larger than the list: then there are too many.
+pub struct DeviceTable {
+    pub count: usize,
+    pub list: [DeviceRecord; 8],
+}
+
+pub struct TaskTable {
+    pub count: usize,
+    pub list: [TaskRecord; 8],
+}
+
+pub struct JobTable {
+    pub count: usize,
+    pub list: [JobRecord; 16],
+}
+
+// The horizon field is 0 where there are tasks.
+pub struct Tables {
+    pub horizon: u16,
+    pub devices: DeviceTable,
+    pub tasks: TaskTable,
+    pub jobs: JobTable,
+}
+
+// One of the three tables.
+pub enum Part {
+    Devices,
+    Tasks,
+    Jobs,
+}
+
+// A file in an array: its first `count` bytes.
+pub struct File {
+    pub count: usize,
+    pub bytes: [u8; 232],
+}
