@@ -20,7 +20,9 @@ use Rattle.schedule.specs.declared.Recorder.{Recorder}
 use Rattle.schedule.specs.Quantities.{noJob, noDevice, Valid}
 use Rattle.request.specs.declared.Request.{Request}
 use Rattle.request.specs.declared.Section.the-variants.{DeviceRecords}
-use Rattle.request.specs.Format.{Reading, refused, accepted, deviceAt, deviceTable, recordTable, recordFault, horizonOf, jobsOf, countOf, faultOf, taskCount, tasksPlace, jobsPlace, horizonIn, devicesIn, jobsIn, emptyJob, recorderIn, readOf, handedOn}
+use Rattle.tables.specs.Records.{deviceAt}
+use Rattle.tables.specs.Layout.{taskCount, tasksPlace, jobsPlace}
+use Rattle.request.specs.Format.{Reading, refused, accepted, deviceOf, deviceTable, recordTable, recordFault, horizonOf, jobsOf, countOf, faultOf, horizonIn, devicesIn, jobsIn, emptyJob, recorderIn, readOf, handedOn}
 use Rattle.request.proofs.Checked.{record-clear}
 use Rattle.request.proofs.Faultless.{Faultless, faultless, length-jobs, jobs-end}
 use Rattle.request.proofs.Fitting.{Fits, listed-fit, unfolded-fit}
@@ -29,7 +31,7 @@ use Rattle.request.proofs.Multiples.{horizon-multiple}
 
 -- ---- the recorder of a file without a fault
 
-device-sound : (s : List ℕ) (at : ℕ) → 0 ≡ recordFault s DeviceRecords at → Sound (deviceAt s at)
+device-sound : (s : List ℕ) (at : ℕ) → 0 ≡ recordFault s DeviceRecords at → Sound (deviceOf (deviceAt s at))
 unfolding recordTable deviceTable
 device-sound s at e =
     let d = deviceAt s at in

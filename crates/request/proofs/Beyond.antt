@@ -12,11 +12,12 @@ use lib.Dec.{ltb, eqb}
 use borrow.Author.Tests.{lt-ltb, le-ltb, lt-leb, ltb-false}
 use Rattle.base.specs.Bytes.{byteAt, pairAt}
 use Rattle.base.specs.Refusals.{firstThat, orElse, firstOf}
-use Rattle.request.specs.declared.Task.{Task}
+use Rattle.tables.specs.declared.TaskRecord.{TaskRecord}
 use Rattle.request.specs.declared.Section.{Section}
 use Rattle.request.specs.declared.Section.the-variants.{DeviceRecords, TaskRecords, JobRecords}
 use Rattle.request.specs.Euclid.{lcmOf}
-use Rattle.request.specs.Format.{taskAt, deviceTable, sizeOf, recordTable, recordFault, recordsFault, lcmFrom, horizonOf, released, releasedAt, unfolded, mixed, countOf, jobRecords, jobSection, taskSection, faultOf, refused, readOf}
+use Rattle.tables.specs.Records.{taskAt}
+use Rattle.request.specs.Format.{deviceTable, sizeOf, recordTable, recordFault, recordsFault, lcmFrom, horizonOf, released, releasedAt, unfolded, mixed, countOf, jobRecords, jobSection, taskSection, faultOf, refused, readOf}
 use Rattle.request.proofs.Checked.{record-there}
 use Rattle.request.proofs.Faultless.{jobs-end, read-faultless, read-fault}
 use Rattle.request.proofs.Accepted.{accepted-short}
@@ -71,7 +72,7 @@ module _ (s s′ : List ℕ) (a : Alike s s′) where
   unfolding releasedAt
   released-same zero from t l = refl
   released-same (suc n) from t l =
-      rw (released-same n from t (omega arith)) (ap (λ (k : Task). releasedAt s′ n from t ++ released k t) (task-same (from + n * 5) (omega arith)))
+      rw (released-same n from t (omega arith)) (ap (λ (k : TaskRecord). releasedAt s′ n from t ++ released k t) (task-same (from + n * 5) (omega arith)))
 
   unfolded-same : (n from t : ℕ) → from + n * 5 ≤ 174 → unfolded s n from t ≡ unfolded s′ n from t
   unfolding unfolded

@@ -16,7 +16,8 @@ use Rattle.base.proofs.Clear.{passed}
 use Rattle.base.proofs.Records.{orElse-zero}
 use Rattle.schedule.specs.declared.Job.{Job}
 use Rattle.request.specs.declared.Section.the-variants.{DeviceRecords, TaskRecords, JobRecords}
-use Rattle.request.specs.Format.{recordsFault, horizonOf, unfolded, listed, jobsOf, mixed, countOf, jobRecords, jobSection, taskSection, faultOf, tasksPlace, taskCount, jobsPlace, recorderIn, readOf, refused, accepted}
+use Rattle.tables.specs.Layout.{tasksPlace, taskCount, jobsPlace}
+use Rattle.request.specs.Format.{recordsFault, horizonOf, unfolded, listed, jobsOf, mixed, countOf, jobRecords, jobSection, taskSection, faultOf, recorderIn, readOf, refused, accepted}
 
 -- From the job count on, which stands at a place.
 pub record JobsFaultless (s : List ℕ) (n tasks from at : ℕ) : Type 0 where

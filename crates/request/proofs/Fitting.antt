@@ -15,7 +15,8 @@ use Rattle.base.proofs.Every.{Every, every-append, every-upTo}
 use Rattle.base.proofs.Records.{first-each}
 use Rattle.schedule.specs.declared.Job.{Job}
 use Rattle.request.specs.declared.Section.the-variants.{TaskRecords, JobRecords}
-use Rattle.request.specs.Format.{taskAt, jobAt, taskTable, jobTable, recordTable, recordFault, recordsFault, jobOf, released, releasedAt, unfolded, listed}
+use Rattle.tables.specs.Records.{taskAt, jobAt}
+use Rattle.request.specs.Format.{taskTable, jobTable, recordTable, recordFault, recordsFault, listedJob, jobOf, released, releasedAt, unfolded, listed}
 use Rattle.request.proofs.Bits.{known-bits}
 use Rattle.request.proofs.Checked.{record-clear}
 
@@ -28,7 +29,7 @@ pub record Fits (h n : ℕ) (j : Job) : Type 0 where
 
 -- ---- listed jobs
 
-job-fits : (s : List ℕ) (n h at : ℕ) → 0 ≡ recordFault s (JobRecords n h) at → Fits h n (jobAt s at)
+job-fits : (s : List ℕ) (n h at : ℕ) → 0 ≡ recordFault s (JobRecords n h) at → Fits h n (listedJob (jobAt s at))
 unfolding recordTable jobTable
 job-fits s n h at e =
     let j = jobAt s at in
@@ -42,7 +43,7 @@ job-fits s n h at e =
 
 pub listed-fit : (s : List ℕ) (n h count at : ℕ) → 0 ≡ recordsFault s (JobRecords n h) count at → Every (Fits h n) (listed s count at)
 listed-fit s n h count at e =
-    every-upTo (Fits h n) (λ (j : ℕ). jobAt s (at + j * 7)) count (λ j l. job-fits s n h (at + j * 7) (first-each (recordFault s (JobRecords n h)) 7 count at j l e))
+    every-upTo (Fits h n) (λ (j : ℕ). listedJob (jobAt s (at + j * 7))) count (λ j l. job-fits s n h (at + j * 7) (first-each (recordFault s (JobRecords n h)) 7 count at j l e))
 
 -- ---- unfolded jobs
 

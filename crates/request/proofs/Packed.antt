@@ -13,8 +13,9 @@ use lib.Dec.{eqb}
 use borrow.Author.Tests.{lt-ltb, le-ltb}
 use Rattle.base.proofs.Arrays.{padded-more, padded-full}
 use Rattle.schedule.specs.declared.Job.{Job}
-use Rattle.request.specs.declared.Task.{Task}
-use Rattle.request.specs.Format.{taskAt, jobOf, released, releasedAt, unfolded, emptyJob, jobsHeld}
+use Rattle.tables.specs.declared.TaskRecord.{TaskRecord}
+use Rattle.tables.specs.Records.{taskAt}
+use Rattle.request.specs.Format.{jobOf, released, releasedAt, unfolded, emptyJob, jobsHeld}
 use Rattle.request.specs.Held.{packed, pushed, releasedTo}
 
 push-small : (l : List Job) (j : Job) → length l < 16 → pushed (packed l) j ≡ packed (l ++ (j ∷ []))
@@ -38,7 +39,7 @@ release-cases : (t : Bool) (l : List Job) (j : Job) → cond t (pushed (packed l
 release-cases true l j = packed-push l j
 release-cases false l j = rw append-nil
 
-packed-released : (l : List Job) (k : Task) (t : ℕ) → releasedTo (packed l) k t ≡ packed (l ++ released k t)
+packed-released : (l : List Job) (k : TaskRecord) (t : ℕ) → releasedTo (packed l) k t ≡ packed (l ++ released k t)
 unfolding releasedTo
 packed-released l k t = release-cases (eqb (t % k .period) 0) l (jobOf k t)
 

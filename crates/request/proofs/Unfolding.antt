@@ -1,4 +1,4 @@
--- Task i gives H / p jobs, released at 0, p, 2p and so on: the unfolded jobs are those of the tasks, whatever is counted or summed over them.
+-- TaskRecord i gives H / p jobs, released at 0, p, 2p and so on: the unfolded jobs are those of the tasks, whatever is counted or summed over them.
 -- Assumes nothing.
 use mathlib.Core.Path.{_≡_, refl, sym, ap, _∙_}
 use mathlib.Core.Bool.{false}
@@ -15,23 +15,25 @@ use Rattle.base.specs.Sums.{total, sum}
 use Rattle.base.proofs.Additions.{total-append, total-low, total-high, sum-same}
 use Rattle.base.proofs.Arrays.{length-upTo}
 use Rattle.schedule.specs.declared.Job.{Job}
-use Rattle.request.specs.declared.Task.{Task}
-use Rattle.request.specs.Format.{taskAt, jobOf, released, releasedAt, unfolded, horizonOf, jobsOf, faultOf, taskCount, tasksPlace, horizonIn, jobsIn}
+use Rattle.tables.specs.declared.TaskRecord.{TaskRecord}
+use Rattle.tables.specs.Records.{taskAt}
+use Rattle.tables.specs.Layout.{taskCount, tasksPlace}
+use Rattle.request.specs.Format.{jobOf, released, releasedAt, unfolded, horizonOf, jobsOf, faultOf, horizonIn, jobsIn}
 use Rattle.request.proofs.Checked.{tasks-sound}
 use Rattle.request.proofs.Faultless.{faultless}
 use Rattle.request.proofs.Multiples.{horizon-multiple}
 
 -- The jobs of one task: H / p of them, job m released at m p.
-abbrev pub jobsOfTask : Task → ℕ → List Job
+abbrev pub jobsOfTask : TaskRecord → ℕ → List Job
 jobsOfTask k h = upTo (λ m. jobOf k (m * k .period)) (h / k .period)
 
 -- ---- one task, tick by tick
 
-unfoldable before : Task → ℕ → List Job
+unfoldable before : TaskRecord → ℕ → List Job
 before k zero = []
 before k (suc t) = before k t ++ released k t
 
-module _ (k : Task) where
+module _ (k : TaskRecord) where
   -- A period's first tick releases a job, and its other ticks none.
   at-multiple : (m : ℕ) → released k (m * k .period) ≡ jobOf k (m * k .period) ∷ []
   at-multiple m = rw (eq-eqb (m * k .period % k .period) 0 (mul-mod-left m (k .period)))
@@ -70,7 +72,7 @@ sum-both zero f g = refl
 sum-both (suc n) f g = omega (arith, sum-both n f g)
 
 module _ (f : Job → ℕ) (s : List ℕ) (from : ℕ) where
-  abbrev task : ℕ → Task
+  abbrev task : ℕ → TaskRecord
   task i = taskAt s (from + i * 5)
 
   tick-total : (n t : ℕ) → total f (releasedAt s n from t) ≡ sum n (λ i. total f (released (task i) t))
@@ -99,7 +101,7 @@ jobs-by-task s e some f =
     sum-same (taskCount s) _ _ (λ i l. ap (total f) (before-is (taskAt s (from + i * 5)) _ (sound .periods i l .0) (horizon-multiple s (taskCount s) from i l))))
 
 -- of which task i gives H / p;
-pub jobs-of-task : (k : Task) (h : ℕ) → length (jobsOfTask k h) ≡ h / k .period
+pub jobs-of-task : (k : TaskRecord) (h : ℕ) → length (jobsOfTask k h) ≡ h / k .period
 jobs-of-task k h = length-upTo _ (h / k .period)
 
 length-total : (l : List Job) → total (λ j. 1) l ≡ length l

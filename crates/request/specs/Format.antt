@@ -15,8 +15,12 @@ use Rattle.schedule.specs.declared.Jobs.{Jobs}
 use Rattle.schedule.specs.declared.Devices.{Devices}
 use Rattle.schedule.specs.declared.Recorder.{Recorder}
 use Rattle.schedule.specs.Quantities.{noDevice}
+use Rattle.tables.specs.declared.DeviceRecord.{DeviceRecord}
+use Rattle.tables.specs.declared.TaskRecord.{TaskRecord}
+use Rattle.tables.specs.declared.JobRecord.{JobRecord}
+use Rattle.tables.specs.Records.{deviceAt, taskAt, jobAt}
+use Rattle.tables.specs.Layout.{tasksPlace, taskCount, jobsPlace}
 use Rattle.request.specs.declared.Request.{Request}
-use Rattle.request.specs.declared.Task.{Task}
 use Rattle.request.specs.declared.Section.{Section}
 use Rattle.request.specs.declared.Section.the-variants.{DeviceRecords, TaskRecords, JobRecords}
 use Rattle.request.specs.Euclid.{lcmOf}
@@ -26,7 +30,7 @@ pub data Reading : Type 0 where
   refused : ℕ → Reading
   accepted : Recorder → Reading
 
--- ---- the records at a place
+-- ---- what is planned with: of a record that stands at a place (tables/specs/Records)
 
 -- A device set has one bit a device, device 0 in the lowest (rule 14).
 abbrev pub bit : ℕ → ℕ → Bool
@@ -35,21 +39,15 @@ bit set k = eqb (set / 2 ^ k % 2) 1
 abbrev pub setOf : ℕ → List Bool
 setOf set = upTo (bit set) 8
 
--- A device's seven bytes: its transition time, then its powers working, asleep and moving (rule 11).
-abbrev pub deviceAt : List ℕ → ℕ → Device
-deviceAt s at = record { t = byteAt s at; pw = pairAt s (at + 1); ps = pairAt s (at + 3); p0 = pairAt s (at + 5) }
+abbrev pub deviceOf : DeviceRecord → Device
+deviceOf d = record { t = d .t; pw = d .pw; ps = d .ps; p0 = d .p0 }
 
--- A task's five: its period, its running time, its device set (rule 12).
-abbrev pub taskAt : List ℕ → ℕ → Task
-taskAt s at = record { period = pairAt s at; run = pairAt s (at + 2); uses = setOf (byteAt s (at + 4)) }
-
--- A job's seven: its release, its deadline, its running time, its device set (rule 13).
-abbrev pub jobAt : List ℕ → ℕ → Job
-jobAt s at = record { release = pairAt s at; deadline = pairAt s (at + 2); run = pairAt s (at + 4); uses = setOf (byteAt s (at + 6)) }
+abbrev pub listedJob : JobRecord → Job
+listedJob j = record { release = j .release; deadline = j .deadline; run = j .run; uses = setOf (j .set) }
 
 -- ---- what refuses a record that is there: its lines stand by number (rule 15)
 
-unfoldable pub deviceTable : Device → List Refusal
+unfoldable pub deviceTable : DeviceRecord → List Refusal
 deviceTable d =
     (eqb (d .t) 0 ⇒ 4)
     ∷ (leb (d .p0) (d .ps) ⇒ 5)
@@ -60,18 +58,18 @@ deviceTable d =
 unfoldable pub lacks : ℕ → ℕ → Bool
 lacks n set = leb (2 ^ n) set
 
-unfoldable pub taskTable : ℕ → ℕ → Task → List Refusal
-taskTable n set k =
+unfoldable pub taskTable : ℕ → TaskRecord → List Refusal
+taskTable n k =
     (eqb (k .period) 0 ⇒ 7)
     ∷ (ltb 4096 (k .period) ⇒ 7)
     ∷ (eqb (k .run) 0 ⇒ 8)
     ∷ (ltb (k .period) (k .run) ⇒ 8)
-    ∷ (lacks n set ⇒ 9)
+    ∷ (lacks n (k .set) ⇒ 9)
     ∷ []
 
-unfoldable pub jobTable : ℕ → ℕ → ℕ → Job → List Refusal
-jobTable n h set j =
-    (lacks n set ⇒ 9)
+unfoldable pub jobTable : ℕ → ℕ → JobRecord → List Refusal
+jobTable n h j =
+    (lacks n (j .set) ⇒ 9)
     ∷ (eqb (j .run) 0 ⇒ 13)
     ∷ (ltb (j .deadline) (j .release + j .run) ⇒ 13)
     ∷ (ltb h (j .deadline) ⇒ 13)
@@ -85,8 +83,8 @@ sizeOf (JobRecords n h) = 7
 
 unfoldable pub recordTable : List ℕ → Section → ℕ → List Refusal
 recordTable s DeviceRecords at = deviceTable (deviceAt s at)
-recordTable s (TaskRecords n) at = taskTable n (byteAt s (at + 4)) (taskAt s at)
-recordTable s (JobRecords n h) at = jobTable n h (byteAt s (at + 6)) (jobAt s at)
+recordTable s (TaskRecords n) at = taskTable n (taskAt s at)
+recordTable s (JobRecords n h) at = jobTable n h (jobAt s at)
 
 -- A record that is not all there is 1, before anything in it is judged; and the records of a section in turn (rule 15).
 unfoldable pub recordFault : List ℕ → Section → ℕ → ℕ
@@ -109,11 +107,11 @@ horizonOf s tasks from = cond (eqb tasks 0) (pairAt s 0) (lcmFrom s tasks from 1
 -- ---- the jobs
 
 -- A task's job that is released at t: it is due when the next one is released (rule 8).
-abbrev pub jobOf : Task → ℕ → Job
-jobOf k t = record { release = t; deadline = t + k .period; run = k .run; uses = k .uses }
+abbrev pub jobOf : TaskRecord → ℕ → Job
+jobOf k t = record { release = t; deadline = t + k .period; run = k .run; uses = setOf (k .set) }
 
 -- What a task releases at t: one job at each multiple of its period (rule 8; proofs/Unfolding: H / p of them).
-abbrev pub released : Task → ℕ → List Job
+abbrev pub released : TaskRecord → ℕ → List Job
 released k t = cond (eqb (t % k .period) 0) (jobOf k t ∷ []) []
 
 -- What the first n tasks release at t, by task number; and before h, by release. A job's number is its place in this list (rule 6).
@@ -127,7 +125,7 @@ unfolded s n from (suc t) = unfolded s n from t ++ releasedAt s n from t
 
 -- n jobs listed from a place on.
 abbrev pub listed : List ℕ → ℕ → ℕ → List Job
-listed s n at = upTo (λ j. jobAt s (at + j * 7)) n
+listed s n at = upTo (λ j. listedJob (jobAt s (at + j * 7))) n
 
 -- Given, or unfolded from the tasks: `at` is the place of the job count.
 unfoldable pub jobsOf : List ℕ → ℕ → ℕ → ℕ → List Job
@@ -177,20 +175,11 @@ faultOf s =
 
 -- ---- what a file without a fault says
 
-abbrev pub tasksPlace : List ℕ → ℕ
-tasksPlace s = 3 + byteAt s 2 * 7
-
-abbrev pub taskCount : List ℕ → ℕ
-taskCount s = byteAt s (tasksPlace s)
-
-abbrev pub jobsPlace : List ℕ → ℕ
-jobsPlace s = tasksPlace s + 1 + taskCount s * 5
-
 abbrev pub horizonIn : List ℕ → ℕ
 horizonIn s = horizonOf s (taskCount s) (tasksPlace s + 1)
 
 abbrev pub devicesIn : List ℕ → List Device
-devicesIn s = upTo (λ k. deviceAt s (3 + k * 7)) (byteAt s 2)
+devicesIn s = upTo (λ k. deviceOf (deviceAt s (3 + k * 7))) (byteAt s 2)
 
 abbrev pub jobsIn : List ℕ → List Job
 jobsIn s = jobsOf s (taskCount s) (tasksPlace s + 1) (jobsPlace s)

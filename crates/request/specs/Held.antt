@@ -9,7 +9,7 @@ use Rattle.base.specs.Bytes.{pairAt}
 use Rattle.base.specs.Lists.{padded}
 use Rattle.schedule.specs.declared.Job.{Job}
 use Rattle.schedule.specs.declared.Jobs.{Jobs}
-use Rattle.request.specs.declared.Task.{Task}
+use Rattle.tables.specs.declared.TaskRecord.{TaskRecord}
 use Rattle.request.specs.Format.{emptyJob, jobOf}
 
 -- n tasks whose records begin at a place: they are there, and each period is from 1 to 4,096.
@@ -30,5 +30,5 @@ pushed js j =
     (record { count = 17; list = js .list })
 
 -- With what a task releases at t.
-unfoldable pub releasedTo : Jobs → Task → ℕ → Jobs
+unfoldable pub releasedTo : Jobs → TaskRecord → ℕ → Jobs
 releasedTo js k t = cond (eqb (t % k .period) 0) (pushed js (jobOf k t)) js

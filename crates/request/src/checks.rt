@@ -5,12 +5,11 @@ ghost use lib.ListN.{length};
 ghost use Rattle.base.specs.Refusals.{firstThat};
 ghost use Rattle.request.specs.Format.{deviceTable, taskTable, jobTable, lacks, sizeOf, recordFault, recordsFault};
 use super::Section;
-use super::Task;
-use super::records;
-use device::Device;
-use schedule::Job;
+use tables::DeviceRecord;
+use tables::JobRecord;
+use tables::TaskRecord;
 
-fn device_check(d: Device) -> u8
+fn device_check(d: DeviceRecord) -> u8
     ensures { λ r. ⌜ r ≡ firstThat (deviceTable d) ⌝ }
 {
     if d.t == 0 {
@@ -43,8 +42,8 @@ fn set_lacks(n: usize, set: u8) -> bool
     power(n) <= set as u32
 }
 
-fn task_check(n: usize, set: u8, k: Task) -> u8
-    ensures { λ r. ⌜ r ≡ firstThat (taskTable n set k) ⌝ }
+fn task_check(n: usize, k: TaskRecord) -> u8
+    ensures { λ r. ⌜ r ≡ firstThat (taskTable n k) ⌝ }
 {
     if k.period == 0 {
         return 7;
@@ -58,14 +57,14 @@ fn task_check(n: usize, set: u8, k: Task) -> u8
     if k.period < k.run {
         return 8;
     }
-    if set_lacks(n, set) { 9 } else { 0 }
+    if set_lacks(n, k.set) { 9 } else { 0 }
 }
 
 // The release and the running time may add up to more than 16 bits hold.
-fn job_check(n: usize, h: u32, set: u8, j: Job) -> u8
-    ensures { λ r. ⌜ r ≡ firstThat (jobTable n h set j) ⌝ }
+fn job_check(n: usize, h: u32, j: JobRecord) -> u8
+    ensures { λ r. ⌜ r ≡ firstThat (jobTable n h j) ⌝ }
 {
-    if set_lacks(n, set) {
+    if set_lacks(n, j.set) {
         return 9;
     }
     if j.run == 0 {
@@ -100,9 +99,9 @@ fn record_fault(s: &[u8], k: Section, at: usize) -> u8
         return 1;
     }
     match k {
-        Section::DeviceRecords => device_check(records::device_at(s, at)),
-        Section::TaskRecords(n) => task_check(n, s[at + 4], records::task_at(s, at)),
-        Section::JobRecords(n, h) => job_check(n, h, s[at + 6], records::job_at(s, at)),
+        Section::DeviceRecords => device_check(tables::device_at(s, at)),
+        Section::TaskRecords(n) => task_check(n, tables::task_at(s, at)),
+        Section::JobRecords(n, h) => job_check(n, h, tables::job_at(s, at)),
     }
 }
 

@@ -4,14 +4,15 @@ ghost use mathlib.Core.List.{[]};
 ghost use Prim.Native.Nat.{ℕ, _+_, _*_, _≤_, _<_};
 ghost use lib.ListN.{length, set};
 ghost use Rattle.base.specs.Bytes.{byteAt, pairAt};
-ghost use Rattle.request.specs.Format.{horizonOf, taskAt, jobOf, unfolded, listed, jobsOf};
+ghost use Rattle.tables.specs.Records.{taskAt};
+ghost use Rattle.request.specs.Format.{horizonOf, jobOf, unfolded, listed, jobsOf};
 ghost use Rattle.request.specs.Held.{SoundTasks, packed, pushed, releasedTo};
-use super::Task;
 use super::records;
 use base::JobNumber;
 use base::TaskNumber;
 use schedule::Job;
 use schedule::Jobs;
+use tables::TaskRecord;
 
 pub(crate) fn no_jobs() -> Jobs
     ensures { λ r. ⌜ r ≡ packed [] ⌝ }
@@ -53,16 +54,15 @@ fn push(js: Jobs, j: Job) -> Jobs
 }
 
 // The job that a task releases at t: due one period later.
-fn job_of(k: Task, t: u32) -> Job
+fn job_of(k: TaskRecord, t: u32) -> Job
     requires { ⌜ t + k .period < 65536 ⌝ }
     ensures { λ r. ⌜ r ≡ jobOf k t ⌝ }
 {
-    let uses = k.uses;
     Job {
         release: t as u16,
         deadline: (t + k.period as u32) as u16,
         run: k.run,
-        uses,
+        uses: records::set_of(k.set),
     }
 }
 

@@ -4,7 +4,8 @@ ghost use mathlib.Core.List.{[]};
 ghost use Prim.Native.Nat.{ℕ, _+_, _*_, _≤_};
 ghost use lib.ListN.{length};
 ghost use Rattle.base.specs.Lists.{upTo};
-ghost use Rattle.request.specs.Format.{deviceAt, devicesHeld, faultOf, recorderIn, noRecorder};
+ghost use Rattle.tables.specs.Records.{deviceAt};
+ghost use Rattle.request.specs.Format.{deviceOf, devicesHeld, faultOf, recorderIn, noRecorder};
 use super::horizon;
 use super::jobs;
 use super::records;
@@ -30,12 +31,12 @@ fn no_devices() -> Devices
 // The first n devices of the file.
 fn devices_of(s: &[u8], n: usize) -> Devices
     requires { ⌜ (n ≤ 8) × (3 + n * 7 ≤ length (now s)) ⌝ }
-    ensures { λ r. ⌜ r ≡ devicesHeld (upTo (λ k. deviceAt (now (s .entry)) (3 + k * 7)) n) ⌝ }
+    ensures { λ r. ⌜ r ≡ devicesHeld (upTo (λ k. deviceOf (deviceAt (now (s .entry)) (3 + k * 7))) n) ⌝ }
 {
     let mut devices = no_devices();
     let mut k: usize = 0;
     while k < n {
-        devices.list[k] = records::device_at(s, 3 + k * 7);
+        devices.list[k] = records::device_of(tables::device_at(s, 3 + k * 7));
         k += 1;
     }
     devices.count = n;

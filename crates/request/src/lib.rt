@@ -4,19 +4,12 @@ mod euclid; // euclid.rt: the greatest common divisor and the least common multi
 mod horizon; // horizon.rt: the horizon, given or worked out from the tasks
 mod jobs; // jobs.rt: the jobs in an array, listed or unfolded
 mod layout; // layout.rt: what a file without a fault says, laid out in arrays
-mod records; // records.rt: one record, decoded where it is wanted
+mod records; // records.rt: what is planned with, from the records of the file
 mod sections; // sections.rt: the sections in turn, and the first fault
 
 ghost use mathlib.Core.Path.{_≡_};
 ghost use Rattle.request.specs.Format.{readOf, handedOn};
 use schedule::Recorder;
-
-// A periodic task: period, running time, and for each device whether the task uses it. Its deadline is its period.
-pub struct Task {
-    pub period: u16,
-    pub run: u16,
-    pub uses: [bool; 8],
-}
 
 // The records of a section, and what one is checked against besides itself: the number of devices, and for jobs the horizon.
 pub enum Section {

@@ -29,18 +29,8 @@ device-check-requires c κs = search needs
 enum-known-k : tie.Need-enum-known-k
 enum-known-k c = search needs
 
-add-task-check : tie.Need-add-task-check
-add-task-check c = search needs
-
--- a task's size
-five : (c : tie.After-shared-slice-known2) → c .before .before .before .before .before .size-of .result ≡ 5
-five c = c .before .before .before .before .before .size-of .ensures ∙ ap sizeOf (c .before .before .k .given .1)
-
-shared-slice-read-task-check : tie.Need-shared-slice-read-task-check
-shared-slice-read-task-check c = omega (arith, five c)
-
 task-at-requires : tie.Need-task-at-requires
-task-at-requires c κs = omega (arith, five c)
+task-at-requires c κs = omega (arith, c .before .before .before .before .size-of .ensures ∙ ap sizeOf (c .before .k .given .1))
 
 task-check-requires : tie.Need-task-check-requires
 task-check-requires c κs = search needs
@@ -48,18 +38,8 @@ task-check-requires c κs = search needs
 enum-known-k-2 : tie.Need-enum-known-k-2
 enum-known-k-2 c = search needs
 
-add-job-check : tie.Need-add-job-check
-add-job-check c = search needs
-
--- a job's size
-seven : (c : tie.After-shared-slice-known3) → c .before .before .before .before .before .size-of .result ≡ 7
-seven c = c .before .before .before .before .before .size-of .ensures ∙ ap sizeOf (c .before .before .k2 .given .1)
-
-shared-slice-read-job-check : tie.Need-shared-slice-read-job-check
-shared-slice-read-job-check c = omega (arith, seven c)
-
 job-at-requires : tie.Need-job-at-requires
-job-at-requires c κs = omega (arith, seven c)
+job-at-requires c κs = omega (arith, c .before .before .before .before .size-of .ensures ∙ ap sizeOf (c .before .k2 .given .1))
 
 job-check-requires : tie.Need-job-check-requires
 job-check-requires c κs = search needs
@@ -75,18 +55,18 @@ returns-2 c =
 returns-3 : tie.Need-returns-3
 unfolding recordTable
 returns-3 c =
-    let e = c .before .before .before .before .before .before in
+    let e = c .before .before .before .before .before in
     record-there _ _ _ _
     (rw (e .before .size-of .ensures) at (e .if1 .left))
-    (rw (c .before .before .before .before .k .given .1) (rw (c .before .task-at .ensures) at (c .task-check .ensures)))
+    (rw (c .before .before .before .k .given .1) (rw (c .before .task-at .ensures) at (c .task-check .ensures)))
 
 returns-4 : tie.Need-returns-4
 unfolding recordTable
 returns-4 c =
-    let e = c .before .before .before .before .before .before in
+    let e = c .before .before .before .before .before in
     record-there _ _ _ _
     (rw (e .before .size-of .ensures) at (e .if1 .left))
-    (rw (c .before .before .before .before .k2 .given .1) (rw (c .before .job-at .ensures) at (c .job-check .ensures)))
+    (rw (c .before .before .before .k2 .given .1) (rw (c .before .job-at .ensures) at (c .job-check .ensures)))
 
 pub record-fault-spec : {M : Type 1} → statement M
 record-fault-spec =
@@ -99,13 +79,9 @@ record-fault-spec =
     device-at-requires
     device-check-requires
     enum-known-k
-    add-task-check
-    shared-slice-read-task-check
     task-at-requires
     task-check-requires
     enum-known-k-2
-    add-job-check
-    shared-slice-read-job-check
     job-at-requires
     job-check-requires
     returns-2

@@ -3,7 +3,7 @@
 use borrow.Author.Needs.{needs}
 use borrow.Author.Tests.{eq-eqb, ne-eqb}
 use mathlib.Core.Path.{_≡_, ap, _∙_}
-use Rattle.request.specs.declared.Task.{Task}
+use Rattle.tables.specs.declared.TaskRecord.{TaskRecord}
 use Rattle.request.specs.Held.{releasedTo}
 use Rattle.request.proofs.jobs.release.Statement.{statement}
 use Rattle.request.proofs.jobs.release.Tie as tie
@@ -29,7 +29,7 @@ returns c =
     let a = c .before .before .before .before .before .before .args in
     let k = c .before .before .before .before .task-of in
     let here : c .push .result ≡ releasedTo (a .js) (k .result) (a .t) = rw (c .push .ensures, c .before .job-of .ensures, eq-eqb _ _ (c .before .before .if1 .taken)) in
-    here ∙ ap (λ (x : Task). releasedTo (a .js) x (a .t)) (k .ensures)
+    here ∙ ap (λ (x : TaskRecord). releasedTo (a .js) x (a .t)) (k .ensures)
 
 returns-2 : tie.Need-returns-2
 unfolding releasedTo
@@ -37,7 +37,7 @@ returns-2 c =
     let a = c .before .before .before .before .args in
     let k = c .before .before .task-of in
     let here : a .js ≡ releasedTo (a .js) (k .result) (a .t) = rw (ne-eqb _ _ (c .if1 .left)) in
-    here ∙ ap (λ (x : Task). releasedTo (a .js) x (a .t)) (k .ensures)
+    here ∙ ap (λ (x : TaskRecord). releasedTo (a .js) x (a .t)) (k .ensures)
 
 pub release-spec : {M : Type 1} → statement M
 release-spec =

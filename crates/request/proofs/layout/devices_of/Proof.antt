@@ -7,13 +7,14 @@ use native.Mathlib.Omega.{arith}
 use Rattle.base.specs.Lists.{upTo, padded}
 use Rattle.base.proofs.Arrays.{upTo-fill, length-upTo}
 use Rattle.schedule.specs.Quantities.{noDevice}
-use Rattle.request.specs.Format.{deviceAt}
+use Rattle.tables.specs.Records.{deviceAt}
+use Rattle.request.specs.Format.{deviceOf}
 use Rattle.request.proofs.layout.devices_of.Statement.{statement}
 use Rattle.request.proofs.layout.devices_of.Tie as tie
 
 abbrev Inv-loop : tie.InvT-loop
 Inv-loop s n devices₀ k₀ devices k =
-    (k ≤ n) × (devices ≡ record { count = 0; list = padded 8 noDevice (upTo (λ i. deviceAt s (3 + i * 7)) k) })
+    (k ≤ n) × (devices ≡ record { count = 0; list = padded 8 noDevice (upTo (λ i. deviceOf (deviceAt s (3 + i * 7))) k) })
 
 abbrev μ-loop : tie.MeasureT-loop
 μ-loop s n devices₀ k₀ devices k = n - k
@@ -34,8 +35,11 @@ add-device-at c = search needs
 device-at-requires : tie.Need-device-at-requires Inv-loop μ-loop
 device-at-requires c κs = search needs
 
-mul-t10 : tie.Need-mul-t10 Inv-loop μ-loop
-mul-t10 c = search needs
+device-of-requires : tie.Need-device-of-requires Inv-loop μ-loop
+device-of-requires c κs = search needs
+
+mul-t11 : tie.Need-mul-t11 Inv-loop μ-loop
+mul-t11 c = search needs
 
 element-set-from-devices : tie.Need-element-set-from-devices Inv-loop μ-loop
 element-set-from-devices c = search needs
@@ -48,9 +52,9 @@ loop-less c = search needs
 
 loop-again : tie.Need-loop-again Inv-loop μ-loop
 loop-again c =
-    let l = c .before .before .loop in
-    let s = c .before .before .before .before .before .args .s .now in
-    (omega arith, rw (c .device-at .ensures, l .inv .1, upTo-fill 8 noDevice (λ (i : ℕ). deviceAt s (3 + i * 7)) (l .k) (omega arith)))
+    let l = c .before .before .before .loop in
+    let s = c .before .before .before .before .before .before .args .s .now in
+    (omega arith, rw (c .device-of .ensures, c .before .device-at .ensures, l .inv .1, upTo-fill 8 noDevice (λ (i : ℕ). deviceOf (deviceAt s (3 + i * 7))) (l .k) (omega arith)))
 
 returns : tie.Need-returns Inv-loop μ-loop
 returns c =
@@ -69,7 +73,8 @@ devices-of-spec =
     mul-device-at
     add-device-at
     device-at-requires
-    mul-t10
+    device-of-requires
+    mul-t11
     element-set-from-devices
     add-k
     loop-less

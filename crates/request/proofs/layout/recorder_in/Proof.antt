@@ -5,7 +5,8 @@ use mathlib.Core.Path.{_≡_}
 use Prim.Native.Nat.{_+_}
 use native.Mathlib.Omega.{arith}
 use Rattle.request.specs.declared.Section.the-variants.{DeviceRecords, JobRecords}
-use Rattle.request.specs.Format.{taskCount, tasksPlace, horizonIn, recorderIn}
+use Rattle.tables.specs.Layout.{taskCount, tasksPlace}
+use Rattle.request.specs.Format.{horizonIn, recorderIn}
 use Rattle.request.specs.Held.{SoundTasks}
 use Rattle.request.proofs.Checked.{records-room, tasks-sound}
 use Rattle.request.proofs.Faultless.{Faultless, faultless, length-jobs}
