@@ -1,3 +1,4 @@
 pub mod Only
 pub mod Searching
 pub mod Larger
+pub mod Writing

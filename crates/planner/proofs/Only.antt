@@ -1,4 +1,4 @@
--- No second outcome satisfies a promise: for every input each of the five relations has one answer, and one state of the lent memory. `only-of-file` says it
+-- No second outcome satisfies a promise: for every input each of the seven relations has one answer, and one state of the lent memory. `only-of-file` says it
 -- of every promise over a file whose cases have one outcome for each valid recorder; so each operation shows it of its own cases only.
 -- Assumes nothing.
 use mathlib.Core.Path.{_≡_, refl, sym, ap, subst, _∙_}
@@ -15,10 +15,13 @@ use Rattle.schedule.specs.Quantities.{device, jobs, Valid}
 use Rattle.schedule.specs.Listing.{Fault, Rows, Costs, laid}
 use Rattle.schedule.proofs.Judgements.{fault-one, fault-infeasible}
 use Rattle.schedule.proofs.Outcome.{costs-only, rows-only, one-first-least}
+use Rattle.tables.specs.declared.Tables.{Tables}
+use Rattle.tables.specs.Layout.{bytesOf, noTables}
 use Rattle.request.proofs.Accepted.{accepted-valid}
 use Rattle.planner.specs.declared.Answer.{Answer}
+use Rattle.planner.specs.declared.Listing.{Listing}
 use Rattle.planner.specs.Promises.{success, refusal, refusalAt, Refused, Reads, OfFile, refused, read, Answered}
-use Rattle.planner.specs.Promises.{CheckOf, accepted, Checked, MarginsOf, Margined, VerdictOf, Judged, RowsOf, Rowed, SearchOf, Searched}
+use Rattle.planner.specs.Promises.{CheckOf, accepted, Checked, MarginsOf, Margined, VerdictOf, Judged, RowsOf, Rowed, SearchOf, Searched, WriteOf, Written, ListOf, listed, Listed}
 use Rattle.planner.specs.Promises as P
 
 -- ---- the file
@@ -174,3 +177,26 @@ one-search budget lent R v (P.SearchOf.found h b f) (P.SearchOf.found h′ b′ 
 pub only-searched : (file : List ℕ) (budget : ℕ) (lent : List ℕ) {a a′ : Answer} {l l′ : List ℕ}
     → Searched file budget lent a l → Searched file budget lent a′ l′ → (a ≡ a′) × (l ≡ l′)
 only-searched file budget lent = only-of-file file lent (SearchOf budget lent) (λ R v a a′ l l′. one-search budget lent R v)
+
+-- ---- `write`
+
+one-write : (T : Tables) (lent : List ℕ) (R : Recorder) {a a′ : Answer} {l l′ : List ℕ} → WriteOf T lent R a l → WriteOf T lent R a′ l′ → (a ≡ a′) × (l ≡ l′)
+one-write T lent R (P.WriteOf.short h) (P.WriteOf.short h′) = (refl, refl)
+one-write T lent R (P.WriteOf.short h) (P.WriteOf.written h′) = absurd (omega arith)
+one-write T lent R (P.WriteOf.written h) (P.WriteOf.short h′) = absurd (omega arith)
+one-write T lent R (P.WriteOf.written h) (P.WriteOf.written h′) = (refl, refl)
+
+pub only-written : (T : Tables) (lent : List ℕ) {a a′ : Answer} {l l′ : List ℕ} → Written T lent a l → Written T lent a′ l′ → (a ≡ a′) × (l ≡ l′)
+only-written T lent = only-of-file (bytesOf T) lent (WriteOf T lent) (λ R v a a′ l l′. one-write T lent R)
+
+-- ---- `tables_of`
+
+one-list : (file : List ℕ) (R : Recorder) {a a′ : Answer} {T T′ : Tables} → ListOf file R a T → ListOf file R a′ T′ → (a ≡ a′) × (T ≡ T′)
+one-list file R listed listed = (refl, refl)
+
+pub only-listed : (file : List ℕ) {r r′ : Listing} → Listed file r → Listed file r′ → r ≡ r′
+only-listed file p p′ =
+    let e = only-of-file file noTables (ListOf file) (λ R v a a′ T T′. one-list file R) p p′ in
+    let a = e .0 in
+    let b = e .1 in
+    rw (a, b)

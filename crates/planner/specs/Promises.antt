@@ -1,4 +1,4 @@
--- What the five public operations promise: for each one relation between its inputs and its complete outcome, the answer and the lent memory after it.
+-- What the seven public operations promise: for each one relation between its inputs and its complete outcome, the answer and the lent memory after it.
 -- The file comes first, in one way for all (`OfFile`); then each operation has its own cases for a recorder, one for each refusal that it can give after the
 -- file, in their order (rule 16), and one for success. proofs/Only: each relation has one outcome for every input.
 -- Assumes nothing.
@@ -14,9 +14,12 @@ use Rattle.schedule.specs.declared.Recorder.{Recorder}
 use Rattle.schedule.specs.Quantities.{device, jobs}
 use Rattle.schedule.specs.Listing.{Feasible, Fault, Rows, Costs, FirstLeast, laid, margin}
 use Rattle.schedule.specs.Visiting.{vertices}
+use Rattle.tables.specs.declared.Tables.{Tables}
+use Rattle.tables.specs.Layout.{bytesOf, tablesOf, noTables}
 use Rattle.request.specs.Format.{readOf}
 use Rattle.request.specs.Format as Format
 use Rattle.planner.specs.declared.Answer.{Answer}
+use Rattle.planner.specs.declared.Listing.{Listing}
 
 -- ---- answers
 
@@ -107,3 +110,22 @@ pub data SearchOf (budget : ℕ) (lent : List ℕ) (R : Recorder) : Answer → L
 
 abbrev pub Searched : List ℕ → ℕ → List ℕ → Answer → List ℕ → Type 0
 Searched file budget lent a after = OfFile file lent (SearchOf budget lent) a after
+
+-- ---- `write`: the file that the tables make. They are refused as the reader refuses it, and only then is the room looked at; what is lent beyond the file
+-- stays as it was
+
+pub data WriteOf (T : Tables) (lent : List ℕ) (R : Recorder) : Answer → List ℕ → Type 0 where
+  short : length lent < length (bytesOf T) → WriteOf T lent R (refusal 15) lent
+  written : length (bytesOf T) ≤ length lent
+      → WriteOf T lent R (success (R .horizon) 0 (length (bytesOf T))) (bytesOf T ++ drop (length (bytesOf T)) lent)
+
+abbrev pub Written : Tables → List ℕ → Answer → List ℕ → Type 0
+Written T lent a after = OfFile (bytesOf T) lent (WriteOf T lent) a after
+
+-- ---- `tables_of`: the tables of the file as it gives them, tasks as tasks; none with a refusal
+
+pub data ListOf (file : List ℕ) (R : Recorder) : Answer → Tables → Type 0 where
+  listed : ListOf file R (success (R .horizon) 0 0) (tablesOf file)
+
+abbrev pub Listed : List ℕ → Listing → Type 0
+Listed file r = OfFile file noTables (ListOf file) (r .answer) (r .tables)

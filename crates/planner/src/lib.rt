@@ -1,12 +1,17 @@
 // The public operations on the bytes of a request file. None asks anything of its caller: every file, of whatever bytes, every list of start times and every
 // lent buffer gets its answer. specs/Promises.antt says for each the complete outcome.
-ghost use Rattle.planner.specs.Promises.{Checked, Margined, Judged, Rowed, Searched};
+ghost use Rattle.planner.specs.Promises.{Checked, Margined, Judged, Rowed, Searched, Written, Listed};
 use base::JobNumber;
 use request::read;
 use schedule::judge;
 use schedule::plan_energy;
 use schedule::write_margins;
 use schedule::write_rows;
+use tables::Tables;
+use tables::copy;
+use tables::file_of;
+use tables::no_tables;
+use tables::tables_in;
 
 mod answers; // answers.rt: the answers, each made in one place
 
@@ -22,6 +27,12 @@ pub struct Answer {
     pub horizon: u16,
     pub energy: u32,
     pub count: u32,
+}
+
+// The tables of a file, with the answer of the reading: none with a refusal.
+pub struct Listing {
+    pub answer: Answer,
+    pub tables: Tables,
 }
 
 // Whether the file is accepted, and its horizon.
@@ -114,4 +125,40 @@ pub fn search(file: &[u8], budget: u32, starts: &mut [u16]) -> Answer
         return refusal_after(found.number, found.count);
     }
     success(recorder.horizon, found.energy, found.count)
+}
+
+// Writes the request file that the tables make, if the reader accepts it.
+pub fn write(given: Tables, out: &mut [u8]) -> Answer
+    ensures { λ a. ⌜ Written given (now (out .entry)) a (now (out .exit)) ⌝ }
+{
+    let file = file_of(given);
+    let n = file.count;
+    let bytes = file.bytes;
+    let request = read(&bytes[..n]);
+    let number = request.number;
+    if number != 0 {
+        return refusal(number);
+    }
+    if out.len() < n {
+        return refusal(15);
+    }
+    copy(&bytes[..n], out);
+    success(request.recorder.horizon, 0, n as u32)
+}
+
+// The tables of a file.
+pub fn tables_of(file: &[u8]) -> Listing
+    ensures { λ r. ⌜ Listed (now (file .entry)) r ⌝ }
+{
+    let request = read(file);
+    if request.number != 0 {
+        return Listing {
+            answer: refusal(request.number),
+            tables: no_tables(),
+        };
+    }
+    Listing {
+        answer: success(request.recorder.horizon, 0, 0),
+        tables: tables_in(file),
+    }
 }

@@ -81,7 +81,7 @@ module _ (s : List ℕ) (ok : Faultless s) where
 -- ---- what a reading tells of the file
 
 module _ (s : List ℕ) where
-  accepted-is : (R : Recorder) → readOf s ≡ accepted R → (0 ≡ faultOf s) × (recorderIn s ≡ R)
+  pub accepted-is : (R : Recorder) → readOf s ≡ accepted R → (0 ≡ faultOf s) × (recorderIn s ≡ R)
   unfolding readOf
   accepted-is R =
       cond-cases (λ w. w ≡ accepted R → (0 ≡ faultOf s) × (recorderIn s ≡ R)) (eqb (faultOf s) 0)

@@ -5,20 +5,18 @@ use mathlib.Core.Bool.{Bool, true, false, cond}
 use mathlib.Core.List.{List, _++_}
 use Prim.Native.Nat.{ℕ, zero, suc, _+_, _*_, _<_, _≤_}
 use native.Mathlib.Omega.{arith}
-use native.Mathlib.Nat.{suc-mul}
 use lib.ListN.{length, take}
 use lib.Seq.{getD-take, length-take-le}
 use lib.Dec.{ltb, eqb}
 use borrow.Author.Tests.{lt-ltb, le-ltb, lt-leb, ltb-false}
 use Rattle.base.specs.Bytes.{byteAt, pairAt}
-use Rattle.base.specs.Refusals.{firstThat, orElse, firstOf}
+use Rattle.base.specs.Refusals.{orElse}
 use Rattle.tables.specs.declared.TaskRecord.{TaskRecord}
-use Rattle.request.specs.declared.Section.{Section}
 use Rattle.request.specs.declared.Section.the-variants.{DeviceRecords, TaskRecords, JobRecords}
 use Rattle.request.specs.Euclid.{lcmOf}
 use Rattle.tables.specs.Records.{taskAt}
-use Rattle.request.specs.Format.{deviceTable, sizeOf, recordTable, recordFault, recordsFault, lcmFrom, horizonOf, released, releasedAt, unfolded, mixed, countOf, jobRecords, jobSection, taskSection, faultOf, refused, readOf}
-use Rattle.request.proofs.Checked.{record-there}
+use Rattle.request.specs.Format.{recordsFault, lcmFrom, horizonOf, released, releasedAt, unfolded, mixed, countOf, jobRecords, jobSection, taskSection, faultOf, refused, readOf}
+use Rattle.request.proofs.Alike.{Alike, pair-same, records-same}
 use Rattle.request.proofs.Faultless.{jobs-end, read-faultless, read-fault}
 use Rattle.request.proofs.Accepted.{accepted-short}
 
@@ -27,46 +25,18 @@ either : {A : Type 0} (t : Bool) (a : A) {b b′ : A} → (t ≡ false → b ≡
 either true a h = refl
 either false a h = h refl
 
--- Two files of at least 174 bytes, of which the first 174 are the same.
-record Alike (s s′ : List ℕ) : Type 0 where
-  long : 174 ≤ length s
-  long′ : 174 ≤ length s′
-  same : (i : ℕ) → i < 174 → byteAt s i ≡ byteAt s′ i
-
-module _ (s s′ : List ℕ) (a : Alike s s′) where
-  pair-same : (i : ℕ) → i + 1 < 174 → pairAt s i ≡ pairAt s′ i
-  pair-same i h = rw (a .same i (omega arith), a .same (i + 1) h)
-
-  table-same : (k : Section) (at : ℕ) → at + sizeOf k ≤ 174 → recordTable s k at ≡ recordTable s′ k at
-  unfolding recordTable
-  table-same DeviceRecords at h =
-      ap deviceTable (cc (a .same at (omega arith), pair-same (at + 1) (omega arith), pair-same (at + 3) (omega arith), pair-same (at + 5) (omega arith)))
-  table-same (TaskRecords n) at h = cc (pair-same at (omega arith), pair-same (at + 2) (omega arith), a .same (at + 4) (omega arith))
-  table-same (JobRecords n h) at l = cc (pair-same at (omega arith), pair-same (at + 2) (omega arith), pair-same (at + 4) (omega arith), a .same (at + 6) (omega arith))
-
-  record-same : (k : Section) (at : ℕ) → at + sizeOf k ≤ 174 → recordFault s k at ≡ recordFault s′ k at
-  record-same k at h =
-      let b = a .long in
-      let b′ = a .long′ in
-      record-there s′ k at _ (omega arith) (sym (record-there s k at _ (omega arith) refl) ∙ ap firstThat (table-same k at h))
-
-  records-same : (k : Section) (n at : ℕ) → at + n * sizeOf k ≤ 174 → recordsFault s k n at ≡ recordsFault s′ k n at
-  unfolding firstOf
-  records-same k zero at h = refl
-  records-same k (suc n) at h =
-      rw (record-same k at (omega (arith, suc-mul n (sizeOf k))), records-same k n (at + sizeOf k) (omega (arith, suc-mul n (sizeOf k))))
-
+module _ (s s′ : List ℕ) (a : Alike 174 s s′) where
   lcm-same : (n at h : ℕ) → at + n * 5 ≤ 174 → lcmFrom s n at h ≡ lcmFrom s′ n at h
   unfolding lcmFrom
   lcm-same zero at h l = refl
-  lcm-same (suc n) at h l = lcm-same n (at + 5) _ (omega arith) ∙ ap (λ (p : ℕ). lcmFrom s′ n (at + 5) (lcmOf h p)) (pair-same at (omega arith))
+  lcm-same (suc n) at h l = lcm-same n (at + 5) _ (omega arith) ∙ ap (λ (p : ℕ). lcmFrom s′ n (at + 5) (lcmOf h p)) (pair-same 174 s s′ a at (omega arith))
 
   horizon-same : (tasks from : ℕ) → from + tasks * 5 ≤ 174 → horizonOf s tasks from ≡ horizonOf s′ tasks from
   unfolding horizonOf
-  horizon-same tasks from l = rw (pair-same 0 (omega arith), lcm-same tasks from 1 l)
+  horizon-same tasks from l = rw (pair-same 174 s s′ a 0 (omega arith), lcm-same tasks from 1 l)
 
   task-same : (at : ℕ) → at + 5 ≤ 174 → taskAt s at ≡ taskAt s′ at
-  task-same at h = cc (pair-same at (omega arith), pair-same (at + 2) (omega arith), a .same (at + 4) (omega arith))
+  task-same at h = cc (pair-same 174 s s′ a at (omega arith), pair-same 174 s s′ a (at + 2) (omega arith), a .same (at + 4) (omega arith))
 
   released-same : (n from t : ℕ) → from + n * 5 ≤ 174 → releasedAt s n from t ≡ releasedAt s′ n from t
   unfolding releasedAt
@@ -87,7 +57,7 @@ module _ (s s′ : List ℕ) (a : Alike s s′) where
   records-end n h count at l =
       let b : at + 1 + count * 7 < length s = omega (arith, a .long) in
       let b′ : at + 1 + count * 7 < length s′ = omega (arith, a .long′) in
-      rw (records-same (JobRecords n h) count (at + 1) (omega arith), lt-ltb _ _ b, lt-ltb _ _ b′)
+      rw (records-same 174 s s′ a (JobRecords n h) count (at + 1) (omega arith), lt-ltb _ _ b, lt-ltb _ _ b′)
 
   jobs-same :
       (n tasks from at h : ℕ) → tasks ≤ 8 → from + tasks * 5 ≤ 174 → at ≤ 60 + tasks * 5 → mixed tasks (pairAt s 0) (byteAt s at) ≡ false →
@@ -105,7 +75,7 @@ module _ (s s′ : List ℕ) (a : Alike s s′) where
       let b : at < length s = omega (arith, a .long) in
       let b′ : at < length s′ = omega (arith, a .long′) in
       let h = horizonOf s tasks from in
-      rw (lt-leb _ _ b, lt-leb _ _ b′, ← a .same at (omega arith), ← pair-same 0 (omega arith), ← horizon-same tasks from l)
+      rw (lt-leb _ _ b, lt-leb _ _ b′, ← a .same at (omega arith), ← pair-same 174 s s′ a 0 (omega arith), ← horizon-same tasks from l)
       (either (mixed tasks (pairAt s 0) (byteAt s at)) 11 (λ e. either (eqb h 0) 10 (λ _. either (ltb 4096 h) 10 (λ _. jobs-same n tasks from at h few l m e))))
 
   tasks-same : (n at : ℕ) → at ≤ 59 → taskSection s n at ≡ taskSection s′ n at
@@ -119,7 +89,7 @@ module _ (s s′ : List ℕ) (a : Alike s s′) where
       after : (tasks : ℕ) → tasks ≤ 8 →
           orElse (recordsFault s (TaskRecords n) tasks (at + 1)) (jobSection s n tasks (at + 1) (at + 1 + tasks * 5))
           ≡ orElse (recordsFault s′ (TaskRecords n) tasks (at + 1)) (jobSection s′ n tasks (at + 1) (at + 1 + tasks * 5))
-      after tasks few = rw (records-same (TaskRecords n) tasks (at + 1) (omega arith), section-same n tasks (at + 1) (at + 1 + tasks * 5) few (omega arith) (omega arith))
+      after tasks few = rw (records-same 174 s s′ a (TaskRecords n) tasks (at + 1) (omega arith), section-same n tasks (at + 1) (at + 1 + tasks * 5) few (omega arith) (omega arith))
 
   fault-same : faultOf s ≡ faultOf s′
   unfolding faultOf
@@ -131,11 +101,11 @@ module _ (s s′ : List ℕ) (a : Alike s s′) where
     where
       after : (n : ℕ) → n ≤ 8 →
           orElse (recordsFault s DeviceRecords n 3) (taskSection s n (3 + n * 7)) ≡ orElse (recordsFault s′ DeviceRecords n 3) (taskSection s′ n (3 + n * 7))
-      after n few = rw (records-same DeviceRecords n 3 (omega arith), tasks-same n (3 + n * 7) (omega arith))
+      after n few = rw (records-same 174 s s′ a DeviceRecords n 3 (omega arith), tasks-same n (3 + n * 7) (omega arith))
 
 pub long-same : (s : List ℕ) → 174 ≤ length s → readOf s ≡ readOf (take 174 s)
 long-same s l =
-    let alike : Alike s (take 174 s) = record { long = l; long′ = rw (length-take-le 174 s l) (omega arith); same = λ i h. sym (getD-take 174 s i 0 h) } in
+    let alike : Alike 174 s (take 174 s) = record { long = l; long′ = rw (length-take-le 174 s l) (omega arith); same = λ i h. sym (getD-take 174 s i 0 h) } in
     let e = fault-same s (take 174 s) alike in
     let some : faultOf s ≡ 0 → ⊥ = λ z. omega (arith, accepted-short s _ (read-faultless s (sym z))) in
     read-fault s some ∙ ap refused e ∙ sym (read-fault (take 174 s) (λ z. some (e ∙ z)))

@@ -91,7 +91,12 @@ tasks-alone tasks field count e nz =
     let p = neither (eqb field 0) (eqb count 0) (rw (ne-eqb tasks 0 nz) at e) in
     (eqb-true field 0 (p .0), eqb-true count 0 (p .1))
 
--- So the job records end by byte 173, where there are few and the tasks before them are few.
+-- So few jobs are listed,
+pub few-listed : (tasks field count unfolded : ℕ) → mixed tasks field count ≡ false → cond (eqb tasks 0) count unfolded ≤ 16 → count ≤ 16
+few-listed tasks field count unfolded e m =
+    ⊎-elim (λ z. rw (eq-eqb tasks 0 z) at m) (λ p. omega (arith, tasks-alone tasks field count e (λ z. omega arith))) (eq-zero-or-pos tasks)
+
+-- and their records end by byte 173, where the tasks before them are few.
 pub jobs-end :
     (tasks field count unfolded at : ℕ) → tasks ≤ 8 → at ≤ 60 + tasks * 5 → mixed tasks field count ≡ false → cond (eqb tasks 0) count unfolded ≤ 16 →
     at + 1 + count * 7 ≤ 173

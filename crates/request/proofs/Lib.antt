@@ -8,4 +8,6 @@ pub mod Fitting
 pub mod Unfolding
 pub mod Highest
 pub mod Accepted
+pub mod Alike
 pub mod Beyond
+pub mod Cutting

@@ -1,13 +1,11 @@
 -- TaskRecord i gives H / p jobs, released at 0, p, 2p and so on: the unfolded jobs are those of the tasks, whatever is counted or summed over them.
 -- Assumes nothing.
 use mathlib.Core.Path.{_≡_, refl, sym, ap, _∙_}
-use mathlib.Core.Bool.{false}
 use mathlib.Core.List.{List, [], _∷_, _++_, append-nil}
 use Prim.Native.Nat.{ℕ, zero, suc, _+_, _-_, _*_, _/_, _%_, _<_, _∣_}
 use native.Mathlib.Omega.{arith}
 use native.Mathlib.Nat.{add-zero, add-suc, zero-mul, suc-mul, div-mul-cancel, mul-mod-left, mul-add-mod-self-right, mod-eq-of-lt}
 use lib.ListN.{length}
-use lib.Dec.{eqb}
 use borrow.Author.Tests.{eq-eqb, ne-eqb}
 use Rattle.base.specs.Bytes.{pairAt}
 use Rattle.base.specs.Lists.{upTo}

@@ -4,7 +4,9 @@ use mathlib.Core.Path.{_≡_, refl, ap, _∙_}
 use mathlib.Core.List.{List, [], _∷_, _++_, append-nil, append-assoc}
 use Prim.Native.Nat.{ℕ, _+_, _<_, _≤_}
 use native.Mathlib.Omega.{arith}
-use lib.ListN.{length, set, length-append}
+use lib.ListN.{length, set, take, length-append}
+use lib.Seq.{take-at}
+use Rattle.base.specs.Lists.{padded}
 use Rattle.base.proofs.Arrays.{set-padded}
 use Rattle.tables.specs.declared.File.{File}
 use Rattle.tables.specs.Held.{held, appended}
@@ -33,3 +35,12 @@ held-more l (b ∷ m) h =
 -- So the array holds all that was appended to none.
 pub held-all : (l : List ℕ) → length l ≤ 232 → appended (held []) l ≡ held l
 held-all l h = held-more [] l (omega arith)
+
+-- And its first bytes are those that it holds.
+pub held-front : (l : List ℕ) → take (held l .count) (held l .bytes) ≡ l
+unfolding held padded
+held-front l = take-at l _ (length l) refl
+
+pub held-long : (l : List ℕ) → length l ≤ 232 → held l .count ≤ length (held l .bytes)
+unfolding held padded
+held-long l h = rw length-append (omega arith)

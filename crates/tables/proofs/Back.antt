@@ -1,21 +1,21 @@
 -- Reading the bytes of tables gives the tables again, and the bytes of the tables of a whole file are the file.
 -- Assumes nothing.
-use mathlib.Core.Path.{_≡_, refl, sym, ap, _∙_}
+use mathlib.Core.Path.{_≡_, refl, ap, _∙_}
 use mathlib.Core.List.{List, _++_}
-use Prim.Native.Nat.{ℕ, _+_, _*_, _<_}
+use Prim.Native.Nat.{ℕ, zero, suc, _+_, _*_, _<_}
 use native.Mathlib.Omega.{arith}
-use lib.ListN.{length, getD}
+use lib.ListN.{length}
 use Rattle.base.specs.Bytes.{byteAt, pairAt}
-use Rattle.base.specs.Lists.{upTo, padded}
+use Rattle.base.specs.Lists.{upTo}
 use Rattle.base.proofs.Arrays.{upTo-same, getD-padded, getD-upTo}
 use Rattle.tables.specs.declared.Tables.{Tables}
 use Rattle.tables.specs.declared.Part.{Part}
 use Rattle.tables.specs.declared.Part.the-variants.{Devices, Tasks, Jobs}
-use Rattle.tables.specs.Records.{pairBytes, deviceAt, taskAt, jobAt, deviceBytes, taskBytes, jobBytes, blankDevice, blankTask, blankJob}
-use Rattle.tables.specs.Layout.{deviceIn, taskIn, jobIn, countIn, recordIn, sizeIn, sectionOf, bytesOf, tasksPlace, taskCount, jobsPlace, devicesHeld, tasksHeld, jobsHeld, tablesOf, counted}
+use Rattle.tables.specs.Records.{deviceAt, taskAt, jobAt, deviceBytes, taskBytes, jobBytes, blankDevice, blankTask, blankJob}
+use Rattle.tables.specs.Layout.{joined, deviceIn, taskIn, jobIn, countIn, recordIn, sizeIn, sectionOf, bytesOf, tasksPlace, taskCount, jobsPlace, tablesOf, counted, Bytes}
 use Rattle.tables.specs.Held.{Whole}
 use Rattle.tables.proofs.Parts.{placeIn, count-is, record-byte, part, part-append, part-joined, part-cons, part-whole}
-use Rattle.tables.proofs.Reading.{Bytes, read-pair, read-device, read-task, read-job, pair-part, device-part, task-part, job-part}
+use Rattle.tables.proofs.Reading.{read-pair, read-device, read-task, read-job, pair-part, device-part, task-part, job-part}
 
 -- ---- reading what was laid out
 
@@ -23,7 +23,7 @@ module _ (T : Tables) where
   abbrev file : List ℕ
   file = bytesOf T
 
-  read-horizon : pairAt file 0 ≡ T .horizon
+  pub read-horizon : pairAt file 0 ≡ T .horizon
   unfolding bytesOf
   read-horizon = read-pair file 0 (T .horizon) refl refl
 
@@ -40,6 +40,37 @@ module _ (T : Tables) where
   unfolding tablesOf counted
   read-back =
       rw (count-is T Devices, count-is T Tasks, count-is T Jobs, read-horizon, read-devices, read-tasks, read-jobs)
+
+-- What stands beyond a count is not laid out.
+joined-same : (f g : ℕ → List ℕ) (n : ℕ) → ((k : ℕ) → k < n → f k ≡ g k) → joined f n ≡ joined g n
+unfolding joined
+joined-same f g zero h = refl
+joined-same f g (suc n) h = rw (joined-same f g n (λ k l. h k (omega arith)), h n (omega arith))
+
+module _ (T : Tables) where
+  record-counted : (p : Part) (k : ℕ) → k < countIn T p → recordIn (counted T) p k ≡ recordIn T p k
+  unfolding counted
+  record-counted Devices k l = ap deviceBytes (getD-padded 8 blankDevice _ k ∙ getD-upTo _ _ k blankDevice l)
+  record-counted Tasks k l = ap taskBytes (getD-padded 8 blankTask _ k ∙ getD-upTo _ _ k blankTask l)
+  record-counted Jobs k l = ap jobBytes (getD-padded 16 blankJob _ k ∙ getD-upTo _ _ k blankJob l)
+
+  count-counted : (p : Part) → countIn (counted T) p ≡ countIn T p
+  unfolding counted
+  count-counted Devices = refl
+  count-counted Tasks = refl
+  count-counted Jobs = refl
+
+  section-counted : (p : Part) → sectionOf (counted T) p ≡ sectionOf T p
+  unfolding sectionOf
+  section-counted p = rw (count-counted p, joined-same (recordIn (counted T) p) (recordIn T p) (countIn T p) (record-counted p))
+
+  horizon-counted : counted T .horizon ≡ T .horizon
+  unfolding counted
+  horizon-counted = refl
+
+  pub bytes-counted : bytesOf (counted T) ≡ bytesOf T
+  unfolding bytesOf
+  bytes-counted = cc (horizon-counted, section-counted Devices, section-counted Tasks, section-counted Jobs)
 
 -- ---- laying out what was read
 

@@ -2,7 +2,7 @@
 -- Assumes nothing.
 use mathlib.Core.Path.{_≡_, refl, sym, ap, _∙_}
 use mathlib.Core.List.{List, [], _∷_, _++_, append-assoc, append-nil}
-use Prim.Native.Nat.{ℕ, zero, suc, _+_, _*_, _<_, _≤_}
+use Prim.Native.Nat.{ℕ, zero, suc, _+_, _*_, _<_}
 use native.Mathlib.Omega.{arith}
 use native.Mathlib.Decide.{decLt}
 use native.Mathlib.Nat.{suc-mul, zero-mul, suc-add, zero-add, add-zero, add-suc, mul-le-mul-right}
@@ -47,12 +47,12 @@ byte-joined g c s (suc n) k i h l =
 -- ---- a section of the bytes of tables
 
 -- What stands before it and after it, and the place of its count.
-before : Tables → Part → List ℕ
+unfoldable before : Tables → Part → List ℕ
 before T Devices = pairBytes (T .horizon)
 before T Tasks = pairBytes (T .horizon) ++ sectionOf T Devices
 before T Jobs = pairBytes (T .horizon) ++ (sectionOf T Devices ++ sectionOf T Tasks)
 
-after : Tables → Part → List ℕ
+unfoldable after : Tables → Part → List ℕ
 after T Devices = sectionOf T Tasks ++ sectionOf T Jobs
 after T Tasks = sectionOf T Jobs
 after T Jobs = []
@@ -98,6 +98,35 @@ record-byte T p k i h l =
     (byte-after (before T p) (sectionOf T p ++ after T p) (suc (k * sizeIn p + i)) ∙
     byte-before records (after T p) (k * sizeIn p + i) (rw long (place-below (sizeIn p) k n i h l)) ∙
     byte-joined (recordIn T p) (sizeIn p) (length-record T p) n k i h l)
+
+-- ---- two tables that begin alike: the same horizon field and the same records
+
+pub front-long : (T : Tables) (p : Part) → placeIn T p < length (bytesOf T)
+unfolding sectionOf
+front-long T p =
+    rw (parted T p)
+    (omega (arith, length-append (before T p) (sectionOf T p ++ after T p), length-append (sectionOf T p) (after T p), length-before T p, length-section T p))
+
+module _ (T U : Tables) (h : T .horizon ≡ U .horizon) (r : (p : Part) → recordIn T p ≡ recordIn U p) where
+  section-same : (p : Part) → countIn T p ≡ countIn U p → sectionOf T p ≡ sectionOf U p
+  unfolding sectionOf
+  section-same p e = rw (e, r p)
+
+  front-same : (p : Part) → before T p ≡ before U p → (i : ℕ) → i < placeIn T p → byteAt (bytesOf T) i ≡ byteAt (bytesOf U) i
+  front-same p e i l =
+      let m : i < length (before T p) = omega (arith, length-before T p) in
+      rw (parted T p, parted U p, ← e)
+      (byte-before (before T p) (sectionOf T p ++ after T p) i m ∙ sym (byte-before (before T p) (sectionOf U p ++ after U p) i m))
+
+  -- As many devices: the same bytes up to the task count; as many tasks too: up to the job count.
+  pub tasks-front : T .devices .count ≡ U .devices .count → (i : ℕ) → i < placeIn T Tasks → byteAt (bytesOf T) i ≡ byteAt (bytesOf U) i
+  unfolding before
+  tasks-front d = front-same Tasks (cc (h, section-same Devices d))
+
+  pub jobs-front :
+      T .devices .count ≡ U .devices .count → T .tasks .count ≡ U .tasks .count → (i : ℕ) → i < placeIn T Jobs → byteAt (bytesOf T) i ≡ byteAt (bytesOf U) i
+  unfolding before
+  jobs-front d k = front-same Jobs (cc (h, section-same Devices d, section-same Tasks k))
 
 -- ---- a file, part by part
 

@@ -1,6 +1,6 @@
 -- One record: reading its bytes gives the record, and a record that was read has the bytes that it was read from.
 -- Assumes nothing.
-use mathlib.Core.Path.{_≡_, refl, sym, ap, _∙_}
+use mathlib.Core.Path.{_≡_, _∙_}
 use mathlib.Core.List.{List}
 use Prim.Native.Nat.{ℕ, _+_, _*_, _/_, _%_, _<_}
 use native.Mathlib.Omega.{arith}
@@ -12,6 +12,7 @@ use Rattle.tables.specs.declared.DeviceRecord.{DeviceRecord}
 use Rattle.tables.specs.declared.TaskRecord.{TaskRecord}
 use Rattle.tables.specs.declared.JobRecord.{JobRecord}
 use Rattle.tables.specs.Records.{pairBytes, deviceAt, deviceBytes, taskAt, taskBytes, jobAt, jobBytes}
+use Rattle.tables.specs.Layout.{Bytes}
 use Rattle.tables.proofs.Parts.{part}
 
 -- ---- a number of two bytes
@@ -60,10 +61,6 @@ module _ (s : List ℕ) (at : ℕ) where
       rw (a, b, c, d)
 
 -- ---- what is read is laid out the same
-
--- Every number of a list is a byte.
-abbrev pub Bytes : List ℕ → Type 0
-Bytes s = (i : ℕ) → byteAt s i < 256
 
 module _ (s : List ℕ) (at : ℕ) (b : Bytes s) where
   pair-high : (k : ℕ) → pairAt s (at + k) / 256 ≡ byteAt s (at + k)

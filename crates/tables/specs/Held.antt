@@ -6,12 +6,9 @@ use Prim.Native.Nat.{ℕ, _+_, _*_, _≤_, min}
 use lib.ListN.{length, set}
 use Rattle.base.specs.Bytes.{byteAt}
 use Rattle.base.specs.Lists.{padded}
-use Rattle.tables.specs.declared.DeviceTable.{DeviceTable}
-use Rattle.tables.specs.declared.TaskTable.{TaskTable}
-use Rattle.tables.specs.declared.JobTable.{JobTable}
 use Rattle.tables.specs.declared.Tables.{Tables}
 use Rattle.tables.specs.declared.File.{File}
-use Rattle.tables.specs.Layout.{tasksPlace, taskCount, jobsPlace}
+use Rattle.tables.specs.Layout.{taskCount, jobsPlace}
 
 -- Tables whose counts are cut at one above the limits of a file, so that they fit an array. A count that is cut is refused all the same
 -- (request/proofs/Cutting).

@@ -1,7 +1,7 @@
 -- The tables of a request file and its bytes, one from the other (rule 10): the horizon field, then the devices, the tasks and the jobs, each table after its
 -- count. Nothing is judged here. proofs/Back: reading the bytes of tables gives the tables again, and the bytes of the tables of a whole file are the file.
 -- Assumes nothing.
-use Prim.Native.Nat.{ℕ, zero, suc, _+_, _*_}
+use Prim.Native.Nat.{ℕ, zero, suc, _+_, _*_, _<_}
 use mathlib.Core.List.{List, [], _∷_, _++_}
 use lib.ListN.{getD}
 use Rattle.base.specs.Bytes.{byteAt, pairAt}
@@ -58,6 +58,10 @@ unfoldable pub bytesOf : Tables → List ℕ
 bytesOf T = pairBytes (T .horizon) ++ (sectionOf T Devices ++ (sectionOf T Tasks ++ sectionOf T Jobs))
 
 -- ---- from bytes to tables
+
+-- What a file is: each number of the list is a byte.
+abbrev pub Bytes : List ℕ → Type 0
+Bytes s = (i : ℕ) → byteAt s i < 256
 
 -- Where the task count and the job count stand, and the task count.
 abbrev pub tasksPlace : List ℕ → ℕ

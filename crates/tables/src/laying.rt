@@ -1,10 +1,10 @@
 // The bytes of tables, from the first to the last, in an array.
 ghost use mathlib.Core.Path.{_≡_};
-ghost use mathlib.Core.List.{List, [], _∷_, _++_};
+ghost use mathlib.Core.List.{[], _∷_, _++_};
 ghost use Prim.Native.Nat.{ℕ, _+_, _*_, _≤_, _<_, min};
 ghost use lib.ListN.{length, drop, getD};
 ghost use Rattle.tables.specs.Records.{pairBytes, deviceBytes, taskBytes, jobBytes, blankDevice, blankTask, blankJob};
-ghost use Rattle.tables.specs.Layout.{deviceIn, taskIn, jobIn, countIn, recordIn, sizeIn, sectionOf, bytesOf};
+ghost use Rattle.tables.specs.Layout.{countIn, recordIn, sizeIn, sectionOf, bytesOf};
 ghost use Rattle.tables.specs.Held.{cut, held, appended};
 use crate::DeviceRecord;
 use crate::DeviceTable;

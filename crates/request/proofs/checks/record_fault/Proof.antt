@@ -1,7 +1,7 @@
 -- `request::checks::record_fault` meets its contract.
 -- Assumes nothing.
 use borrow.Author.Needs.{needs}
-use mathlib.Core.Path.{_≡_, ap, _∙_}
+use mathlib.Core.Path.{ap, _∙_}
 use native.Mathlib.Omega.{arith}
 use Rattle.request.specs.Format.{sizeOf, recordTable}
 use Rattle.request.proofs.Checked.{record-short, record-there}

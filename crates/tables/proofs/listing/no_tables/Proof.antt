@@ -1,7 +1,6 @@
 -- `tables::listing::no_tables` meets its contract.
 -- Assumes nothing.
 use borrow.Author.Needs.{needs}
-use mathlib.Core.Path.{refl}
 use Rattle.base.specs.Lists.{upTo, padded}
 use Rattle.tables.proofs.listing.no_tables.Statement.{statement}
 use Rattle.tables.proofs.listing.no_tables.Tie as tie

@@ -1,0 +1,46 @@
+-- `planner::tables_of` meets its contract.
+-- Assumes nothing.
+use borrow.Author.Needs.{needs}
+use Rattle.request.proofs.Accepted.{read-accepted, read-refused}
+use Rattle.request.proofs.Cutting.{accepted-whole}
+use Rattle.planner.specs.Promises.{Reads}
+use Rattle.planner.specs.Promises as P
+use Rattle.planner.proofs.tables_of.Statement.{statement}
+use Rattle.planner.proofs.tables_of.Tie as tie
+
+-- The file is read as the recorder.
+recorded : (c : tie.Else1) → Reads (c .before .before .before .before .args .file .now) (c .before .before .read .result .recorder)
+recorded c = read-accepted _ _ (c .before .before .read .ensures) (c .if1 .left)
+
+read-requires : tie.Need-read-requires
+read-requires c κs = search needs
+
+refusal-requires : tie.Need-refusal-requires
+refusal-requires c κs = search needs
+
+no-tables-requires : tie.Need-no-tables-requires
+no-tables-requires c κs = search needs
+
+returns : tie.Need-returns
+returns c = rw (c .no-tables .ensures, c .before .refusal .ensures) (P.OfFile.refused (read-refused _ _ (c .before .before .before .before .read .ensures) (c .before .before .if1 .taken)))
+
+success-requires : tie.Need-success-requires
+success-requires c κs = search needs
+
+tables-in-requires : tie.Need-tables-in-requires
+tables-in-requires c κs = accepted-whole _ _ (recorded (c .before))
+
+returns-2 : tie.Need-returns-2
+returns-2 c = rw (c .tables-in .ensures, c .before .success .ensures) (P.OfFile.read (recorded (c .before .before)) P.ListOf.listed)
+
+pub tables-of-spec : {M : Type 1} → statement M
+tables-of-spec =
+    tie.close
+    (tie.spec
+    read-requires
+    refusal-requires
+    no-tables-requires
+    returns
+    success-requires
+    tables-in-requires
+    returns-2)

@@ -1,0 +1,125 @@
+-- The file that is laid out is that of the tables, but for counts that are refused.
+-- Assumes nothing.
+use borrow.Author.Needs.{needs}
+use mathlib.Core.Path.{_≡_, sym, ap, _∙_}
+use mathlib.Core.List.{List, _++_}
+use Prim.Native.Nat.{ℕ, _≤_}
+use native.Mathlib.Omega.{arith}
+use lib.ListN.{length, take, drop}
+use lib.Seq.{length-take-le}
+use Rattle.schedule.specs.declared.Recorder.{Recorder}
+use Rattle.tables.specs.declared.Tables.{Tables}
+use Rattle.tables.specs.declared.File.{File}
+use Rattle.tables.specs.Layout.{bytesOf}
+use Rattle.tables.specs.Held.{cut, held}
+use Rattle.tables.proofs.Appending.{held-front, held-long}
+use Rattle.tables.proofs.Joining.{cut-fits}
+use Rattle.request.specs.Format.{readOf, handedOn}
+use Rattle.request.proofs.Accepted.{read-accepted, read-refused}
+use Rattle.request.proofs.Cutting.{read-cut, accepted-cut}
+use Rattle.planner.specs.Promises.{Reads}
+use Rattle.planner.specs.Promises as P
+use Rattle.planner.proofs.write.Statement.{statement}
+use Rattle.planner.proofs.write.Tie as tie
+
+-- the file that is laid out
+laid : (c : tie.After-file-of) → take (c .file-of .result .count) (c .file-of .result .bytes) ≡ bytesOf (cut (c .before .before .args .given))
+laid c = rw (c .file-of .ensures) (held-front (bytesOf (cut (c .before .before .args .given))))
+
+small : (c : tie.After-file-of) → c .file-of .result .count ≤ 232
+unfolding held
+small c = rw (c .file-of .ensures) (cut-fits (c .before .before .args .given))
+
+fits : (c : tie.After-file-of) → c .file-of .result .count ≤ length (c .file-of .result .bytes)
+fits c = rw (c .file-of .ensures) (held-long (bytesOf (cut (c .before .before .args .given))) (cut-fits (c .before .before .args .given)))
+
+long : (c : tie.After-file-of) → c .file-of .result .count ≡ length (take (c .file-of .result .count) (c .file-of .result .bytes))
+long c = sym (length-take-le (c .file-of .result .count) (c .file-of .result .bytes) (fits c))
+
+-- It reads as the file of the tables does,
+reads : (c : tie.After-read) → c .read .result ≡ handedOn (readOf (bytesOf (c .before .before .before .before .before .args .given)))
+reads c = c .read .ensures ∙ ap (λ (s : List ℕ). handedOn (readOf s)) (laid (c .before .before .before)) ∙ ap handedOn (read-cut (c .before .before .before .before .before .args .given))
+
+recorded : (c : tie.Else1) → Reads (bytesOf (c .before .before .before .before .before .before .args .given)) (c .before .read .result .recorder)
+recorded c = read-accepted _ _ (reads (c .before)) (c .if1 .left)
+
+-- and it is that file where it is accepted.
+whole : (c : tie.Else1) → bytesOf (cut (c .before .before .before .before .before .before .args .given)) ≡ bytesOf (c .before .before .before .before .before .before .args .given)
+whole c = ap bytesOf (accepted-cut _ _ (recorded c))
+
+size : (c : tie.Else1) → c .before .before .before .before .file-of .result .count ≡ length (bytesOf (c .before .before .before .before .before .before .args .given))
+unfolding held
+size c = ap (λ (f : File). f .count) (c .before .before .before .before .file-of .ensures) ∙ ap length (whole c)
+
+-- What is written, by other names.
+written-as :
+    (T : Tables) (lent : List ℕ) (R : Recorder) (s : List ℕ) (n : ℕ) → Reads (bytesOf T) R → s ≡ bytesOf T → n ≡ length (bytesOf T) → n ≤ length lent
+    → P.Written T lent (P.success (R .horizon) 0 n) (s ++ drop (length s) lent)
+written-as T lent R s n r e f h = rw (e, f) (P.OfFile.read r (P.WriteOf.written (omega arith)))
+
+file-of-requires : tie.Need-file-of-requires
+file-of-requires c κs = search needs
+
+array-share-prefix-bytes : tie.Need-array-share-prefix-bytes
+array-share-prefix-bytes c = fits (c .before)
+
+slice-aggregate-read : tie.Need-slice-aggregate-read
+slice-aggregate-read c = long (c .before .before)
+
+read-requires : tie.Need-read-requires
+read-requires c κs = search needs
+
+refusal-requires : tie.Need-refusal-requires
+refusal-requires c κs = search needs
+
+returns : tie.Need-returns
+returns c = rw (c .refusal .ensures) (P.OfFile.refused (read-refused _ _ (reads (c .before .before)) (c .before .if1 .taken)))
+
+refusal-requires-2 : tie.Need-refusal-requires-2
+refusal-requires-2 c κs = search needs
+
+returns-2 : tie.Need-returns-2
+returns-2 c = rw (c .refusal2 .ensures) (P.OfFile.read (recorded (c .before .before)) (P.WriteOf.short (rw (size (c .before .before)) at (c .before .if2 .taken))))
+
+array-share-prefix-bytes-2 : tie.Need-array-share-prefix-bytes-2
+array-share-prefix-bytes-2 c = fits (c .before .before .before .before .before)
+
+slice-aggregate-copy : tie.Need-slice-aggregate-copy
+slice-aggregate-copy c = long (c .before .before .before .before .before .before)
+
+copy-requires : tie.Need-copy-requires
+copy-requires c κs = omega (arith, long (c .before .before .before .before .before .before .before), c .before .before .if2 .left)
+
+cast-success : tie.Need-cast-success
+cast-success c = omega (arith, small (c .before .before .before .before .before .before .before .before .before .before))
+
+success-requires : tie.Need-success-requires
+success-requires c κs = search needs
+
+same-length : tie.Need-same-length
+same-length c = search needs
+
+returns-3 : tie.Need-returns-3
+returns-3 c =
+    rw (c .success .ensures, c .before .before .before .copy .ensures)
+    (written-as _ _ _ _ _ (recorded (c .before .before .before .before .before .before .before)) (laid (c .before .before .before .before .before .before .before .before .before .before .before) ∙ whole (c .before .before .before .before .before .before .before)) (size (c .before .before .before .before .before .before .before)) (c .before .before .before .before .before .before .if2 .left))
+
+pub write-spec : {M : Type 1} → statement M
+write-spec =
+    tie.close
+    (tie.spec
+    file-of-requires
+    array-share-prefix-bytes
+    slice-aggregate-read
+    read-requires
+    refusal-requires
+    returns
+    refusal-requires-2
+    returns-2
+    array-share-prefix-bytes-2
+    slice-aggregate-copy
+    copy-requires
+    cast-success
+    success-requires
+    same-length
+    returns-3)
