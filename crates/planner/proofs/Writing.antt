@@ -14,7 +14,7 @@ use Rattle.request.proofs.Accepted.{refused-number}
 use Rattle.request.proofs.Cutting.{accepted-whole}
 use Rattle.planner.specs.declared.Answer.{Answer}
 use Rattle.planner.specs.declared.Listing.{Listing}
-use Rattle.planner.specs.Promises.{success, Reads, OfFile, refused, read, short, written, Written, ListOf, listed, Listed}
+use Rattle.planner.specs.Promises.{success, Reads, OfFile, refused, read, accepted, Checked, short, written, Written, ListOf, listed, Listed}
 
 -- The listing of a file that is read as R.
 abbrev listing : Recorder → Tables → Listing
@@ -37,6 +37,14 @@ written-listed T lent a after (refused {n = n} r) z = absurd (omega (arith, refu
 written-listed T lent a after (read r (short h)) z = absurd (omega arith)
 written-listed T lent a after (read {R = R} r (written h)) z =
     subst (λ (s : List ℕ). Listed s (listing R (counted T))) (sym (take-at (bytesOf T) (drop (length (bytesOf T)) lent) (length (bytesOf T)) refl)) (accepted-listed T R r)
+
+-- What was written is accepted.
+pub written-checked : (T : Tables) (lent : List ℕ) (a : Answer) (after : List ℕ) → Written T lent a after → a .number ≡ 0
+    → Checked (take (a .count) after) (success (a .horizon) 0 0)
+written-checked T lent a after (refused {n = n} r) z = absurd (omega (arith, refused-number (bytesOf T) n r))
+written-checked T lent a after (read r (short h)) z = absurd (omega arith)
+written-checked T lent a after (read {R = R} r (written h)) z =
+    subst (λ (s : List ℕ). Checked s (success (R .horizon) 0 0)) (sym (take-at (bytesOf T) (drop (length (bytesOf T)) lent) (length (bytesOf T)) refl)) (read r accepted)
 
 -- Writing what was read gives the same bytes.
 same-bytes : (file : List ℕ) (R : Recorder) (lent : List ℕ) → Bytes file → Reads file R → length file ≤ length lent
