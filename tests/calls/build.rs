@@ -1,4 +1,4 @@
-//! Says where the library is.
+//! Says where the library and its doors are.
 
 use std::env;
 use std::path::Path;
@@ -7,12 +7,14 @@ fn main() {
     println!("cargo:rerun-if-changed=build.rs");
     let here = env::var("CARGO_MANIFEST_DIR").expect("cargo names the folder of the manifest");
     let folder = Path::new(&here).join("../../target/lib");
-    let library = folder.join("libfloebucket.a");
-    assert!(
-        library.exists(),
-        "there is no target/lib/libfloebucket.a: run ./library at the top, which builds it"
-    );
-    println!("cargo:rerun-if-changed={}", library.display());
     println!("cargo:rustc-link-search=native={}", folder.display());
-    println!("cargo:rustc-link-lib=static=floebucket");
+    for name in ["floebucket", "doors"] {
+        let library = folder.join(format!("lib{name}.a"));
+        assert!(
+            library.exists(),
+            "there is no target/lib/lib{name}.a: run ./library at the top, which builds it"
+        );
+        println!("cargo:rerun-if-changed={}", library.display());
+        println!("cargo:rustc-link-lib=static={name}");
+    }
 }

@@ -1,4 +1,3 @@
 pub mod Digits
 pub mod Crossing
-pub mod Signs
 pub mod Only

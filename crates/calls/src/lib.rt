@@ -4,9 +4,7 @@
 ghost use Rattle.calls.specs.Calls.{CheckCalled, SearchCalled, RowsCalled};
 use crate::paired::rows_bytes;
 use crate::paired::search_bytes;
-use crate::results::RESULT;
 use crate::results::cramped;
-use crate::results::tell;
 use planner::check;
 use planner::refusal;
 use request::read;
@@ -14,8 +12,12 @@ use request::read;
 mod bytes; // bytes.rt: numbers as bytes, the high byte first
 mod paired; // paired.rt: start times as pairs of bytes
 mod results; // results.rt: the result buffer
-pub mod doors; // doors.rt: the other operations, for tests and the benchmark
-pub mod door_mend; // door_mend.rt: mending
+
+pub use crate::bytes::get_starts;
+pub use crate::bytes::put;
+pub use crate::bytes::put_starts;
+pub use crate::results::RESULT;
+pub use crate::results::tell;
 
 // Whether the file is accepted, and its horizon.
 #[no_mangle]

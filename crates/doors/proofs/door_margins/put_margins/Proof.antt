@@ -1,12 +1,12 @@
--- `calls::doors::put_margins` meets its contract.
+-- `doors::door_margins::put_margins` meets its contract.
 -- Assumes nothing.
 use mathlib.Core.Path.{_≡_}
 use Prim.Native.Nat.{_≤_, _-_, _+_, _*_}
 use native.Mathlib.Omega.{arith}
 use lib.ListN.{length}
 use borrow.Author.Needs.{needs}
-use Rattle.calls.proofs.doors.put_margins.Statement.{statement}
-use Rattle.calls.proofs.doors.put_margins.Tie as tie
+use Rattle.doors.proofs.door_margins.put_margins.Statement.{statement}
+use Rattle.doors.proofs.door_margins.put_margins.Tie as tie
 
 abbrev Inv-loop : tie.InvT-loop
 Inv-loop margins out₀ j₀ out j = (j ≤ length margins) × (length out ≡ length out₀)

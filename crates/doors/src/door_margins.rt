@@ -1,45 +1,15 @@
-// Doors: the other operations of the library with bytes in and out, for the tests and the benchmark. They are safe, and promise nothing of their own. A door
-// answers 255, and does nothing, for an odd list of start times or a result buffer under 11 bytes; else it tells every answer, a refusal too.
-ghost use mathlib.Core.Path.{_≡_};
-ghost use Prim.Native.Nat.{_*_, _/_, _≤_, min};
+// The door to the margins: four bytes each.
+ghost use Prim.Native.Nat.{_*_, _≤_};
 ghost use lib.ListN.{length};
-use crate::bytes::get_starts;
-use crate::bytes::put;
-use crate::results::RESULT;
-use crate::results::tell;
+use crate::SHUT;
+use crate::handed;
+use crate::is_shut;
+use crate::least;
+use calls::get_starts;
+use calls::put;
+use calls::tell;
 use planner::Answer;
 use planner::margins;
-use planner::verdict;
-
-pub const SHUT: u8 = 255;
-
-pub fn is_shut(starts: usize, result: usize) -> bool {
-    starts % 2 != 0 || result < RESULT
-}
-
-pub fn least(a: usize, b: usize) -> usize
-    ensures { λ r. ⌜ r ≡ min a b ⌝ }
-{
-    if a < b { a } else { b }
-}
-
-// How many of the start times are handed on: all, or one more than a file can have jobs.
-pub fn handed(bytes: usize) -> usize
-    ensures { λ r. ⌜ r ≡ min (bytes / 2) 17 ⌝ }
-{
-    least(bytes / 2, 17)
-}
-
-#[no_mangle]
-pub extern "C" fn door_verdict(file: &[u8], starts: &[u8], result: &mut [u8]) -> u8 {
-    if is_shut(starts.len(), result.len()) {
-        return SHUT;
-    }
-    let mut own = [0u16; 17];
-    let n = handed(starts.len());
-    get_starts(starts, &mut own[..n]);
-    tell(verdict(file, &own[..n]), result)
-}
 
 // A margin's four bytes: a negative one by its two's complement.
 fn bits_of(margin: i32) -> u64 {

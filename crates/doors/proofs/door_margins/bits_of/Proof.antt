@@ -1,12 +1,12 @@
--- `calls::doors::bits_of` meets its contract.
+-- `doors::door_margins::bits_of` meets its contract.
 -- Assumes nothing.
 use mir.Syntax.{w32}
 use mir.Val.{SFits, toZ, ofZ}
 use mir.Facts.{toZ-ofZ}
-use Rattle.calls.proofs.Signs.{size-pos, Raised, raised}
+use Rattle.doors.proofs.Signs.{size-pos, Raised, raised}
 use borrow.Author.Needs.{needs}
-use Rattle.calls.proofs.doors.bits_of.Statement.{statement}
-use Rattle.calls.proofs.doors.bits_of.Tie as tie
+use Rattle.doors.proofs.door_margins.bits_of.Statement.{statement}
+use Rattle.doors.proofs.door_margins.bits_of.Tie as tie
 
 -- What the machine reads of the margin.
 fitted : (c : tie.Start) → SFits w32 (toZ w32 (ofZ w32 (c .args .margin)))

@@ -1,11 +1,11 @@
 // The door to mending: two bytes a number, in the given starts, the new ones and the moves.
-use crate::bytes::get_starts;
-use crate::bytes::put_starts;
-use crate::doors::SHUT;
-use crate::doors::handed;
-use crate::doors::is_shut;
-use crate::doors::least;
-use crate::results::tell;
+use crate::SHUT;
+use crate::handed;
+use crate::is_shut;
+use crate::least;
+use calls::get_starts;
+use calls::put_starts;
+use calls::tell;
 use mend::mend;
 use planner::Answer;
 

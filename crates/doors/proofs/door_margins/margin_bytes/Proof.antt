@@ -1,4 +1,4 @@
--- `calls::doors::margin_bytes` meets its contract.
+-- `doors::door_margins::margin_bytes` meets its contract.
 -- Assumes nothing.
 use mathlib.Core.Path.{sym}
 use mathlib.Core.List.{List, _++_}
@@ -6,10 +6,10 @@ use native.Mathlib.Omega.{arith}
 use lib.IntN.{ℤ, pos}
 use lib.ListN.{drop, replicate}
 use lib.Seq.{length-take-le}
 use Rattle.calls.proofs.Crossing.{front-room}
 use borrow.Author.Needs.{needs}
-use Rattle.calls.proofs.doors.margin_bytes.Statement.{statement}
-use Rattle.calls.proofs.doors.margin_bytes.Tie as tie
+use Rattle.doors.proofs.door_margins.margin_bytes.Statement.{statement}
+use Rattle.doors.proofs.door_margins.margin_bytes.Tie as tie
 
 -- What the list of margins holds before any is written.
 abbrev zeros : List ℤ

@@ -1,4 +1,4 @@
--- `calls::door_mend::mend_bytes` meets its contract.
+-- `doors::door_mend::mend_bytes` meets its contract.
 -- Assumes nothing.
 use mathlib.Core.Path.{sym}
 use mathlib.Core.List.{List}
@@ -6,10 +6,10 @@ use native.Mathlib.Omega.{arith}
 use Prim.Native.Nat.{ℕ}
 use lib.ListN.{replicate}
 use lib.Seq.{length-take-le}
 use Rattle.calls.proofs.Crossing.{front-room}
 use borrow.Author.Needs.{needs}
-use Rattle.calls.proofs.door_mend.mend_bytes.Statement.{statement}
-use Rattle.calls.proofs.door_mend.mend_bytes.Tie as tie
+use Rattle.doors.proofs.door_mend.mend_bytes.Statement.{statement}
+use Rattle.doors.proofs.door_mend.mend_bytes.Tie as tie
 
 -- What the lists of starts and of moves hold before any is written.
 abbrev zeros : ℕ → List ℕ

@@ -1,4 +1,4 @@
--- `calls::door_mend::door_mend` meets its contract.
+-- `doors::door_verdict::door_verdict` meets its contract.
 -- Assumes nothing.
 use mathlib.Core.Path.{sym}
 use mathlib.Core.List.{List}
@@ -6,10 +6,10 @@ use native.Mathlib.Omega.{arith}
 use Prim.Native.Nat.{ℕ}
 use lib.ListN.{replicate}
 use lib.Seq.{length-take-le}
 use Rattle.calls.proofs.Crossing.{own-room}
 use borrow.Author.Needs.{needs}
-use Rattle.calls.proofs.door_mend.door_mend.Statement.{statement}
-use Rattle.calls.proofs.door_mend.door_mend.Tie as tie
+use Rattle.doors.proofs.door_verdict.door_verdict.Statement.{statement}
+use Rattle.doors.proofs.door_verdict.door_verdict.Tie as tie
 
 -- What the list of start times holds before any is read.
 abbrev zeros : List ℕ
@@ -25,7 +25,7 @@ handed-requires : tie.Need-handed-requires
 handed-requires c κs = search needs
 
 array-borrow-prefix-own : tie.Need-array-borrow-prefix-own
-array-borrow-prefix-own c = search needs
+array-borrow-prefix-own c = omega (arith, c .handed .ensures)
 
 slice-aggregate-get-starts : tie.Need-slice-aggregate-get-starts
 slice-aggregate-get-starts c = sym (length-take-le _ _ (omega (arith, c .before .handed .ensures)))
@@ -34,13 +34,13 @@ get-starts-requires : tie.Need-get-starts-requires
 get-starts-requires c κs = rw (length-take-le (c .before .handed .result) zeros (omega (arith, c .before .handed .ensures))) (omega (arith, c .before .handed .ensures))
 
 array-share-prefix-own : tie.Need-array-share-prefix-own
-array-share-prefix-own c = own-room (c .before .before .before .before .before .before .before .before .before .before .before .args .starts .now) zeros (c .before .get-starts .last .1 .0) (c .before .before .before .handed .result) (omega (arith, c .before .before .before .handed .ensures)) (c .before .get-starts .ensures)
+array-share-prefix-own c = own-room (c .before .before .before .before .before .before .before .before .before .args .starts .now) zeros (c .before .get-starts .last .1 .0) (c .before .before .before .handed .result) (omega (arith, c .before .before .before .handed .ensures)) (c .before .get-starts .ensures)
 
-slice-aggregate-mend-bytes : tie.Need-slice-aggregate-mend-bytes
-slice-aggregate-mend-bytes c = sym (length-take-le _ _ (array-share-prefix-own (c .before)))
+slice-aggregate-verdict : tie.Need-slice-aggregate-verdict
+slice-aggregate-verdict c = sym (length-take-le _ _ (own-room (c .before .before .before .before .before .before .before .before .before .before .args .starts .now) zeros (c .before .before .get-starts .last .1 .0) (c .before .before .before .before .handed .result) (omega (arith, c .before .before .before .before .handed .ensures)) (c .before .before .get-starts .ensures)))
 
-mend-bytes-requires : tie.Need-mend-bytes-requires
-mend-bytes-requires c κs = search needs
+verdict-requires : tie.Need-verdict-requires
+verdict-requires c κs = search needs
 
 tell-requires : tie.Need-tell-requires
 tell-requires c κs = search needs
@@ -48,17 +48,11 @@ tell-requires c κs = search needs
 same-length : tie.Need-same-length
 same-length c = search needs
 
-same-length-2 : tie.Need-same-length-2
-same-length-2 c = search needs
-
-same-length-3 : tie.Need-same-length-3
-same-length-3 c = search needs
-
 returns-2 : tie.Need-returns-2
 returns-2 c = search needs
 
-pub door-mend-spec : {M : Type 1} → statement M
-door-mend-spec =
+pub door-verdict-spec : {M : Type 1} → statement M
+door-verdict-spec =
     tie.close
     (tie.spec
     is-shut-requires
@@ -68,10 +62,8 @@ door-mend-spec =
     slice-aggregate-get-starts
     get-starts-requires
     array-share-prefix-own
-    slice-aggregate-mend-bytes
-    mend-bytes-requires
+    slice-aggregate-verdict
+    verdict-requires
     tell-requires
     same-length
-    same-length-2
-    same-length-3
     returns-2)

@@ -1,4 +1,4 @@
--- `calls::doors::door_margins` meets its contract.
+-- `doors::door_margins::door_margins` meets its contract.
 -- Assumes nothing.
 use mathlib.Core.Path.{sym}
 use mathlib.Core.List.{List}
@@ -6,10 +6,10 @@ use native.Mathlib.Omega.{arith}
 use Prim.Native.Nat.{ℕ}
 use lib.ListN.{replicate}
 use lib.Seq.{length-take-le}
 use Rattle.calls.proofs.Crossing.{own-room}
 use borrow.Author.Needs.{needs}
-use Rattle.calls.proofs.doors.door_margins.Statement.{statement}
-use Rattle.calls.proofs.doors.door_margins.Tie as tie
+use Rattle.doors.proofs.door_margins.door_margins.Statement.{statement}
+use Rattle.doors.proofs.door_margins.door_margins.Tie as tie
 
 -- What the list of start times holds before any is read.
 abbrev zeros : List ℕ

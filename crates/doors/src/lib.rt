@@ -1,0 +1,28 @@
+// Doors: the other operations of the library with bytes in and out, for the tests. They are safe, and promise nothing of their own. A door answers 255, and
+// does nothing, for an odd list of start times or a result buffer under 11 bytes; else it tells every answer, a refusal too. include/doors.h declares them.
+ghost use mathlib.Core.Path.{_≡_};
+ghost use Prim.Native.Nat.{_/_, min};
+use calls::RESULT;
+
+pub mod door_margins; // door_margins.rt: margins
+pub mod door_mend; // door_mend.rt: mending
+pub mod door_verdict; // door_verdict.rt: the verdict
+
+pub const SHUT: u8 = 255;
+
+pub fn is_shut(starts: usize, result: usize) -> bool {
+    starts % 2 != 0 || result < RESULT
+}
+
+pub fn least(a: usize, b: usize) -> usize
+    ensures { λ r. ⌜ r ≡ min a b ⌝ }
+{
+    if a < b { a } else { b }
+}
+
+// How many of the start times are handed on: all, or one more than a file can have jobs.
+pub fn handed(bytes: usize) -> usize
+    ensures { λ r. ⌜ r ≡ min (bytes / 2) 17 ⌝ }
+{
+    least(bytes / 2, 17)
+}
