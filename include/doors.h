@@ -18,6 +18,15 @@ uint8_t door_verdict(const uint8_t *file, size_t file_len, const uint8_t *starts
 uint8_t door_margins(const uint8_t *file, size_t file_len, const uint8_t *starts, size_t starts_len, uint8_t *out, size_t out_len, uint8_t *result,
                      size_t result_len);
 
+/* Tables as bytes: kind (1 byte: 1), horizon field, device count, task count and job count (2 each), then the first 8 device records at most, the first 8
+ * tasks and the first 16 jobs, as in the file. A door returns 255 for tables of another length or kind.
+ *
+ * The file that the tables make; the count of the answer is its bytes. */
+uint8_t door_write(const uint8_t *tables, size_t tables_len, uint8_t *out, size_t out_len, uint8_t *result, size_t result_len);
+
+/* The tables of a file; the count of the answer is their bytes. */
+uint8_t door_tables(const uint8_t *file, size_t file_len, uint8_t *out, size_t out_len, uint8_t *result, size_t result_len);
+
 /* The start times mended. `out`: the new ones by job number, two bytes each. `moved`: six bytes for each job that moved, two each for its number, its given
  * start and its new one; the count of the answer is how many moved. */
 uint8_t door_mend(const uint8_t *file, size_t file_len, const uint8_t *starts, size_t starts_len, uint8_t *out, size_t out_len, uint8_t *moved,

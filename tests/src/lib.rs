@@ -26,6 +26,7 @@ pub mod tables;
 pub mod tally;
 pub mod valid;
 pub mod visit;
+pub mod writing;
 
 #[cfg(test)]
 mod figures;

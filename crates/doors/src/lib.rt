@@ -6,7 +6,10 @@ use calls::RESULT;
 
 pub mod door_margins; // door_margins.rt: margins
 pub mod door_mend; // door_mend.rt: mending
+pub mod door_tables; // door_tables.rt: the tables of a file
 pub mod door_verdict; // door_verdict.rt: the verdict
+pub mod door_write; // door_write.rt: the writer
+mod table_bytes; // table_bytes.rt: tables as bytes
 
 pub const SHUT: u8 = 255;
 

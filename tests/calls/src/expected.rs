@@ -6,6 +6,7 @@ use outside::listing::{first_of_the_least, uses, Schedule};
 use outside::request::{read, Request};
 use outside::rows::least_row;
 use outside::visit::visit;
+use outside::writing::Written;
 
 pub const RESULT: usize = 11;
 
@@ -77,11 +78,29 @@ impl Buffers {
         self.after(Answer::refusal(number), &[])
     }
 
-    fn untouched(&self, number: u8) -> Outcome {
+    /// A door that stays shut.
+    pub fn untouched(&self, number: u8) -> Outcome {
         Outcome {
             number,
             lent: self.lent.clone(),
             result: self.result.clone(),
+        }
+    }
+
+    /// A file or tables that go to the front of the lent bytes, and are counted.
+    pub fn written(&self, written: &Written) -> Outcome {
+        match written {
+            _ if self.is_short() => self.untouched(SHUT),
+            Err(number) => self.refused(*number),
+            Ok((_, bytes)) if self.lent.len() < bytes.len() => self.refused(15),
+            Ok((horizon, bytes)) => {
+                let answer = Answer {
+                    horizon: *horizon,
+                    count: bytes.len() as u32,
+                    ..Answer::default()
+                };
+                self.after(answer, bytes)
+            }
         }
     }
 }

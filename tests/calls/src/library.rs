@@ -40,6 +40,22 @@ mod c {
             r: *mut u8,
             r_len: usize,
         ) -> u8;
+        pub fn door_write(
+            t: *const u8,
+            t_len: usize,
+            o: *mut u8,
+            o_len: usize,
+            r: *mut u8,
+            r_len: usize,
+        ) -> u8;
+        pub fn door_tables(
+            f: *const u8,
+            f_len: usize,
+            o: *mut u8,
+            o_len: usize,
+            r: *mut u8,
+            r_len: usize,
+        ) -> u8;
         pub fn door_mend(
             f: *const u8,
             f_len: usize,
@@ -130,6 +146,32 @@ pub fn mend(file: &[u8], starts: &[u8], out: &mut [u8], moved: &mut [u8], result
             out.len(),
             moved.as_mut_ptr(),
             moved.len(),
+            result.as_mut_ptr(),
+            result.len(),
+        )
+    }
+}
+
+pub fn write(tables: &[u8], out: &mut [u8], result: &mut [u8]) -> u8 {
+    unsafe {
+        c::door_write(
+            tables.as_ptr(),
+            tables.len(),
+            out.as_mut_ptr(),
+            out.len(),
+            result.as_mut_ptr(),
+            result.len(),
+        )
+    }
+}
+
+pub fn tables(file: &[u8], out: &mut [u8], result: &mut [u8]) -> u8 {
+    unsafe {
+        c::door_tables(
+            file.as_ptr(),
+            file.len(),
+            out.as_mut_ptr(),
+            out.len(),
             result.as_mut_ptr(),
             result.len(),
         )

@@ -5,6 +5,7 @@ mod expected;
 mod figures;
 mod library;
 mod mend;
+mod writing;
 
 use expected::{Buffers, Outcome, Searched, RESULT};
 use outside::cases::{draw, Kind};
@@ -57,6 +58,16 @@ impl Tester {
                 "{name} on file {file:02X?}\n  expected {expected:02X?}\n  got      {got:02X?}"
             ));
         }
+    }
+
+    /// Whether these numbers have come from a function, and no others.
+    fn only(&self, name: &'static str, numbers: &[u8]) -> Result<(), String> {
+        let of_name = self.met.keys().filter(|(met, _)| *met == name);
+        let met: Vec<u8> = of_name.map(|(_, number)| *number).collect();
+        if met == numbers {
+            return Ok(());
+        }
+        Err(format!("{name} answered {met:?} and not {numbers:?}"))
     }
 
     fn check(&mut self, searched: &Searched) {
@@ -189,6 +200,10 @@ fn test() -> Result<String, String> {
         if let Some(failure) = tester.failure {
             return Err(failure);
         }
+    }
+    writing::test(&mut tester)?;
+    if let Some(failure) = tester.failure {
+        return Err(failure);
     }
     for (number, count) in mend::test()? {
         tester.calls += count;

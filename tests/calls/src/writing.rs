@@ -1,0 +1,71 @@
+//! Tables written to files and read from them, through their doors, held to the writer and the
+//! reader of the oracle.
+
+use crate::expected::SHUT;
+use crate::{library, outcome, Tester};
+use outside::cases;
+use outside::random::Random;
+use outside::writing::{draw, listed, written, Written};
+
+const SEED: u64 = 12;
+const TABLES: u64 = 10_000;
+const FILES: u64 = 6_000;
+
+/// What the tables of a file can be refused with, and what a file can be.
+const WRITE_NUMBERS: [u8; 14] = [0, 3, 4, 5, 6, 7, 8, 9, 10, 11, 12, 13, 15, SHUT];
+const TABLES_NUMBERS: [u8; 16] = [0, 1, 2, 3, 4, 5, 6, 7, 8, 9, 10, 11, 12, 13, 15, SHUT];
+
+pub fn test(tester: &mut Tester) -> Result<(), String> {
+    for number in 0..TABLES {
+        let given = draw(&mut Random::new(SEED, number));
+        let (bytes, file) = (given.bytes(), written(&given));
+        tester.write(&bytes, &file);
+        tester.write_shut(&bytes);
+        if let Ok((horizon, file)) = file {
+            tester.tables(&file, &Ok((horizon, bytes)));
+        }
+    }
+    for number in 0..FILES {
+        let file = cases::draw(SEED, number).file;
+        let tables = listed(&file);
+        tester.tables(&file, &tables);
+        if let Ok((horizon, tables)) = tables {
+            tester.write(&tables, &Ok((horizon, file)));
+        }
+    }
+    tester.only("door_write", &WRITE_NUMBERS)?;
+    tester.only("door_tables", &TABLES_NUMBERS)
+}
+
+impl Tester {
+    fn write(&mut self, tables: &[u8], file: &Written) {
+        let needed = file.as_ref().map_or(0, |(_, bytes)| bytes.len());
+        let mut after = self.buffers(needed);
+        let expected = after.written(file);
+        let number = library::write(tables, &mut after.lent, &mut after.result);
+        self.compare("door_write", tables, expected, outcome(number, after));
+    }
+
+    /// The tables of another length or of another kind.
+    fn write_shut(&mut self, tables: &[u8]) {
+        let mut tables = tables.to_vec();
+        match self.random.within(1, 4) {
+            1 => tables.push(self.random.u8(0, 255)),
+            2 => drop(tables.pop()),
+            3 => tables.truncate(self.random.index(9)),
+            _ => tables[0] = self.random.pick(&[0, 2, 3, 255]),
+        }
+        let mut after = self.buffers(300);
+        let expected = after.untouched(SHUT);
+        let number = library::write(&tables, &mut after.lent, &mut after.result);
+        self.compare("door_write", &tables, expected, outcome(number, after));
+    }
+
+    fn tables(&mut self, file: &[u8], tables: &Written) {
+        let needed = tables.as_ref().map_or(0, |(_, bytes)| bytes.len());
+        let mut after = self.buffers(needed);
+        let expected = after.written(tables);
+        let number = library::tables(file, &mut after.lent, &mut after.result);
+        self.compare("door_tables", file, expected, outcome(number, after));
+    }
+}
