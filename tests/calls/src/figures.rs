@@ -1,20 +1,36 @@
-//! Figures that must come out of the calls: each file and buffer in hex, and what is left of them.
-//! Every buffer is full of AA before the call.
+//! Figures that must come out of the calls: each file, or its tables, and each buffer in hex, and
+//! what is left of them. Every buffer is full of AA before the call.
 
 use crate::library;
 
-/// A search's output, an output for rows, and a result buffer that is a byte too short.
+/// A search's output, an output for rows, one for a file, and a result buffer that is a byte too
+/// short.
 const STARTS: usize = 32;
 const ROWS: usize = 5;
+const FILE: usize = 40;
 const SHORT: usize = 10;
 
+const NOTHING: &str = "0000000000000000000000";
+
 const P3: &str = "00050101000500010003000100000005000201";
+const P3_TABLES: &str = "0100050001000000010100050001000300000005000201";
+const T0_TABLES: &str = "0100050001000000010000050001000300000005000201";
+const TASKS: &str = "01000000000002000000040001000006000200";
 const THREE: &str = "0009000003000000090002000000000900020000000009000200";
 
 enum Call {
     Check,
-    Search { budget: u32, result: usize },
-    Rows { starts: &'static str, room: usize },
+    Search {
+        budget: u32,
+        result: usize,
+    },
+    Rows {
+        starts: &'static str,
+        room: usize,
+    },
+    Write {
+        room: usize,
+    },
 }
 
 struct Figure {
@@ -83,6 +99,24 @@ fn table() -> Vec<Figure> {
             rows("000000050004", 0),
             (18, "0100000000000000000000", ""),
         ),
+        figure(
+            "A1",
+            P3_TABLES,
+            Call::Write { room: FILE },
+            (0, "0000050000000000000013", P3),
+        ),
+        figure("A2", P3_TABLES, Call::Write { room: 18 }, (15, NOTHING, "")),
+        figure("A3", T0_TABLES, Call::Write { room: 0 }, (4, NOTHING, "")),
+        figure(
+            "A4",
+            TASKS,
+            Call::Write { room: FILE },
+            (
+                0,
+                "00000c000000000000000f",
+                "000000020004000100000600020000",
+            ),
+        ),
     ]
 }
 
@@ -107,6 +141,10 @@ fn fails(figure: &Figure) -> bool {
         Call::Rows { starts, room } => {
             lent = full(room);
             library::rows(&file, &bytes(starts), &mut lent, &mut result)
+        }
+        Call::Write { room } => {
+            lent = full(room);
+            library::write(&file, &mut lent, &mut result)
         }
     };
     let mut after = full(lent.len());
