@@ -1,0 +1,93 @@
+-- `catalogue::look_up::find` meets its contract.
+-- Assumes nothing.
+use mathlib.Core.Path.{_≡_, sym, _∙_}
+use Prim.Native.Nat.{_-_, _*_, _≤_}
+use native.Mathlib.Omega.{arith}
+use borrow.Author.Needs.{needs}
+use Rattle.catalogue.proofs.Pieces.{slice-is, Passed, passed-more}
+use Rattle.catalogue.proofs.look_up.find.Statement.{statement}
+use Rattle.catalogue.proofs.look_up.find.Tie as tie
+
+-- No part so far has the number.
+abbrev Inv-loop : tie.InvT-loop
+Inv-loop catalogue from number count k₀ k = (from ≤ k) × (k ≤ count) × Passed catalogue number from k
+
+abbrev μ-loop : tie.MeasureT-loop
+μ-loop catalogue from number count k₀ k = count - k
+
+loop-holds : tie.Need-loop-holds Inv-loop μ-loop
+loop-holds c = (omega arith, omega arith, λ i l m. absurd (omega arith))
+
+mul-at : tie.Need-mul-at Inv-loop μ-loop
+mul-at c = search needs
+
+add-end : tie.Need-add-end Inv-loop μ-loop
+add-end c = search needs
+
+sub-is-same : tie.Need-sub-is-same Inv-loop μ-loop
+sub-is-same c = search needs
+
+part-is-same-start : tie.Need-part-is-same-start Inv-loop μ-loop
+part-is-same-start c = search needs
+
+part-is-same-end : tie.Need-part-is-same-end Inv-loop μ-loop
+part-is-same-end c = search needs
+
+is-same-requires : tie.Need-is-same-requires Inv-loop μ-loop
+is-same-requires c κs = search needs
+
+returns : tie.Need-returns Inv-loop μ-loop
+returns c =
+    let l = c .before .before .before .before .loop in
+    let s = c .before .before .before .before .before .before .before .args .catalogue .now in
+    let found = sym (c .before .is-same .ensures) ∙ c .if1 .taken in
+    record {
+      from-on = l .inv .0;
+      within = l .inv .1;
+      others = l .inv .2;
+      here = λ h. rw (slice-is s 8 (15 * l .k)) at found;
+    }
+
+add-k : tie.Need-add-k Inv-loop μ-loop
+add-k c = search needs
+
+loop-less : tie.Need-loop-less Inv-loop μ-loop
+loop-less c = search needs
+
+loop-again : tie.Need-loop-again Inv-loop μ-loop
+loop-again c =
+    let l = c .before .before .before .before .loop in
+    let a = c .before .before .before .before .before .before .before .args in
+    let s = a .catalogue .now in
+    let n = a .number .now in
+    let another = sym (c .before .is-same .ensures) ∙ c .if1 .left in
+    (omega arith, omega arith, passed-more s n (a .from) (l .k) (l .inv .2) (rw (slice-is s 8 (15 * l .k)) at another))
+
+returns-2 : tie.Need-returns-2 Inv-loop μ-loop
+returns-2 c =
+    let l = c .before .loop in
+    record {
+      from-on = c .before .before .before .before .pre;
+      within = omega arith;
+      others = λ i m n. l .inv .2 i m (omega arith);
+      here = λ h. absurd (omega arith);
+    }
+
+pub find-spec : {M : Type 1} → statement M
+find-spec =
+    tie.close
+    (tie.spec
+    Inv-loop
+    μ-loop
+    loop-holds
+    mul-at
+    add-end
+    sub-is-same
+    part-is-same-start
+    part-is-same-end
+    is-same-requires
+    returns
+    add-k
+    loop-less
+    loop-again
+    returns-2)

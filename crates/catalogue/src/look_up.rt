@@ -1,0 +1,141 @@
+// The parts of a catalogue, 15 bytes each: 8 of part number, then 7 of device record.
+ghost use mathlib.Core.Path.{_≡_};
+ghost use mathlib.Core.Bool.{true, false};
+ghost use mathlib.Core.List.{map};
+ghost use Prim.Native.Nat.{_*_, _/_, _≤_, min};
+ghost use lib.ListN.{length};
+ghost use Rattle.tables.specs.Records.{deviceAt};
+ghost use Rattle.catalogue.specs.Parts.{partsOf, pieces, numbers, has, unfit, repeated, lacking, recordOf};
+ghost use Rattle.catalogue.specs.Places.{Sought};
+ghost use Rattle.catalogue.specs.Building.{devicesOf};
+use crate::numbers::is_formed;
+use crate::numbers::is_same;
+use tables::DeviceRecord;
+use tables::DeviceTable;
+use tables::device_at;
+
+// The first part from a place on that has this number; the number of parts where there is none.
+fn find(catalogue: &[u8], from: usize, number: &[u8]) -> usize
+    requires { ⌜ from ≤ length (now catalogue) / 15 ⌝ }
+    ensures { λ k. ⌜ Sought (now (catalogue .entry)) from (now (number .entry)) k ⌝ }
+{
+    let count = catalogue.len() / 15;
+    let mut k = from;
+    while k < count {
+        let at = 15 * k;
+        let end = at + 8;
+        if is_same(number, &catalogue[at..end]) {
+            return k;
+        }
+        k += 1;
+    }
+    count
+}
+
+// 21: a number with a bad character or bad padding, a last part that is not whole, or over 64 parts.
+pub(crate) fn is_unfit(catalogue: &[u8]) -> bool
+    ensures { λ r. ⌜ r ≡ unfit (partsOf (now (catalogue .entry))) ⌝ }
+{
+    let n = catalogue.len();
+    if 960 < n {
+        return true;
+    }
+    if n % 15 != 0 {
+        return true;
+    }
+    let count = n / 15;
+    let mut k = 0;
+    while k < count {
+        let at = 15 * k;
+        let end = at + 8;
+        if !is_formed(&catalogue[at..end]) {
+            return true;
+        }
+        k += 1;
+    }
+    false
+}
+
+// 22: two parts have the same number.
+pub(crate) fn is_repeated(catalogue: &[u8]) -> bool
+    requires { ⌜ unfit (partsOf (now catalogue)) ≡ false ⌝ }
+    ensures { λ r. ⌜ r ≡ repeated (numbers (partsOf (now (catalogue .entry)))) ⌝ }
+{
+    let count = catalogue.len() / 15;
+    let mut k = 0;
+    while k < count {
+        let at = 15 * k;
+        let end = at + 8;
+        if find(catalogue, k + 1, &catalogue[at..end]) < count {
+            return true;
+        }
+        k += 1;
+    }
+    false
+}
+
+// 23: a wanted number that no part has. A last piece under 8 bytes is none.
+pub(crate) fn is_lacking(catalogue: &[u8], wanted: &[u8]) -> bool
+    requires { ⌜ unfit (partsOf (now catalogue)) ≡ false ⌝ }
+    ensures { λ r. ⌜ r ≡ lacking (partsOf (now (catalogue .entry))) (pieces 8 (now (wanted .entry))) ⌝ }
+{
+    let count = catalogue.len() / 15;
+    let n = wanted.len();
+    if n % 8 != 0 {
+        return true;
+    }
+    let mut k = 0;
+    while k < n / 8 {
+        let at = 8 * k;
+        let end = at + 8;
+        if find(catalogue, 0, &wanted[at..end]) == count {
+            return true;
+        }
+        k += 1;
+    }
+    false
+}
+
+// The record of the part that has this number.
+fn record_of(catalogue: &[u8], number: &[u8]) -> DeviceRecord
+    requires { ⌜ (unfit (partsOf (now catalogue)) ≡ false) × (has (numbers (partsOf (now catalogue))) (now number) ≡ true) ⌝ }
+    ensures { λ d. ⌜ d ≡ deviceAt (recordOf (partsOf (now (catalogue .entry))) (now (number .entry))) 0 ⌝ }
+{
+    let k = find(catalogue, 0, number);
+    device_at(catalogue, 15 * k + 8)
+}
+
+// A table has room for eight.
+fn held_of(n: usize) -> usize
+    ensures { λ r. ⌜ r ≡ min 8 n ⌝ }
+{
+    if n < 8 { n } else { 8 }
+}
+
+// The records of the wanted parts, in the order in which they are wanted.
+pub(crate) fn devices_of(catalogue: &[u8], wanted: &[u8]) -> DeviceTable
+    requires { ⌜ (unfit (partsOf (now catalogue)) ≡ false) × (lacking (partsOf (now catalogue)) (pieces 8 (now wanted)) ≡ false) ⌝ }
+    ensures { λ r. ⌜ r ≡ devicesOf (map (recordOf (partsOf (now (catalogue .entry)))) (pieces 8 (now (wanted .entry)))) ⌝ }
+{
+    let none = DeviceRecord {
+        t: 0,
+        pw: 0,
+        ps: 0,
+        p0: 0,
+    };
+    let mut devices = DeviceTable {
+        count: 0,
+        list: [none; 8],
+    };
+    let n = wanted.len() / 8;
+    let held = held_of(n);
+    let mut k = 0;
+    while k < held {
+        let at = 8 * k;
+        let end = at + 8;
+        devices.list[k] = record_of(catalogue, &wanted[at..end]);
+        k += 1;
+    }
+    devices.count = n;
+    devices
+}
