@@ -27,6 +27,11 @@ uint8_t door_write(const uint8_t *tables, size_t tables_len, uint8_t *out, size_
 /* The tables of a file; the count of the answer is their bytes. */
 uint8_t door_tables(const uint8_t *file, size_t file_len, uint8_t *out, size_t out_len, uint8_t *result, size_t result_len);
 
+/* The file of the wanted parts: 15 bytes for each part of the catalogue, 8 of number and 7 of device record, and 8 for each part that is wanted. The tables
+ * have no devices, else the door returns 255. The count of the answer is the bytes of the file. */
+uint8_t door_build(const uint8_t *catalogue, size_t catalogue_len, const uint8_t *wanted, size_t wanted_len, const uint8_t *tables, size_t tables_len,
+                   uint8_t *out, size_t out_len, uint8_t *result, size_t result_len);
+
 /* The start times mended. `out`: the new ones by job number, two bytes each. `moved`: six bytes for each job that moved, two each for its number, its given
  * start and its new one; the count of the answer is how many moved. */
 uint8_t door_mend(const uint8_t *file, size_t file_len, const uint8_t *starts, size_t starts_len, uint8_t *out, size_t out_len, uint8_t *moved,

@@ -7,6 +7,7 @@
 //! two sums over unplaced jobs are made, so that the race is between two makers of the same work.
 
 pub mod cases;
+pub mod catalogue;
 pub mod damage;
 pub mod example;
 pub mod expect;

@@ -4,6 +4,7 @@ ghost use mathlib.Core.Path.{_≡_};
 ghost use Prim.Native.Nat.{_/_, min};
 use calls::RESULT;
 
+pub mod door_build; // door_build.rt: a request from part numbers
 pub mod door_margins; // door_margins.rt: margins
 pub mod door_mend; // door_mend.rt: mending
 pub mod door_tables; // door_tables.rt: the tables of a file

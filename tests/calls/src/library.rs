@@ -56,6 +56,18 @@ mod c {
             r: *mut u8,
             r_len: usize,
         ) -> u8;
+        pub fn door_build(
+            c: *const u8,
+            c_len: usize,
+            w: *const u8,
+            w_len: usize,
+            t: *const u8,
+            t_len: usize,
+            o: *mut u8,
+            o_len: usize,
+            r: *mut u8,
+            r_len: usize,
+        ) -> u8;
         pub fn door_mend(
             f: *const u8,
             f_len: usize,
@@ -170,6 +182,29 @@ pub fn tables(file: &[u8], out: &mut [u8], result: &mut [u8]) -> u8 {
         c::door_tables(
             file.as_ptr(),
             file.len(),
+            out.as_mut_ptr(),
+            out.len(),
+            result.as_mut_ptr(),
+            result.len(),
+        )
+    }
+}
+
+pub fn build(
+    catalogue: &[u8],
+    wanted: &[u8],
+    tables: &[u8],
+    out: &mut [u8],
+    result: &mut [u8],
+) -> u8 {
+    unsafe {
+        c::door_build(
+            catalogue.as_ptr(),
+            catalogue.len(),
+            wanted.as_ptr(),
+            wanted.len(),
+            tables.as_ptr(),
+            tables.len(),
             out.as_mut_ptr(),
             out.len(),
             result.as_mut_ptr(),

@@ -1,6 +1,7 @@
 //! Calls every function of the library as C does, on random files, start times, budgets and lent
 //! lengths, and compares the number and every byte of every buffer with the oracle.
 
+mod catalogue;
 mod expected;
 mod figures;
 mod library;
@@ -202,6 +203,7 @@ fn test() -> Result<String, String> {
         }
     }
     writing::test(&mut tester)?;
+    catalogue::test(&mut tester)?;
     if let Some(failure) = tester.failure {
         return Err(failure);
     }
