@@ -276,63 +276,86 @@ mod tests {
         }
     }
 
-    fn is_found(wrong: Rules) -> bool {
+    fn is_found(wrong: impl Fn(&Call) -> Written) -> bool {
         let differs = |number| {
             let call = draw(&mut Random::new(SEED, number));
-            built(&call) != built_by(&wrong, &call)
+            built(&call) != wrong(&call)
         };
         (0..CALLS).any(differs)
+    }
+
+    fn by(rules: Rules) -> impl Fn(&Call) -> Written {
+        move |call: &Call| built_by(&rules, call)
     }
 
     #[test]
     fn a_wrong_look_up_is_found() {
         let seven = |number: &[u8]| number[..number.len().min(7)].to_vec();
-        assert!(is_found(Rules {
+        assert!(is_found(by(Rules {
             key: seven,
             ..RULES
-        }));
+        })));
         let without_zeros = |number: &[u8]| {
             let zeros = number.iter().take_while(|&&byte| byte == b'0').count();
             number[zeros..].to_vec()
         };
-        assert!(is_found(Rules {
+        assert!(is_found(by(Rules {
             key: without_zeros,
             ..RULES
-        }));
+        })));
         let without_case = |number: &[u8]| number.to_ascii_uppercase();
-        assert!(is_found(Rules {
+        assert!(is_found(by(Rules {
             key: without_case,
             ..RULES
-        }));
+        })));
         let lower = |number: &[u8]| is_number(&number.to_ascii_uppercase());
-        assert!(is_found(Rules {
+        assert!(is_found(by(Rules {
             is_number: lower,
             ..RULES
-        }));
+        })));
         let nul = |number: &[u8]| {
             let spaced = |&byte: &u8| if byte == 0 { b' ' } else { byte };
             is_number(&number.iter().map(spaced).collect::<Vec<u8>>())
         };
-        assert!(is_found(Rules {
+        assert!(is_found(by(Rules {
             is_number: nul,
             ..RULES
-        }));
+        })));
         let inner = |number: &[u8]| {
             number[0] != b' '
                 && number
                     .iter()
                     .all(|&byte| byte == b' ' || is_number(&[byte; 8]))
         };
-        assert!(is_found(Rules {
+        assert!(is_found(by(Rules {
             is_number: inner,
             ..RULES
-        }));
+        })));
         let empty = |number: &[u8]| number == b"        " || is_number(number);
-        assert!(is_found(Rules {
+        assert!(is_found(by(Rules {
             is_number: empty,
             ..RULES
-        }));
-        assert!(is_found(Rules { most: 65, ..RULES }));
-        assert!(is_found(Rules { most: 63, ..RULES }));
+        })));
+        assert!(is_found(by(Rules { most: 65, ..RULES })));
+        assert!(is_found(by(Rules { most: 63, ..RULES })));
+    }
+    #[test]
+    fn another_order_of_the_refusals_is_found() {
+        let repeats = |call: &Call| {
+            let mut numbers: Vec<&[u8]> = call.catalogue.chunks_exact(PART).collect();
+            numbers.iter_mut().for_each(|part| *part = &part[..NUMBER]);
+            numbers.sort();
+            numbers.windows(2).any(|two| two[0] == two[1])
+        };
+        let repeated_first = |call: &Call| match built(call) {
+            Err(21) if repeats(call) => Err(22),
+            built => built,
+        };
+        assert!(is_found(repeated_first));
+        let file_first = |call: &Call| match built(call) {
+            Err(23) => written(&call.others).and(Err(23)),
+            built => built,
+        };
+        assert!(is_found(file_first));
     }
 }

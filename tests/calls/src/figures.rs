@@ -16,6 +16,7 @@ const P3: &str = "00050101000500010003000100000005000201";
 const P3_TABLES: &str = "0100050001000000010100050001000300000005000201";
 const T0_TABLES: &str = "0100050001000000010000050001000300000005000201";
 const TASKS: &str = "01000000000002000000040001000006000200";
+const A: &str = "01000500010003";
 const THREE: &str = "0009000003000000090002000000000900020000000009000200";
 
 enum Call {
@@ -31,7 +32,14 @@ enum Call {
     Write {
         room: usize,
     },
+    Build {
+        parts: &'static [Part],
+        wanted: &'static [&'static str],
+    },
 }
+
+/// A part number, which spaces make eight long, and its record.
+type Part = (&'static str, &'static str);
 
 struct Figure {
     name: &'static str,
@@ -62,6 +70,7 @@ fn figure(
 fn table() -> Vec<Figure> {
     let search = |budget| Call::Search { budget, result: 11 };
     let rows = |starts, room| Call::Rows { starts, room };
+    let build = |parts, wanted| Call::Build { parts, wanted };
     vec![
         figure(
             "N1",
@@ -117,6 +126,56 @@ fn table() -> Vec<Figure> {
                 "000000020004000100000600020000",
             ),
         ),
+        figure(
+            "C1",
+            "01000500000000000100000005000201",
+            build(&[("00417", A), ("417", "02000900020004")], &["417"]),
+            (
+                0,
+                "0000050000000000000013",
+                "00050102000900020004000100000005000201",
+            ),
+        ),
+        figure(
+            "C2",
+            "010005000000000000",
+            build(&[("00417", A)], &["417"]),
+            (23, NOTHING, ""),
+        ),
+        figure(
+            "C3",
+            "010002000000000000",
+            build(&[("A", A)], &["A", "A"]),
+            (
+                0,
+                "0000020000000000000013",
+                "00020201000500010003010005000100030000",
+            ),
+        ),
+        figure(
+            "C4",
+            "010000000000000000",
+            build(&[("A", A), ("A", A), ("b", A)], &["B"]),
+            (21, NOTHING, ""),
+        ),
+        figure(
+            "C5",
+            "010000000000000000",
+            build(&[("A", A), ("A", A)], &["B"]),
+            (22, NOTHING, ""),
+        ),
+        figure(
+            "C6",
+            "010002000000000000",
+            build(&[("A", "00000500010003"), ("B", A)], &["B"]),
+            (0, "000002000000000000000c", "000201010005000100030000"),
+        ),
+        figure(
+            "C12",
+            "010001000000000000",
+            build(&[("A", A)], &["A"; 9]),
+            (3, NOTHING, ""),
+        ),
     ]
 }
 
@@ -145,6 +204,14 @@ fn fails(figure: &Figure) -> bool {
         Call::Write { room } => {
             lent = full(room);
             library::write(&file, &mut lent, &mut result)
+        }
+        Call::Build { parts, wanted } => {
+            lent = full(FILE);
+            let number = |text: &str| format!("{text:8}").into_bytes();
+            let part = |(text, record): &Part| [number(text), bytes(record)].concat();
+            let parts: Vec<u8> = parts.iter().flat_map(part).collect();
+            let wanted: Vec<u8> = wanted.iter().flat_map(|text| number(text)).collect();
+            library::build(&parts, &wanted, &file, &mut lent, &mut result)
         }
     };
     let mut after = full(lent.len());
