@@ -1,15 +1,17 @@
 -- `device::write_row` meets its contract. The loop's invariant: the row is written up to the end of the last use passed, and the rest of the buffer is as it was.
 -- Assumes nothing.
 use mathlib.Core.Path.{_≡_, refl, ap, _∙_}
-use Prim.Native.Nat.{_-_, _≤_, _<_}
+use mathlib.Core.List.{map}
+use Prim.Native.Nat.{_+_, _-_, _≤_, _<_}
 use native.Mathlib.Omega.{arith}
 use borrow.Author.Needs.{needs}
 use borrow.Rule.Slice.PartMut.{putMid}
-use lib.ListN.{length}
+use lib.ListN.{length, replicate, length-replicate}
 use Rattle.base.proofs.Filling.{Filled, filled-length}
+use Rattle.device.specs.Row.{byteOf, gapRow}
 use Rattle.device.specs.Uses.{begin, end, after}
 use Rattle.device.proofs.Spacing.{use-fits, after-next}
-use Rattle.device.proofs.Bytes.{bytes, written-none, written-use, written-last}
+use Rattle.device.proofs.Bytes.{bytes, bytes-use, bytes-last, length-gap-bytes, written-none, written-on}
 use Rattle.device.proofs.writer.write_row.Statement.{statement}
 use Rattle.device.proofs.writer.write_row.Tie as tie
 
@@ -51,29 +53,41 @@ element-copy-out-end c = search needs
 cast-end : tie.Need-cast-end Inv-loop μ-loop
 cast-end c = search needs
 
-sub-fill-gap : tie.Need-sub-fill-gap Inv-loop μ-loop
-sub-fill-gap c = omega (arith, fits (c .before .before))
+sub-write-gap : tie.Need-sub-write-gap Inv-loop μ-loop
+sub-write-gap c = omega (arith, fits (c .before .before))
 
-part-fill-gap-start : tie.Need-part-fill-gap-start Inv-loop μ-loop
-part-fill-gap-start c = omega (arith, fits (c .before .before))
+part-write-gap-start : tie.Need-part-write-gap-start Inv-loop μ-loop
+part-write-gap-start c = omega (arith, fits (c .before .before))
 
-part-fill-gap-end : tie.Need-part-fill-gap-end Inv-loop μ-loop
-part-fill-gap-end c = omega (arith, fits (c .before .before))
+part-write-gap-end : tie.Need-part-write-gap-end Inv-loop μ-loop
+part-write-gap-end c = omega (arith, fits (c .before .before))
 
-fill-gap-requires : tie.Need-fill-gap-requires Inv-loop μ-loop
-fill-gap-requires c κs = search needs
+sub-write-gap-2 : tie.Need-sub-write-gap-2 Inv-loop μ-loop
+sub-write-gap-2 c = omega (arith, fits (c .before .before .before))
 
-sub-fill : tie.Need-sub-fill Inv-loop μ-loop
-sub-fill c = omega (arith, fits (c .before .before .before .before .before .before))
+write-gap-requires : tie.Need-write-gap-requires Inv-loop μ-loop
+write-gap-requires c κs = omega (arith, fits (c .before .before .before))
 
-part-fill-start : tie.Need-part-fill-start Inv-loop μ-loop
-part-fill-start c = omega (arith, fits (c .before .before .before .before .before .before))
+add-at : tie.Need-add-at Inv-loop μ-loop
+add-at c = omega (arith, fits (c .before .before .before .before .before .before))
 
-part-fill-end : tie.Need-part-fill-end Inv-loop μ-loop
-part-fill-end c = omega (arith, fits (c .before .before .before .before .before .before))
+sub-write-run : tie.Need-sub-write-run Inv-loop μ-loop
+sub-write-run c = omega (arith, fits (c .before .before .before .before .before .before))
 
-fill-requires : tie.Need-fill-requires Inv-loop μ-loop
-fill-requires c κs = search needs
+part-write-run-start : tie.Need-part-write-run-start Inv-loop μ-loop
+part-write-run-start c = omega (arith, fits (c .before .before .before .before .before .before))
+
+part-write-run-end : tie.Need-part-write-run-end Inv-loop μ-loop
+part-write-run-end c = omega (arith, fits (c .before .before .before .before .before .before))
+
+sub-write-run-2 : tie.Need-sub-write-run-2 Inv-loop μ-loop
+sub-write-run-2 c = omega (arith, fits (c .before .before .before .before .before .before .before))
+
+write-run-requires : tie.Need-write-run-requires Inv-loop μ-loop
+write-run-requires c κs = omega (arith, fits (c .before .before .before .before .before .before .before))
+
+add-at-2 : tie.Need-add-at-2 Inv-loop μ-loop
+add-at-2 c = omega (arith, fits (c .before .before .before .before .before .before .before .before .before .before))
 
 add-i : tie.Need-add-i Inv-loop μ-loop
 add-i c = search needs
@@ -83,13 +97,20 @@ loop-less c = search needs
 
 loop-again : tie.Need-loop-again Inv-loop μ-loop
 loop-again c =
-    let l = c .before .before .before .before .before .before .before .before .before .before in
-    let s = l .before .before .before in (
+    let w = c .before .before in
+    let g = w .before .before .before .before in
+    let l = g .before .before .before .before in
+    let s = l .before .before .before in
+    let u = s .args .t3 in
+    let i = l .before .loop .i in
+    let at = l .before .loop .at in
+    let gap = written-on (l .before .loop .inv .2) (map byteOf (gapRow (s .args .d .t) (begin u i - at))) (length-gap-bytes (s .args .d .t) (begin u i - at))
+    (omega (arith, fits l)) (g .write-gap .ensures) in
+    let used = written-on gap (replicate (end u i - begin u i) 87) (length-replicate (end u i - begin u i) 87) (omega (arith, fits l)) (w .write-run .ensures) in
+    let to : at + g .write-gap .result + w .write-run .result ≡ end u i = omega (arith, fits l) in (
       omega arith,
-      after-next (s .args .t3) (l .before .loop .i),
-      written-use (s .args .t3) (s .args .h) (s .pre .0) (s .args .d) (l .before .loop .i) (l .before .loop .at) (l .loop-test .taken) (l .before .loop .inv .1)
-          (s .pre .1) (l .before .loop .inv .2) (c .before .before .before .before .before .before .fill-gap .last .0) (c .before .before .fill .last .0)
-          (c .before .before .before .before .before .before .fill-gap .ensures) (c .before .before .fill .ensures),
+      to ∙ after-next u i,
+      rw (to, bytes-use u (s .args .h) (s .pre .0) (s .args .d) i at (l .loop-test .taken) (l .before .loop .inv .1)) (rw to at used),
     )
 
 -- All uses are passed.
@@ -103,27 +124,34 @@ over c =
     let e : c .before .loop .at ≡ after (s .args .t3) (s .args .t3 .count) = c .before .loop .inv .1 ∙ ap (after (s .args .t3)) last in
     (e, omega (arith, s .pre .0 .within), filled-length (c .before .loop .inv .2) (omega (arith, s .pre .0 .within, s .pre .1)))
 
-sub-fill-gap-2 : tie.Need-sub-fill-gap-2 Inv-loop μ-loop
-sub-fill-gap-2 c = omega (arith, over c)
+sub-write-gap-3 : tie.Need-sub-write-gap-3 Inv-loop μ-loop
+sub-write-gap-3 c = omega (arith, over c)
 
-part-fill-gap-start-2 : tie.Need-part-fill-gap-start-2 Inv-loop μ-loop
-part-fill-gap-start-2 c = omega (arith, over c)
+part-write-gap-start-2 : tie.Need-part-write-gap-start-2 Inv-loop μ-loop
+part-write-gap-start-2 c = omega (arith, over c)
 
-part-fill-gap-end-2 : tie.Need-part-fill-gap-end-2 Inv-loop μ-loop
-part-fill-gap-end-2 c = omega (arith, over c)
+part-write-gap-end-2 : tie.Need-part-write-gap-end-2 Inv-loop μ-loop
+part-write-gap-end-2 c = omega (arith, over c)
 
-fill-gap-requires-2 : tie.Need-fill-gap-requires-2 Inv-loop μ-loop
-fill-gap-requires-2 c κs = search needs
+sub-write-gap-4 : tie.Need-sub-write-gap-4 Inv-loop μ-loop
+sub-write-gap-4 c = omega (arith, over (c .before))
+
+write-gap-requires-2 : tie.Need-write-gap-requires-2 Inv-loop μ-loop
+write-gap-requires-2 c κs = omega (arith, over (c .before))
 
 -- The last gap is written too.
-whole : (c : tie.After-fill-gap2 Inv-loop μ-loop) → let l = c .before .before .before in
+whole : (c : tie.After-write-gap2 Inv-loop μ-loop) → let l = c .before .before .before in
     let s = l .before .before in
-    Filled (s .args .out .now) (s .args .h) (bytes (s .args .t3) (s .args .d) (s .args .h)) (putMid (l .loop .at) (s .args .h - l .loop .at) (l .loop .out) (c .fill-gap2 .last .0))
+    Filled (s .args .out .now) (s .args .h) (bytes (s .args .t3) (s .args .d) (s .args .h))
+    (putMid (l .loop .at) (length (l .loop .out) - l .loop .at) (l .loop .out) (c .write-gap2 .last .0))
 whole c =
     let l = c .before .before in
     let s = l .before .before .before in
-    written-last (s .args .t3) (s .args .h) (s .pre .0) (s .args .d) (l .before .loop .at) (over l .0) (s .pre .1) (l .before .loop .inv .2)
-    (c .fill-gap2 .last .0) (c .fill-gap2 .ensures)
+    let at = l .before .loop .at in
+    let gap = written-on (l .before .loop .inv .2) (map byteOf (gapRow (s .args .d .t) (s .args .h - at))) (length-gap-bytes (s .args .d .t) (s .args .h - at))
+    (omega (arith, over l)) (c .write-gap2 .ensures) in
+    let to : at + c .write-gap2 .result ≡ s .args .h = omega (arith, over l) in
+    rw (bytes-last (s .args .t3) (s .args .h) (s .pre .0) (s .args .d) at (over l .0)) (rw to at gap)
 
 same-length : tie.Need-same-length Inv-loop μ-loop
 same-length c = filled-length (whole (c .before .before)) (c .before .before .before .before .before .before .before .pre .1)
@@ -144,20 +172,25 @@ write-row-spec =
     mul-end
     element-copy-out-end
     cast-end
-    sub-fill-gap
-    part-fill-gap-start
-    part-fill-gap-end
-    fill-gap-requires
-    sub-fill
-    part-fill-start
-    part-fill-end
-    fill-requires
+    sub-write-gap
+    part-write-gap-start
+    part-write-gap-end
+    sub-write-gap-2
+    write-gap-requires
+    add-at
+    sub-write-run
+    part-write-run-start
+    part-write-run-end
+    sub-write-run-2
+    write-run-requires
+    add-at-2
     add-i
     loop-less
     loop-again
-    sub-fill-gap-2
-    part-fill-gap-start-2
-    part-fill-gap-end-2
-    fill-gap-requires-2
+    sub-write-gap-3
+    part-write-gap-start-2
+    part-write-gap-end-2
+    sub-write-gap-4
+    write-gap-requires-2
     same-length
     returns)
