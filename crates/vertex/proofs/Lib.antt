@@ -1,2 +1,10 @@
+pub mod Flags
+pub mod Adding
+pub mod Limits
+pub mod Soonest
+pub mod Offering
+pub mod Reading
 pub mod Charging
-pub mod Lateness
+pub mod Placed
+pub mod Flooring
+pub mod Rooting

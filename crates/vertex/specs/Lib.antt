@@ -1,1 +1,3 @@
 pub mod Vertices
+pub mod Layout
+pub mod Sums

@@ -1,75 +1,79 @@
--- A vertex as the search keeps it: the sums over its unplaced jobs, cut A (rule 43), what its devices have cost, and its floor (rule 46). These are the code's
--- steps, and nobody need believe them: visit/proofs/Agreement shows that they are Visiting's.
+-- A vertex as the search keeps it (rule 40): the sums over its unplaced jobs, cut A (rule 43), what its devices have cost, and its floor (rule 46). These are the
+-- code's steps, and nobody need believe them: visit/proofs/Agreement shows that they are Visiting's.
 -- Assumes nothing.
-use mathlib.Core.Path.{_≡_}
 use mathlib.Core.Bool.{Bool, true, false, cond}
-use mathlib.Core.List.{List}
-use Prim.Native.Nat.{ℕ, _+_, _-_, _*_, _≤_, _<_, max}
-use lib.Dec.{ltb, eqb}
-use lib.ListN.{getD, set, replicate, length}
+use mathlib.Core.List.{List, [], _∷_, _++_}
+use Prim.Native.Nat.{ℕ, zero, suc, _+_, _-_, _*_, _≤_, _<_, max}
+use lib.Dec.{ltb}
+use lib.ListN.{getD, set, replicate}
 use Rattle.base.specs.Loops.{each}
-use Rattle.device.specs.Row.{gapCost, deep}
+use Rattle.base.specs.Sums.{total, sum}
 use Rattle.device.specs.declared.Device.{Device}
-use Rattle.schedule.specs.declared.Job.{Job}
-use Rattle.schedule.specs.declared.Jobs.{Jobs}
-use Rattle.schedule.specs.declared.Devices.{Devices}
+use Rattle.device.specs.Row.{gapCost, deep}
 use Rattle.schedule.specs.declared.Recorder.{Recorder}
-use Rattle.vertex.specs.declared.Vertex.{Vertex}
-use Rattle.schedule.specs.Quantities.{noJob, noDevice, job, device, jobs, run}
+use Rattle.schedule.specs.Quantities.{device, jobs, release, deadline, run, uses}
+use Rattle.schedule.specs.Visiting.{ticks}
 
--- ---- the sums over the unplaced jobs
+-- Some jobs are placed one after the other, the last one up to the tick `time`. Of each job: whether it is placed, and its start. Of each device: the end of its
+-- last use, and the least energy of the ticks before that end.
+pub record Vertex : Type 0 where
+  pub time : ℕ
+  pub placed : List Bool
+  pub starts : List ℕ
+  pub ends : List ℕ
+  pub paid : List ℕ
 
 abbrev pub flagged : List Bool → ℕ → Bool
 flagged m j = getD m j false
-
-abbrev pub jobIn : Jobs → ℕ → Job
-jobIn J j = getD (J .list) j noJob
-
-abbrev pub deviceIn : Devices → ℕ → Device
-deviceIn D k = getD (D .list) k noDevice
-
--- A job with release a, deadline d and running time c, placed or not, at the time t: is it late, or was one before it?
-unfoldable pub lateStep : Bool → ℕ → ℕ → ℕ → ℕ → Bool → Bool
-lateStep p t a d c b = cond p b (cond (ltb d (max t a + c)) true b)
-
-unfoldable pub loadStep : Bool → ℕ → ℕ → ℕ
-loadStep p c x = cond p x (x + c)
-
--- The same sum over the jobs that use a device.
-unfoldable pub aheadStep : Bool → Bool → ℕ → ℕ → ℕ
-aheadStep p u c x = cond p x (cond u (x + c) x)
-
-abbrev pub isLate : Jobs → ℕ → List Bool → ℕ → Bool → Bool
-isLate J t m j = lateStep (flagged m j) t (jobIn J j .release) (jobIn J j .deadline) (jobIn J j .run)
-
-unfoldable pub late : Jobs → ℕ → List Bool → Bool
-late J t m = each (isLate J t m) (J .count) false
-
-abbrev pub addLoad : Jobs → List Bool → ℕ → ℕ → ℕ
-addLoad J m j = loadStep (flagged m j) (jobIn J j .run)
-
-unfoldable pub load : Jobs → List Bool → ℕ
-load J m = each (addLoad J m) (J .count) 0
-
-abbrev pub addAhead : Jobs → List Bool → ℕ → ℕ → ℕ → ℕ
-addAhead J m k j = aheadStep (flagged m j) (getD (jobIn J j .uses) k false) (jobIn J j .run)
-
-unfoldable pub ahead : Jobs → List Bool → ℕ → ℕ
-ahead J m k = each (addAhead J m k) (J .count) 0
-
-unfoldable pub cutA : Recorder → Vertex → Bool
-cutA R v = cond (late (R .jobs) (v .time) (v .placed)) true (ltb (R .horizon) (v .time + load (R .jobs) (v .placed)))
-
--- ---- the last placed job, charged to its devices
-
-abbrev pub lastStart : Vertex → ℕ
-lastStart v = getD (v .starts) (v .last) 0
 
 abbrev pub endAt : Vertex → ℕ → ℕ
 endAt v k = getD (v .ends) k 0
 
 abbrev pub paidAt : Vertex → ℕ → ℕ
 paidAt v k = getD (v .paid) k 0
+
+abbrev pub root : Vertex
+root =
+    record { time = 0; placed = replicate 16 false; starts = replicate 16 0; ends = replicate 8 0; paid = replicate 8 0 }
+
+-- ---- the sums over the unplaced jobs
+
+-- The numbers below n that are not flagged, rising.
+unfoldable pub unflagged : List Bool → ℕ → List ℕ
+unflagged m zero = []
+unflagged m (suc n) = cond (flagged m n) (unflagged m n) (unflagged m n ++ n ∷ [])
+
+-- The sum of f over the jobs that m does not flag.
+abbrev pub rest : Recorder → List Bool → (ℕ → ℕ) → ℕ
+rest R m f = total f (unflagged m (jobs R))
+
+-- How many they are, how long they run, and for how long they use device k.
+abbrev pub unplaced : Recorder → List Bool → ℕ
+unplaced R m = rest R m (λ j. 1)
+
+abbrev pub load : Recorder → List Bool → ℕ
+load R m = rest R m (run R)
+
+abbrev pub ahead : Recorder → List Bool → ℕ → ℕ
+ahead R m k = rest R m (ticks R k)
+
+-- ---- cut A
+
+-- A job of release a, deadline d and running time c, placed or not, at the time t: is it late, or was one before it?
+unfoldable pub lateStep : Bool → ℕ → ℕ → ℕ → ℕ → Bool → Bool
+lateStep p t a d c b = cond p b (cond (ltb d (max t a + c)) true b)
+
+abbrev pub isLate : Recorder → ℕ → List Bool → ℕ → Bool → Bool
+isLate R t m j = lateStep (flagged m j) t (release R j) (deadline R j) (run R j)
+
+unfoldable pub late : Recorder → ℕ → List Bool → Bool
+late R t m = each (isLate R t m) (jobs R) false
+
+-- At the time t, with the jobs m placed.
+unfoldable pub cutA : Recorder → ℕ → List Bool → Bool
+cutA R t m = cond (late R t m) true (ltb (R .horizon) (t + load R m))
+
+-- ---- a job placed
 
 -- A job that starts at s and runs for c ticks, and uses a device d or not, whose last use ended at e and which had cost b by then.
 unfoldable pub paidStep : Bool → Device → ℕ → ℕ → ℕ → ℕ → ℕ
@@ -78,103 +82,52 @@ paidStep u d b e s c = cond u (b + (gapCost d (s - e) + d .pw * c)) b
 unfoldable pub endStep : Bool → ℕ → ℕ → ℕ → ℕ
 endStep u e s c = cond u (s + c) e
 
-unfoldable pub payEnd : Vertex → Job → ℕ → ℕ → List ℕ → List ℕ
-payEnd v j s k l = set l k (endStep (getD (j .uses) k false) (endAt v k) s (j .run))
+abbrev pub endNow : Recorder → Vertex → ℕ → ℕ → ℕ → ℕ
+endNow R v j s k = endStep (uses R k j) (endAt v k) s (run R j)
 
-unfoldable pub payOne : Devices → Vertex → Job → ℕ → ℕ → List ℕ → List ℕ
-payOne D v j s k l = set l k (paidStep (getD (j .uses) k false) (deviceIn D k) (paidAt v k) (endAt v k) s (j .run))
+abbrev pub paidNow : Recorder → Vertex → ℕ → ℕ → ℕ → ℕ
+paidNow R v j s k = paidStep (uses R k j) (device R k) (paidAt v k) (endAt v k) s (run R j)
 
-abbrev pub withPaid : Vertex → List ℕ → List ℕ → Vertex
-withPaid v e p = record { time = v .time; left = v .left; placed = v .placed; starts = v .starts; last = v .last; ends = e; paid = p }
+abbrev pub storing : (ℕ → ℕ) → ℕ → List ℕ → List ℕ
+storing f k l = set l k (f k)
 
--- At the root there is nothing to charge.
-unfoldable pub charged : Recorder → Vertex → Vertex
-charged R v =
-    let j = job R (v .last) in
-    let s = lastStart v in
-    cond (eqb (v .left) (jobs R)) v
-    (withPaid v (each (payEnd v j s) (R .devices .count) (v .ends)) (each (payOne (R .devices) v j s) (R .devices .count) (v .paid)))
+-- v with job j at s.
+abbrev pub placeAt : Recorder → Vertex → ℕ → ℕ → Vertex
+placeAt R v j s =
+    record {
+      time = s + run R j;
+      placed = set (v .placed) j true;
+      starts = set (v .starts) j s;
+      ends = each (storing (endNow R v j s)) (R .devices .count) (v .ends);
+      paid = each (storing (paidNow R v j s)) (R .devices .count) (v .paid);
+    }
 
 -- ---- the energy of a complete vertex, and the floor of another
 
 -- A device that had cost b by the end e of its last use, up to the horizon h.
-unfoldable pub closeStep : Device → ℕ → ℕ → ℕ → ℕ → ℕ
-closeStep d h b e x = x + (b + gapCost d (h - e))
+unfoldable pub closeOf : Device → ℕ → ℕ → ℕ → ℕ
+closeOf d h b e = b + gapCost d (h - e)
 
-abbrev pub addClose : Devices → ℕ → Vertex → ℕ → ℕ → ℕ
-addClose D h v k = closeStep (deviceIn D k) h (paidAt v k) (endAt v k)
+abbrev pub closeAt : Recorder → Vertex → ℕ → ℕ
+closeAt R v k = closeOf (device R k) (R .horizon) (paidAt v k) (endAt v k)
 
 unfoldable pub closed : Recorder → Vertex → ℕ
-closed R v = each (addClose (R .devices) (R .horizon) v) (R .devices .count) 0
+closed R v = sum (R .devices .count) (closeAt R v)
 
 -- The same device, where a ticks of use are still to come.
-unfoldable pub floorStep : Device → ℕ → ℕ → ℕ → ℕ → ℕ → ℕ
-floorStep d h b e a x = x + (b + (d .pw * a + deep d * (h - e - a)))
+unfoldable pub floorOf : Device → ℕ → ℕ → ℕ → ℕ → ℕ
+floorOf d h b e a = b + (d .pw * a + deep d * (h - e - a))
 
-abbrev pub addFloor : Devices → Jobs → ℕ → Vertex → ℕ → ℕ → ℕ
-addFloor D J h v k = floorStep (deviceIn D k) h (paidAt v k) (endAt v k) (ahead J (v .placed) k)
+abbrev pub floorAt : Recorder → Vertex → ℕ → ℕ
+floorAt R v k = floorOf (device R k) (R .horizon) (paidAt v k) (endAt v k) (ahead R (v .placed) k)
 
 unfoldable pub floor : Recorder → Vertex → ℕ
-floor R v = each (addFloor (R .devices) (R .jobs) (R .horizon) v) (R .devices .count) 0
-
--- ---- the root, and a job placed
-
-abbrev pub root : Recorder → Vertex
-root R =
-    record {
-      time = 0;
-      left = jobs R;
-      placed = replicate 16 false;
-      starts = replicate 16 0;
-      last = 0;
-      ends = replicate 8 0;
-      paid = replicate 8 0;
-    }
-
--- v with job j, of running time c, at s.
-abbrev pub placeAt : Vertex → ℕ → ℕ → ℕ → Vertex
-placeAt v j s c =
-    record {
-      time = s + c;
-      left = v .left - 1;
-      placed = set (v .placed) j true;
-      starts = set (v .starts) j s;
-      last = j;
-      ends = v .ends;
-      paid = v .paid;
-    }
-
--- v with job j placed and its start still to be set.
-abbrev pub openFor : Vertex → ℕ → Vertex
-openFor v j =
-    record {
-      time = v .time;
-      left = v .left - 1;
-      placed = set (v .placed) j true;
-      starts = v .starts;
-      last = j;
-      ends = v .ends;
-      paid = v .paid;
-    }
+floor R v = sum (R .devices .count) (floorAt R v)
 
 -- ---- what every vertex that is reached has, so that no sum of the code wraps
 
--- What device k has cost so far, with its powers: at most working all the time.
+-- No device has cost more than working all the time.
 pub record Settled (R : Recorder) (v : Vertex) : Type 0 where
   pub within : v .time ≤ R .horizon
-  pub ended : (k : ℕ) → endAt v k ≤ v .time
+  pub ended : (k : ℕ) → k < R .devices .count → endAt v k ≤ v .time
   pub cheap : (k : ℕ) → k < R .devices .count → paidAt v k ≤ device R k .pw * endAt v k
-  pub sixteen : length (v .starts) ≡ 16
-  pub eight : length (v .ends) ≡ 8
-  pub eight-paid : length (v .paid) ≡ 8
-
--- The same before the last placed job is charged.
-pub record Kept (R : Recorder) (v : Vertex) : Type 0 where
-  pub within : v .time ≤ R .horizon
-  pub ended : (k : ℕ) → endAt v k ≤ lastStart v
-  pub cheap : (k : ℕ) → k < R .devices .count → paidAt v k ≤ device R k .pw * endAt v k
-  pub started : lastStart v ≤ v .time
-  pub placed : (v .left ≡ jobs R → ⊥) → (v .last < jobs R) × (lastStart v + run R (v .last) ≡ v .time)
-  pub sixteen : length (v .starts) ≡ 16
-  pub eight : length (v .ends) ≡ 8
-  pub eight-paid : length (v .paid) ≡ 8

@@ -1,15 +1,9 @@
-// A vertex of the search and what is worked out at one: cut A, the floor, and what its devices have cost.
-pub mod costs; // costs.rt: what the devices have cost
-pub mod cuts; // cuts.rt: cut A and the floor
+// A vertex of the search as lent numbers: how late a child of it may end, a child's floor, and placing a job. The sums over the unplaced jobs are stored, and
+// placing a job keeps them right, so that nothing is added up anew at a vertex.
+pub mod dues; // dues.rt: the running times still to come, and cut A as one comparison
+pub mod floors; // floors.rt: the floor of a child, and the energy of a complete vertex
+pub mod placing; // placing.rt: the root, and a job placed
 
-// A vertex: some jobs placed in running order, at the end of the last one. Of device k, `ends[k]` is the end of the last use and `paid[k]` the least energy
-// of the ticks before it. The job placed last is not in these two until the vertex has passed cut A: a vertex that cut A drops costs nothing dearer.
-pub struct Vertex {
-    pub time: u16,
-    pub left: usize,
-    pub placed: [bool; 16],
-    pub starts: [u16; 16],
-    pub last: usize,
-    pub ends: [u16; 8],
-    pub paid: [u32; 8],
-}
+// Of device k: the end of its last use at k, the least energy before that end at 8 + k, its ticks to come at 16 + k. Of job j: its start at 24 + j, and at 40 + j
+// a 1 as long as it is unplaced.
+pub type Cells = [u32; 56];

@@ -9,15 +9,10 @@ use lib.Dec.{leb}
 use borrow.Author.Tests.{le-leb, lt-leb, leb-true, leb-false}
 use Rattle.base.specs.Loops.{each}
 use Rattle.base.proofs.Turns.{each-step, each-done, each-keeps}
-use Rattle.visit.specs.declared.Tally.{Tally}
-use Rattle.visit.specs.declared.Run.{Run}
-use Rattle.visit.specs.Steps.{haltedAt, capped}
+use Rattle.visit.specs.Steps.{Tally, Run, haltedAt, capped}
 
 abbrev pub going : Tally → Run
 going t = record { stopped = false; tally = t }
-
-abbrev pub stopping : Tally → Run
-stopping t = record { stopped = true; tally = t }
 
 pub capped-within : (b : ℕ) (t : Tally) → t .count ≤ b → capped b t ≡ going t
 unfolding capped

@@ -1,21 +1,28 @@
 -- The search's answer and the lent list, case by case.
 -- Assumes nothing.
-use mathlib.Core.Path.{_≡_, refl, ap, _∙_}
-use mathlib.Core.Bool.{true, false}
+use mathlib.Core.Path.{_≡_, refl, sym, ap, _∙_}
+use mathlib.Core.Bool.{Bool, true, false}
 use mathlib.Core.List.{List}
-use Prim.Native.Nat.{ℕ, _≤_, _<_}
+use Prim.Native.Nat.{ℕ, _+_, _≤_, _<_}
+use native.Mathlib.Omega.{arith}
 use lib.Dec.{eqb}
-use lib.ListN.{length}
-use borrow.Author.Tests.{lt-ltb, le-ltb}
+use lib.ListN.{getD, length, take}
+use lib.Seq.{getD-take}
+use borrow.Author.Tests.{lt-ltb, le-ltb, eq-eqb, ne-eqb}
 use Rattle.base.specs.Loops.{each}
 use Rattle.schedule.specs.declared.Recorder.{Recorder}
-use Rattle.vertex.specs.declared.Vertex.{Vertex}
-use Rattle.visit.specs.declared.Tally.{Tally}
-use Rattle.visit.specs.declared.Run.{Run}
-use Rattle.schedule.specs.Quantities.{jobs}
-use Rattle.vertex.specs.Vertices.{root}
-use Rattle.visit.specs.Steps.{capped, visitOf, bare, searched, refusal, success, answerOf, copyStart, writtenOf}
+use Rattle.schedule.specs.Quantities.{Valid, jobs}
+use Rattle.schedule.proofs.Outcome.{visited-first}
+use Rattle.vertex.proofs.Reading.{row-at}
+use Rattle.visit.specs.declared.Found.{Found}
+use Rattle.visit.specs.Steps.{Tally, capped, searched, refusal, success, answerOf, copyStart, writtenOf}
+use Rattle.visit.specs.Lent.{tallyOf, ran}
 use Rattle.visit.proofs.Budget.{capped-stopped, capped-going, going-is}
+use Rattle.visit.proofs.Agreement.{searched-best}
+
+pub start-cell : (m : List ℕ) (j : ℕ) → j < 16 → getD (tallyOf m .best .starts) j 0 ≡ getD m (3 + j) 0
+unfolding tallyOf
+start-cell m j h = row-at 3 16 m j h
 
 module _ (R : Recorder) (b : ℕ) (l : List ℕ) where
   unwritten : (k c : ℕ) → eqb k 0 ≡ false → refusal k c ≡ answerOf R b (length l) → l ≡ writtenOf R b l
@@ -32,51 +39,62 @@ module _ (R : Recorder) (b : ℕ) (l : List ℕ) where
   pub is-short : length l < jobs R → Refuses 15 0
   is-short h = (short-answer h, unwritten 15 0 refl (short-answer h))
 
-  -- What the code visited: F, the recorder laid flat and read back.
-  module _
-      (F : Recorder)
-      (ef : F ≡ R)
-      (p : Vertex)
-      (t : Tally)
-      (r : Run)
-      (ep : p ≡ root R)
-      (et : t ≡ bare 0)
-      (e : r ≡ capped b (visitOf F (p .left) p t))
-      (h : jobs R ≤ length l)
-    where
-      ran : r ≡ capped b (searched R)
-      unfolding searched
-      ran =
-          e
-          ∙ ap (λ (G : Recorder). capped b (visitOf G (p .left) p t)) ef
-          ∙ ap (λ (q : Vertex). capped b (visitOf R (q .left) q t)) ep
-          ∙ ap (λ (u : Tally). capped b (visitOf R (jobs R) (root R) u)) et
+  -- What the search came to: x says whether the budget is used up, and m is the lent tally; F is the recorder laid flat and read back.
+  module _ (valid : Valid R) (F : Recorder) (ef : F ≡ R) (x : Bool) (m : List ℕ) (e : ran b x m ≡ capped b (searched F)) (h : jobs R ≤ length l) where
+    run-is : ran b x m ≡ capped b (searched R)
+    run-is = e ∙ ap (λ (G : Recorder). capped b (searched G)) ef
 
-      over : r .stopped ≡ true → refusal 20 b ≡ answerOf R b (length l)
+    over : x ≡ true → refusal 20 b ≡ answerOf R b (length l)
+    unfolding answerOf ran
+    over s = simp (le-ltb _ _ h, lt-ltb _ _ (capped-stopped b (searched R) (ran b x m) run-is s))
+
+    pub is-over : x ≡ true → Refuses 20 b
+    is-over s = (over s, unwritten 20 b refl (over s))
+
+    module _ (s : x ≡ false) where
+      all : tallyOf m ≡ searched R
+      unfolding ran
+      all = sym (simp s) ∙ going-is b (searched R) (ran b x m) run-is s
+
+      within : searched R .count ≤ b
+      unfolding ran
+      within = capped-going b (searched R) (ran b x m) run-is s
+
+      none : tallyOf m .best .found ≡ false → refusal 19 (tallyOf m .count) ≡ answerOf R b (length l)
       unfolding answerOf
-      over s = simp (le-ltb _ _ h, lt-ltb _ _ (capped-stopped b (searched R) r ran s))
+      none f = rw all (simp (le-ltb _ _ h, le-ltb _ _ within, (rw all at f)))
 
-      pub is-over : r .stopped ≡ true → Refuses 20 b
-      is-over s = (over s, unwritten 20 b refl (over s))
+      pub is-none : (getD m 1 0 ≡ 1 → ⊥) → Refuses 19 (getD m 0 0)
+      unfolding tallyOf
+      is-none n = let f = ne-eqb _ _ n in (none f, unwritten 19 (getD m 0 0) refl (none f))
 
-      module _ (s : r .stopped ≡ false) where
-        all : r .tally ≡ searched R
-        all = going-is b (searched R) r ran s
+      some : tallyOf m .best .found ≡ true → success (tallyOf m) ≡ answerOf R b (length l)
+      unfolding answerOf
+      some f = rw all (simp (le-ltb _ _ h, le-ltb _ _ within, (rw all at f)))
 
-        within : searched R .count ≤ b
-        within = capped-going b (searched R) r ran s
+      found-written : tallyOf m .best .found ≡ true → (o : List ℕ) → o ≡ each (copyStart (tallyOf m .best .starts)) (jobs R) l → o ≡ writtenOf R b l
+      unfolding writtenOf
+      found-written f o w = w ∙ rw all (simp (← some f))
 
-        none : r .tally .best .found ≡ false → refusal 19 (r .tally .count) ≡ answerOf R b (length l)
-        unfolding answerOf
-        none f = rw all (simp (le-ltb _ _ h, le-ltb _ _ within, (rw all at f)))
+      found-is : getD m 1 0 ≡ 1 → tallyOf m .best .found ≡ true
+      unfolding tallyOf
+      found-is f = eq-eqb _ _ f
 
-        pub is-none : r .tally .best .found ≡ false → Refuses 19 (r .tally .count)
-        is-none f = (none f, unwritten 19 (r .tally .count) refl (none f))
+      success-is : success (tallyOf m) ≡ record { number = 0; energy = getD m 2 0; count = getD m 0 0 }
+      unfolding tallyOf
+      success-is = refl
 
-        some : r .tally .best .found ≡ true → success (r .tally) ≡ answerOf R b (length l)
-        unfolding answerOf
-        some f = rw all (simp (le-ltb _ _ h, le-ltb _ _ within, (rw all at f)))
+      pub is-found :
+          getD m 1 0 ≡ 1 → (o : List ℕ) → o ≡ each (copyStart (tallyOf m .best .starts)) (jobs R) l
+          → _≡_ {A = Found} (record { number = 0; energy = getD m 2 0; count = getD m 0 0 }) (answerOf R b (length l)) × (o ≡ writtenOf R b l)
+      is-found f o w = (sym success-is ∙ some (found-is f), found-written (found-is f) o w)
 
-        pub is-found : r .tally .best .found ≡ true → (m : List ℕ) → m ≡ each (copyStart (r .tally .best .starts)) (jobs R) l → (success (r .tally) ≡ answerOf R b (length l)) × (m ≡ writtenOf R b l)
-        unfolding writtenOf
-        is-found f m w = (some f, w ∙ rw all (simp (← some f)))
+      -- The starts that were found fit their type: they are feasible.
+      pub starts-fit : getD m 1 0 ≡ 1 → (j : ℕ) → j < jobs R → getD m (3 + j) 0 < 65536
+      starts-fit f j k =
+          let found : searched R .best .found ≡ true = ap (λ (t : Tally). t .best .found) (sym all) ∙ found-is f in
+          let first = visited-first R valid _ (searched-best R valid found .0) in
+          let in-time = first .feasible .in-time j k in
+          let taken : getD (take (jobs R) (searched R .best .starts)) j 0 ≡ getD (searched R .best .starts) j 0 = getD-take (jobs R) (searched R .best .starts) j 0 k in
+          let here : getD (searched R .best .starts) j 0 ≡ getD m (3 + j) 0 = ap (λ (t : Tally). getD (t .best .starts) j 0) (sym all) ∙ start-cell m j (omega (arith, k, valid .few-jobs)) in
+          omega (arith, in-time, taken, here, valid .ends j k, valid .few-ticks)

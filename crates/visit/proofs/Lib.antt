@@ -1,6 +1,7 @@
-pub mod Flags
-pub mod Entry
+pub mod Agreement
 pub mod Budget
 pub mod Order
+pub mod Going
+pub mod Bests
+pub mod Rooted
 pub mod Ending
-pub mod Agreement

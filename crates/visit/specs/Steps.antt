@@ -1,7 +1,6 @@
--- The steps of the code's search (src/), over its own structs and without a budget. These are the code's steps, and nobody need believe them:
--- proofs/Agreement shows that they are Visiting's.
+-- The steps of the code's search (src/), without a budget. These are the code's steps, and nobody need believe them: proofs/Agreement shows that they are
+-- Visiting's.
 -- Assumes nothing.
-use mathlib.Core.Path.{_≡_}
 use mathlib.Core.Bool.{Bool, true, false, not, cond}
 use mathlib.Core.List.{List}
 use Prim.Native.Nat.{ℕ, zero, suc, _+_, _-_, max}
@@ -10,47 +9,50 @@ use lib.ListN.{getD, set, replicate, length}
 use Rattle.base.specs.Loops.{each, under}
 use Rattle.schedule.specs.declared.Recorder.{Recorder}
 use Rattle.schedule.specs.Quantities.{jobs, release, deadline, run}
-use Rattle.vertex.specs.declared.Vertex.{Vertex}
-use Rattle.vertex.specs.Vertices.{flagged, cutA, charged, closed, floor, placeAt, root}
-use Rattle.visit.specs.declared.Best.{Best}
-use Rattle.visit.specs.declared.Tally.{Tally}
-use Rattle.visit.specs.declared.Run.{Run}
-use Rattle.visit.specs.declared.Entered.{Entered}
+use Rattle.vertex.specs.Vertices.{Vertex, flagged, cutA, closed, floor, placeAt, root}
 use Rattle.visit.specs.declared.Found.{Found}
 
--- ---- entering a vertex
+-- The best complete vertex so far, if one was found.
+pub record Best : Type 0 where
+  pub found : Bool
+  pub energy : ℕ
+  pub starts : List ℕ
 
+-- How many vertices were counted so far, and the best of them.
+pub record Tally : Type 0 where
+  pub count : ℕ
+  pub best : Best
+
+-- What a visit came to: a tally, or the word that the budget is used up.
+pub record Run : Type 0 where
+  pub stopped : Bool
+  pub tally : Tally
+
+-- ---- one vertex
+
+-- A complete vertex of energy e takes the place of the best unless that has no more energy (rule 44).
 unfoldable pub improves : Best → ℕ → Bool
 improves b e = cond (b .found) (ltb e (b .energy)) true
 
 unfoldable pub offer : Best → ℕ → List ℕ → Best
 offer b e s = cond (improves b e) (record { found = true; energy = e; starts = s }) b
 
--- Where f is the floor of a vertex.
+-- Cut B (rule 45), where f is the floor of a vertex.
 unfoldable pub cutB : Best → ℕ → Bool
 cutB b f = cond (b .found) (leb (b .energy) f) false
-
-abbrev pub complete : Vertex → Bool
-complete v = eqb (v .left) 0
 
 -- The tally t with one vertex more.
 abbrev pub counting : Tally → Tally
 counting t = record { count = t .count + 1; best = t .best }
 
--- Whether v's children are examined, at a tally t.
+-- The tally t with a vertex counted that has no job left: it is offered where cut A spares it.
+unfoldable pub completed : Recorder → Vertex → Tally → Tally
+completed R v t =
+    record { count = t .count + 1; best = cond (cutA R (v .time) (v .placed)) (t .best) (offer (t .best) (closed R v) (v .starts)) }
+
+-- Whether the children of another are examined, at a tally t.
 unfoldable pub opens : Recorder → Vertex → Tally → Bool
-opens R v t = cond (cutA R v) false (cond (complete v) false (not (cutB (t .best) (floor R (charged R v)))))
-
--- The tally t with v counted, and v the best where it is complete and better.
-unfoldable pub noted : Recorder → Vertex → Tally → Tally
-noted R v t =
-    record {
-      count = t .count + 1;
-      best = cond (cutA R v) (t .best) (cond (complete v) (offer (t .best) (closed R (charged R v)) (v .starts)) (t .best));
-    }
-
-unfoldable pub enteredAt : Recorder → Vertex → Tally → Entered
-enteredAt R v t = record { further = opens R v t; tally = noted R v t; vertex = cond (cutA R v) v (charged R v) }
+opens R v t = cond (cutA R (v .time) (v .placed)) false (not (cutB (t .best) (floor R v)))
 
 -- ---- the visit
 
@@ -61,21 +63,18 @@ earliest R v j = max (v .time) (release R j)
 abbrev pub span : Recorder → Vertex → ℕ → ℕ
 span R v j = (deadline R j + 1) - (run R j + earliest R v j)
 
-abbrev pub child : Recorder → Vertex → ℕ → ℕ → Vertex
-child R v j k = placeAt v j (earliest R v j + k) (run R j)
-
 -- The child of v that places job j at its k-th start, by g.
 unfoldable pub tryStart : Recorder → (Vertex → Tally → Tally) → Vertex → ℕ → ℕ → Tally → Tally
-tryStart R g v j k t = g (child R v j k) t
+tryStart R g v j k t = g (placeAt R v j (earliest R v j + k)) t
 
 -- The children of v that place job j, in turn.
 unfoldable pub tryJob : Recorder → (Vertex → Tally → Tally) → Vertex → ℕ → Tally → Tally
 tryJob R g v j t = under (not (flagged (v .placed) j)) (each (tryStart R g v j) (span R v j)) t
 
--- The vertex v and all below it, at most f jobs deep.
+-- The vertex v, which has n jobs left, and all below it.
 unfoldable pub visitOf : Recorder → ℕ → Vertex → Tally → Tally
-visitOf R zero v t = noted R v t
-visitOf R (suc f) v t = under (opens R v t) (each (tryJob R (visitOf R f) (charged R v)) (jobs R)) (noted R v t)
+visitOf R zero v t = completed R v t
+visitOf R (suc n) v t = under (opens R v t) (each (tryJob R (visitOf R n) v) (jobs R)) (counting t)
 
 -- ---- the budget
 
@@ -96,7 +95,7 @@ capped b t = cond (leb (t .count) b) (record { stopped = false; tally = t }) (ha
 
 -- The whole visit.
 unfoldable pub searched : Recorder → Tally
-searched R = visitOf R (jobs R) (root R) (bare 0)
+searched R = visitOf R (jobs R) root (bare 0)
 
 abbrev pub refusal : ℕ → ℕ → Found
 refusal k c = record { number = k; energy = 0; count = c }

@@ -1,59 +1,43 @@
-// The search for the cheapest schedule: depth first, under a budget of vertices (rules 40 to 48).
-use schedule::Recorder;
-ghost use mathlib.Core.Path.{_≡_};
-ghost use mathlib.Core.Bool.{false};
-ghost use Prim.Native.Nat.{_+_, _-_, _^_, _<_, _≤_};
-ghost use lib.ListN.{length};
-ghost use Rattle.base.specs.Loops.{each};
-ghost use Rattle.schedule.specs.Quantities.{Valid, jobs};
-ghost use Rattle.flat.specs.Flat.{recorderOf};
-ghost use Rattle.vertex.specs.Vertices.{cutA, openFor, root, Settled, Kept};
-ghost use Rattle.visit.specs.Steps.{enteredAt, tryJob, visitOf, haltedAt, capped, copyStart, answerOf, writtenOf};
-
-mod counting; // counting.rt: the count, the best so far and cut B
-
-use crate::counting::counted;
-use crate::counting::empty_tally;
-use crate::counting::is_beaten;
-use crate::counting::offered;
+// The search for the cheapest schedule: depth first, under a budget of vertices (rules 40 to 48). The parent is lent for reading, and a child is made only where
+// no cut drops it.
+use base::JobNumber;
 use flat::Flat;
 use flat::deadline_of;
 use flat::flat_of;
+use flat::horizon_of;
 use flat::job_count;
-use flat::numbers::earliest_of;
+use flat::numbers::later;
 use flat::numbers::wide;
 use flat::release_of;
 use flat::run_of;
-use vertex::Vertex;
-use vertex::costs::charge;
-use vertex::costs::energy_of;
-use vertex::cuts::is_cut;
+use schedule::Recorder;
+use vertex::Cells;
+use vertex::dues::Dues;
+use vertex::dues::dues_of;
+use vertex::dues::limit_of;
+use vertex::dues::load_of;
+use vertex::floors::energy_of;
+use vertex::placing::place;
+use vertex::placing::root_of;
+ghost use mathlib.Core.Path.{_≡_};
+ghost use mathlib.Core.Bool.{false, true};
+ghost use Prim.Native.Nat.{ℕ, _+_, _-_, _<_, _≤_};
+ghost use lib.ListN.{getD, set, length};
+ghost use Rattle.base.specs.Loops.{each};
+ghost use Rattle.schedule.specs.Quantities.{Valid, jobs};
+ghost use Rattle.flat.specs.Flat.{recorderOf};
+ghost use Rattle.vertex.specs.Vertices.{flagged, placeAt};
+ghost use Rattle.vertex.specs.Layout.{placedOf, vertexOf};
+ghost use Rattle.vertex.specs.Sums.{due, dueFor, Holds, Stored, Offered};
+ghost use Rattle.visit.specs.Steps.{bare, tryStart, tryJob, span, visitOf, capped, searched, copyStart, answerOf, writtenOf};
+ghost use Rattle.visit.specs.Lent.{tallyOf, ran, below, Within};
 
-// The best complete vertex so far, if one was found.
-pub struct Best {
-    pub found: bool,
-    pub energy: u32,
-    pub starts: [u16; 16],
-}
+mod tally; // tally.rt: the count, the best so far and cut B
 
-// How many vertices were counted so far, and the best of them.
-pub struct Tally {
-    pub count: u32,
-    pub best: Best,
-}
-
-// What a visit came to: a tally, or the word that the budget is used up.
-pub struct Run {
-    pub stopped: bool,
-    pub tally: Tally,
-}
-
-// A vertex that was entered: counted, its last job charged, and whether its children are examined.
-pub struct Entered {
-    pub further: bool,
-    pub tally: Tally,
-    pub vertex: Vertex,
-}
+use crate::tally::Tally;
+use crate::tally::count_one;
+use crate::tally::is_beaten;
+use crate::tally::offer_best;
 
 // The answer of the search: 0 or the number of its refusal, and what goes with it.
 pub struct Found {
@@ -62,140 +46,140 @@ pub struct Found {
     pub count: u32,
 }
 
-// A vertex that has passed cut A: complete, or cut B.
-fn enter(r: &Flat, v: Vertex, t: Tally) -> Entered
-    requires { ⌜ Valid (recorderOf (now r)) × (Kept (recorderOf (now r)) v × ((cutA (recorderOf (now r)) v ≡ false) × (t .count + 1 < 2 ^ 32))) ⌝ }
-    ensures { λ x. ⌜ x ≡ enteredAt (recorderOf (now (r .entry))) v t ⌝ }
+// The child of v that places job j at s, and all below it; left and load are the child's. Answers whether the budget is used up.
+fn visit(
+    r: &Flat,
+    v: &Cells,
+    tally: &mut Tally,
+    budget: u32,
+    left: usize,
+    load: u32,
+    limit: u32,
+    j: JobNumber,
+    s: u32,
+) -> bool
+    requires { ⌜ Valid (recorderOf (now r)) × (Holds (recorderOf (now r)) (now v) s × (Offered (recorderOf (now r)) (now v) left load limit (j .0) s × Within budget (now tally))) ⌝ }
+    ensures { λ x. ⌜ (ran budget x (now (tally .exit)) ≡ capped budget (visitOf (recorderOf (now (r .entry))) left (placeAt (recorderOf (now (r .entry))) (vertexOf (now (v .entry)) s) (j .0) s) (tallyOf (now (tally .entry))))) × (length (now (tally .exit)) ≡ 19) ⌝ }
 {
-    let mut next = counted(t);
-    let w = charge(r, v);
-    let best = t.best;
-    if v.left == 0 {
-        let starts = v.starts;
-        let now = offered(best, energy_of(r, w), starts);
-        next.best = now;
-        return Entered {
-            further: false,
-            tally: next,
-            vertex: w,
-        };
+    if tally[0] == budget {
+        return true;
     }
-    let beaten = is_beaten(r, w, best);
-    Entered {
-        further: !beaten,
-        tally: next,
-        vertex: w,
+    count_one(tally);
+    let time = s + wide(run_of(r, j.0));
+    if limit < time {
+        return false;
     }
+    if is_beaten(r, v, tally, j, s) {
+        return false;
+    }
+    let mut w = *v;
+    place(r, &mut w, j, s);
+    enter(r, &w, tally, budget, left, time, load)
 }
 
-// The word that the budget is used up: one value, handed up unchanged.
-fn halted(budget: u32) -> Run
-    ensures { λ x. ⌜ x ≡ haltedAt budget ⌝ }
+// A vertex that no cut has dropped: it is complete, or its children are examined.
+fn enter(
+    r: &Flat,
+    v: &Cells,
+    tally: &mut Tally,
+    budget: u32,
+    left: usize,
+    time: u32,
+    load: u32,
+) -> bool
+    requires { ⌜ Valid (recorderOf (now r)) × (Holds (recorderOf (now r)) (now v) time × (Stored (recorderOf (now r)) (now v) time left load × Within budget (now tally))) ⌝ }
+    ensures { λ x. ⌜ (ran budget x (now (tally .exit)) ≡ capped budget (below (recorderOf (now (r .entry))) left (vertexOf (now (v .entry)) time) (tallyOf (now (tally .entry))))) × (length (now (tally .exit)) ≡ 19) ⌝ }
 {
-    let tally = empty_tally(budget);
-    Run {
-        stopped: true,
-        tally,
+    if left == 0 {
+        let e = energy_of(r, v);
+        offer_best(v, tally, e);
+        return false;
     }
+    choices(r, v, tally, budget, left, time, load)
 }
 
-// The child where job j is placed and its start is still to be set.
-fn open_for(v: Vertex, j: usize) -> Vertex
-    requires { ⌜ (j < 16) × (0 < v .left) ⌝ }
-    ensures { λ x. ⌜ x ≡ openFor v j ⌝ }
-{
-    let mut next = v;
-    next.left = v.left - 1;
-    next.placed[j] = true;
-    next.last = j;
-    next
-}
-
-// A vertex and all below it.
-fn visit(r: &Flat, v: Vertex, t: Tally, budget: u32) -> Run
-    requires { ⌜ Valid (recorderOf (now r)) × (Kept (recorderOf (now r)) v × (t .count ≤ budget)) ⌝ }
-    ensures { λ x. ⌜ x ≡ capped budget (visitOf (recorderOf (now (r .entry))) (v .left) v t) ⌝ }
-{
-    if t.count == budget {
-        return halted(budget);
-    }
-    if is_cut(r, v) {
-        let tally = counted(t);
-        return Run {
-            stopped: false,
-            tally,
-        };
-    }
-    let e = enter(r, v, t);
-    let tally = e.tally;
-    let w = e.vertex;
-    if e.further {
-        choices(r, w, tally, budget)
-    } else {
-        Run {
-            stopped: false,
-            tally,
-        }
-    }
-}
-
-// Each unplaced job in turn, and each start of it in turn. The children that place the same job differ in their time and its start alone.
-fn choices(r: &Flat, v: Vertex, t: Tally, budget: u32) -> Run
-    requires { ⌜ Valid (recorderOf (now r)) × (Settled (recorderOf (now r)) v × ((0 < v .left) × (t .count ≤ budget))) ⌝ }
-    ensures { λ x. ⌜ x ≡ capped budget (each (tryJob (recorderOf (now (r .entry))) (visitOf (recorderOf (now (r .entry))) (v .left - 1)) v) (jobs (recorderOf (now (r .entry)))) t) ⌝ }
+// Each unplaced job in turn.
+fn choices(
+    r: &Flat,
+    v: &Cells,
+    tally: &mut Tally,
+    budget: u32,
+    left: usize,
+    time: u32,
+    load: u32,
+) -> bool
+    requires { ⌜ Valid (recorderOf (now r)) × (Holds (recorderOf (now r)) (now v) time × (Stored (recorderOf (now r)) (now v) time left load × Within budget (now tally))) ⌝ }
+    ensures { λ x. ⌜ (ran budget x (now (tally .exit)) ≡ capped budget (each (tryJob (recorderOf (now (r .entry))) (visitOf (recorderOf (now (r .entry))) (left - 1)) (vertexOf (now (v .entry)) time)) (jobs (recorderOf (now (r .entry)))) (tallyOf (now (tally .entry))))) × (length (now (tally .exit)) ≡ 19) ⌝ }
 {
     let n = job_count(r);
-    let mut tally = t;
-    let mut j = 0;
+    let dues = dues_of(r, v);
+    let mut j: usize = 0;
     while j < n {
-        if !v.placed[j] {
-            let c = wide(run_of(r, j));
-            let d = wide(deadline_of(r, j));
-            let mut s = earliest_of(v.time, release_of(r, j));
-            let mut child = open_for(v, j);
-            while s + c <= d {
-                child.time = (s + c) as u16;
-                child.starts[j] = s as u16;
-                let run = visit(r, child, tally, budget);
-                if run.stopped {
-                    return run;
-                }
-                tally = run.tally;
-                s += 1;
+        if v[40 + j] == 1 {
+            if tries(r, v, tally, budget, left, time, load, dues, JobNumber(j)) {
+                return true;
             }
         }
         j += 1;
     }
-    Run {
-        stopped: false,
-        tally,
-    }
+    false
 }
 
-// No job placed yet.
-fn root_of(r: Recorder) -> Vertex
-    ensures { λ x. ⌜ x ≡ root r ⌝ }
+// Each start of the unplaced job j in turn.
+fn tries(
+    r: &Flat,
+    v: &Cells,
+    tally: &mut Tally,
+    budget: u32,
+    left: usize,
+    time: u32,
+    load: u32,
+    dues: Dues,
+    j: JobNumber,
+) -> bool
+    requires { ⌜ Valid (recorderOf (now r)) × (Holds (recorderOf (now r)) (now v) time × (Stored (recorderOf (now r)) (now v) time left load × ((j .0 < jobs (recorderOf (now r))) × ((flagged (placedOf (now v)) (j .0) ≡ false) × ((due (recorderOf (now r)) (set (placedOf (now v)) (j .0) true) ≡ dueFor dues (j .0)) × Within budget (now tally)))))) ⌝ }
+    ensures { λ x. ⌜ (ran budget x (now (tally .exit)) ≡ capped budget (each (tryStart (recorderOf (now (r .entry))) (visitOf (recorderOf (now (r .entry))) (left - 1)) (vertexOf (now (v .entry)) time) (j .0)) (span (recorderOf (now (r .entry))) (vertexOf (now (v .entry)) time) (j .0)) (tallyOf (now (tally .entry))))) × (length (now (tally .exit)) ≡ 19) ⌝ }
 {
-    let jobs = r.jobs;
-    Vertex {
-        time: 0,
-        left: jobs.count,
-        placed: [false; 16],
-        starts: [0u16; 16],
-        last: 0,
-        ends: [0u16; 8],
-        paid: [0u32; 8],
+    let c = wide(run_of(r, j.0));
+    let d = wide(deadline_of(r, j.0));
+    let rest = load - c;
+    let limit = limit_of(dues, wide(horizon_of(r)), rest, j);
+    let mut s = later(time, wide(release_of(r, j.0)));
+    while s + c <= d {
+        if visit(r, v, tally, budget, left - 1, rest, limit, j, s) {
+            return true;
+        }
+        s += 1;
     }
+    false
 }
 
-// Writes the first n starts into the lent list.
-fn write_starts(starts: [u16; 16], n: usize, out: &mut [u16])
-    requires { ⌜ (n ≤ 16) × (n ≤ length (now out)) ⌝ }
-    ensures { λ _. ⌜ now (out .exit) ≡ each (copyStart starts) n (now (out .entry)) ⌝ }
+// The root and all below it.
+fn root_visit(r: &Flat, tally: &mut Tally, budget: u32) -> bool
+    requires { ⌜ Valid (recorderOf (now r)) × ((length (now tally) ≡ 19) × (tallyOf (now tally) ≡ bare 0)) ⌝ }
+    ensures { λ x. ⌜ ran budget x (now (tally .exit)) ≡ capped budget (searched (recorderOf (now (r .entry)))) ⌝ }
+{
+    if budget == 0 {
+        return true;
+    }
+    count_one(tally);
+    let load = load_of(r);
+    if wide(horizon_of(r)) < load {
+        return false;
+    }
+    let v = root_of(r);
+    let left = job_count(r);
+    enter(r, &v, tally, budget, left, 0, load)
+}
+
+// Writes the first n starts of the best into the lent list.
+fn write_starts(tally: &Tally, n: usize, out: &mut [u16])
+    requires { ⌜ (n ≤ 16) × ((n ≤ length (now out)) × ((j : ℕ) → j < n → getD (now tally) (3 + j) 0 < 65536)) ⌝ }
+    ensures { λ _. ⌜ now (out .exit) ≡ each (copyStart (tallyOf (now (tally .entry)) .best .starts)) n (now (out .entry)) ⌝ }
 {
     let mut j = 0;
     while j < n {
-        out[j] = starts[j];
+        out[j] = (tally[3 + j] % 65536) as u16;
         j += 1;
     }
 }
@@ -216,28 +200,25 @@ pub fn search(r: Recorder, budget: u32, out: &mut [u16]) -> Found
         };
     }
     let flat = flat_of(r);
-    let run = visit(&flat, root_of(r), empty_tally(0), budget);
-    if run.stopped {
+    let mut tally = [0u32; 19];
+    if root_visit(&flat, &mut tally, budget) {
         return Found {
             number: 20,
             energy: 0,
             count: budget,
         };
     }
-    let tally = run.tally;
-    let best = tally.best;
-    if !best.found {
+    if tally[1] != 1 {
         return Found {
             number: 19,
             energy: 0,
-            count: tally.count,
+            count: tally[0],
         };
     }
-    let starts = best.starts;
-    write_starts(starts, n, out);
+    write_starts(&tally, n, out);
     Found {
         number: 0,
-        energy: best.energy,
-        count: tally.count,
+        energy: tally[2],
+        count: tally[0],
     }
 }

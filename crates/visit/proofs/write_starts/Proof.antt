@@ -1,29 +1,38 @@
--- `visit::write_starts` meets its contract. The loop's invariant: the list is what the turns so far stored.
+-- `visit::write_starts` meets its contract.
 -- Assumes nothing.
-use mathlib.Core.Path.{_≡_, refl}
-use Prim.Native.Nat.{_≤_, _-_}
+use mathlib.Core.Path.{_≡_, refl, sym, ap, _∙_}
+use Prim.Native.Nat.{ℕ, _≤_, _-_}
 use native.Mathlib.Omega.{arith}
-use lib.ListN.{length, length-set}
+use native.Mathlib.Nat.{mod-eq-of-lt}
+use lib.ListN.{length, set, length-set}
 use Rattle.base.proofs.Turns.{each-start, each-step, each-done}
 use Rattle.base.specs.Loops.{each}
 use Rattle.visit.specs.Steps.{copyStart}
+use Rattle.visit.specs.Lent.{tallyOf}
+use Rattle.visit.proofs.Ending.{start-cell}
 use Rattle.visit.proofs.write_starts.Statement.{statement}
 use Rattle.visit.proofs.write_starts.Tie as tie
 
 abbrev Inv-loop : tie.InvT-loop
-Inv-loop n out₀ starts j₀ out j = (j ≤ n) × (out ≡ each (copyStart starts) j out₀) × (length out ≡ length out₀)
+Inv-loop tally n out₀ j₀ out j = (j ≤ n) × (out ≡ each (copyStart (tallyOf tally .best .starts)) j out₀) × (length out ≡ length out₀)
 
 abbrev μ-loop : tie.MeasureT-loop
-μ-loop n out₀ starts j₀ out j = n - j
+μ-loop tally n out₀ j₀ out j = n - j
 
 loop-holds : tie.Need-loop-holds Inv-loop μ-loop
 loop-holds c = (omega arith, each-start _ _ _ refl, refl)
 
+add-out : tie.Need-add-out Inv-loop μ-loop
+add-out c = omega arith
+
 mul-out : tie.Need-mul-out Inv-loop μ-loop
 mul-out c = omega arith
 
-array-read-out : tie.Need-array-read-out Inv-loop μ-loop
-array-read-out c = omega arith
+element-copy-out-out : tie.Need-element-copy-out-out Inv-loop μ-loop
+element-copy-out-out c = omega arith
+
+cast-out : tie.Need-cast-out Inv-loop μ-loop
+cast-out c = omega arith
 
 mul-out-2 : tie.Need-mul-out-2 Inv-loop μ-loop
 mul-out-2 c = omega arith
@@ -39,7 +48,7 @@ loop-less c = omega arith
 
 loop-again : tie.Need-loop-again Inv-loop μ-loop
 unfolding copyStart
-loop-again c = (omega arith, each-step _ _ _ _ _ (c .before .loop .inv .1) refl, simp length-set (c .before .loop .inv .2))
+loop-again c = (omega arith, each-step _ _ _ _ _ (c .before .before .loop .inv .1) (ap (λ (z : ℕ). set (c .before .before .loop .out) (c .before .before .loop .j) z) (mod-eq-of-lt (c .before .before .before .pre .1 .1 (c .before .before .loop .j) (c .before .loop-test .taken)) ∙ sym (start-cell (c .before .before .before .args .tally .now) (c .before .before .loop .j) (omega arith)))), simp length-set (c .before .before .loop .inv .2))
 
 same-length : tie.Need-same-length Inv-loop μ-loop
 same-length c = c .before .loop .inv .2
@@ -54,8 +63,10 @@ write-starts-spec =
     Inv-loop
     μ-loop
     loop-holds
+    add-out
     mul-out
-    array-read-out
+    element-copy-out-out
+    cast-out
     mul-out-2
     slice-write-out
     add-j

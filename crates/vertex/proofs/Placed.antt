@@ -1,0 +1,233 @@
+-- A job placed in the numbers of its parent: they hold the child, and its sums are right.
+-- Assumes nothing.
+use mathlib.Core.Path.{_≡_, refl, sym, ap, _∙_, subst}
+use mathlib.Core.Bool.{Bool, true, false, cond}
+use mathlib.Core.List.{List}
+use Prim.Native.Nat.{ℕ, _+_, _-_, _*_, _≤_, _<_}
+use native.Mathlib.Omega.{arith}
+use lib.ListN.{getD, set, length, length-set}
+use lib.Seq.{set-getD}
+use Rattle.base.specs.Loops.{each}
+use Rattle.base.proofs.Turns.{each-more}
+use Rattle.base.proofs.Stores.{stored-at, stored-kept}
+use Rattle.device.specs.declared.Device.{Device}
+use Rattle.device.specs.Row.{gapCost}
+use Rattle.schedule.specs.declared.Recorder.{Recorder}
+use Rattle.schedule.specs.Quantities.{Valid, run, uses, device}
+use Rattle.schedule.specs.Visiting.{ticks}
+use Rattle.vertex.specs.Vertices.{Vertex, ahead, paidStep, endStep, storing, placeAt, Settled}
+use Rattle.vertex.specs.Layout.{row, placedOf, vertexOf, put, marked}
+use Rattle.vertex.specs.Sums.{Holds, Fitting}
+use Rattle.vertex.proofs.Adding.{rest-less}
+use Rattle.vertex.proofs.Charging.{placed-settled}
+use Rattle.vertex.proofs.Reading.{row-at, row-long, row-other, row-store, end-cell, end-store, placed-long, placed-other, placed-store}
+
+-- ---- one device
+
+module _ (d : Device) (k s c : ℕ) (h : k < 8) (l : List ℕ) (m : length l ≡ 56) where
+  abbrev one : List ℕ
+  one = set l (8 + k) (getD l (8 + k) 0 + (gapCost d (s - getD l k 0) + d .pw * c))
+
+  abbrev two : List ℕ
+  two = set one k (s + c)
+
+  one-long : length one ≡ 56
+  one-long = rw length-set m
+
+  two-long : length two ≡ 56
+  two-long = rw length-set one-long
+
+  put-long : length (put d k s c l) ≡ 56
+  unfolding put
+  put-long = rw length-set two-long
+
+  put-ends : row 0 8 (put d k s c l) ≡ set (row 0 8 l) k (s + c)
+  unfolding put
+  put-ends =
+      row-other 0 8 two (16 + k) _ (λ i b e. omega (arith, b, e)) ∙ end-store one k (s + c) h one-long
+      ∙ ap (λ (r : List ℕ). set r k (s + c)) (row-other 0 8 l (8 + k) _ (λ i b e. omega (arith, b, e)))
+
+  put-paid : row 8 8 (put d k s c l) ≡ set (row 8 8 l) k (getD l (8 + k) 0 + (gapCost d (s - getD l k 0) + d .pw * c))
+  unfolding put
+  put-paid =
+      row-other 8 8 two (16 + k) _ (λ i b e. omega (arith, b, e)) ∙ row-other 8 8 one k (s + c) (λ i b e. omega (arith, b, e))
+      ∙ row-store 8 8 l k _ h (omega arith)
+
+  put-ticks : row 16 8 (put d k s c l) ≡ set (row 16 8 l) k (getD l (16 + k) 0 - c)
+  unfolding put
+  put-ticks =
+      row-store 16 8 two k _ h (omega (arith, two-long))
+      ∙ ap (λ (r : List ℕ). set r k (getD l (16 + k) 0 - c)) (row-other 16 8 one k (s + c) (λ i b e. omega (arith, b, e)) ∙ row-other 16 8 l (8 + k) _ (λ i b e. omega (arith, b, e)))
+
+  put-starts : row 24 16 (put d k s c l) ≡ row 24 16 l
+  unfolding put
+  put-starts =
+      row-other 24 16 two (16 + k) _ (λ i b e. omega (arith, b, e)) ∙ row-other 24 16 one k (s + c) (λ i b e. omega (arith, b, e))
+      ∙ row-other 24 16 l (8 + k) _ (λ i b e. omega (arith, b, e))
+
+  put-placed : placedOf (put d k s c l) ≡ placedOf l
+  unfolding put
+  put-placed = placed-other two (16 + k) _ (omega arith) ∙ placed-other one k (s + c) (omega arith) ∙ placed-other l (8 + k) _ (omega arith)
+
+pub put-as : (d d′ : Device) (k s c c′ : ℕ) (l a : List ℕ) → d ≡ d′ → c ≡ c′ → a ≡ put d k s c l → a ≡ put d′ k s c′ l
+put-as d d′ k s c c′ l a e f h = h ∙ ap (λ (x : Device). put x k s c l) e ∙ ap (λ (x : ℕ). put d′ k s x l) f
+
+-- ---- the devices in turn
+
+module _ (R : Recorder) (j s : ℕ) (w : List ℕ) where
+  abbrev ending : ℕ → ℕ
+  ending k = endStep (uses R k j) (getD (row 0 8 w) k 0) s (run R j)
+
+  abbrev paying : ℕ → ℕ
+  paying k = paidStep (uses R k j) (device R k) (getD (row 8 8 w) k 0) (getD (row 0 8 w) k 0) s (run R j)
+
+  abbrev coming : ℕ → ℕ
+  coming k = getD (row 16 8 w) k 0 - ticks R k j
+
+  -- l is w after the first k devices.
+  pub record Put (k : ℕ) (l : List ℕ) : Type 0 where
+    pub long : length l ≡ 56
+    pub ends : row 0 8 l ≡ each (storing ending) k (row 0 8 w)
+    pub paid : row 8 8 l ≡ each (storing paying) k (row 8 8 w)
+    pub ticks : row 16 8 l ≡ each (storing coming) k (row 16 8 w)
+    pub starts : row 24 16 l ≡ row 24 16 w
+    pub placed : placedOf l ≡ placedOf w
+
+  pub put-none : length w ≡ 56 → Put 0 w
+  unfolding each
+  put-none h = record { long = h; ends = refl; paid = refl; ticks = refl; starts = refl; placed = refl }
+
+  module _ (k : ℕ) (l : List ℕ) (h : k < 8) (p : Put k l) where
+    -- Its numbers of device k are still w's.
+    end-kept : getD l k 0 ≡ getD (row 0 8 w) k 0
+    end-kept = sym (end-cell l k h) ∙ ap (λ (r : List ℕ). getD r k 0) (p .ends) ∙ stored-kept ending k (row 0 8 w) k 0 (omega arith)
+
+    paid-kept : getD l (8 + k) 0 ≡ getD (row 8 8 w) k 0
+    paid-kept = sym (row-at 8 8 l k h) ∙ ap (λ (r : List ℕ). getD r k 0) (p .paid) ∙ stored-kept paying k (row 8 8 w) k 0 (omega arith)
+
+    tick-kept : getD l (16 + k) 0 ≡ getD (row 16 8 w) k 0
+    tick-kept = sym (row-at 16 8 l k h) ∙ ap (λ (r : List ℕ). getD r k 0) (p .ticks) ∙ stored-kept coming k (row 16 8 w) k 0 (omega arith)
+
+    more-of : (f : ℕ → ℕ) (o : ℕ) (a : List ℕ) → row o 8 l ≡ each (storing f) k (row o 8 w) → a ≡ set (row o 8 l) k (f k) → a ≡ each (storing f) (k + 1) (row o 8 w)
+    more-of f o a e g = g ∙ ap (λ (r : List ℕ). set r k (f k)) e ∙ sym (each-more (storing f) k (row o 8 w))
+
+    pub put-used : uses R k j ≡ true → Put (k + 1) (put (device R k) k s (run R j) l)
+    unfolding endStep paidStep
+    put-used u =
+        record {
+          long = put-long (device R k) k s (run R j) h l (p .long);
+          ends = more-of ending 0 _ (p .ends) (put-ends (device R k) k s (run R j) h l (p .long) ∙ simp u);
+          paid = more-of paying 8 _ (p .paid) (put-paid (device R k) k s (run R j) h l (p .long) ∙ simp (u, paid-kept, end-kept));
+          ticks = more-of coming 16 _ (p .ticks) (put-ticks (device R k) k s (run R j) h l (p .long) ∙ simp (u, tick-kept));
+          starts = put-starts (device R k) k s (run R j) h l (p .long) ∙ p .starts;
+          placed = put-placed (device R k) k s (run R j) h l (p .long) ∙ p .placed;
+        }
+
+    same-as : (o : ℕ) (x : ℕ) → x ≡ getD (row o 8 l) k 0 → row o 8 l ≡ set (row o 8 l) k x
+    same-as o x e = sym (set-getD (row o 8 l) k 0) ∙ ap (set (row o 8 l) k) (sym e)
+
+    pub put-unused : uses R k j ≡ false → Put (k + 1) l
+    unfolding endStep paidStep
+    put-unused u =
+        record {
+          long = p .long;
+          ends = more-of ending 0 _ (p .ends) (same-as 0 (ending k) (simp u (sym end-kept ∙ sym (end-cell l k h))));
+          paid = more-of paying 8 _ (p .paid) (same-as 8 (paying k) (simp u (sym paid-kept ∙ sym (row-at 8 8 l k h))));
+          ticks = more-of coming 16 _ (p .ticks) (same-as 16 (coming k) (simp u (omega (arith, tick-kept, row-at 16 8 l k h))));
+          starts = p .starts;
+          placed = p .placed;
+        }
+
+-- ---- the whole child
+
+module _ (R : Recorder) (ok : Valid R) (l : List ℕ) (j s : ℕ) (held : Holds R l s) (fit : Fitting R l j s) where
+  pub few-job : j < 16
+  few-job = omega (arith, fit .known, ok .few-jobs)
+
+  abbrev base : List ℕ
+  base = marked j s l
+
+  pub base-long : length base ≡ 56
+  unfolding marked
+  base-long = rw (length-set, length-set) (held .long)
+
+  started-long : length (set l (24 + j) s) ≡ 56
+  started-long = rw length-set (held .long)
+
+  base-row : (o : ℕ) → o ≤ 16 → row o 8 base ≡ row o 8 l
+  unfolding marked
+  base-row o b =
+      let f = few-job in
+      row-other o 8 (set l (24 + j) s) (40 + j) 0 (λ i c e. omega (arith, b, c, e)) ∙ row-other o 8 l (24 + j) s (λ i c e. omega (arith, b, c, e))
+
+  base-starts : row 24 16 base ≡ set (row 24 16 l) j s
+  unfolding marked
+  base-starts = row-other 24 16 (set l (24 + j) s) (40 + j) 0 (λ i c e. omega (arith, c, e)) ∙ row-store 24 16 l j s few-job (omega (arith, held .long, few-job))
+
+  base-placed : placedOf base ≡ set (placedOf l) j true
+  unfolding marked
+  base-placed = placed-store (set l (24 + j) s) j few-job started-long ∙ ap (λ (r : List Bool). set r j true) (placed-other l (24 + j) s (omega (arith, few-job)))
+
+  -- The ticks to come: with the job's own, and without.
+  tick-is : (k : ℕ) → k < R .devices .count → getD (row 16 8 base) k 0 ≡ ahead R (set (placedOf l) j true) k + ticks R k j
+  tick-is k b =
+      ap (λ (r : List ℕ). getD r k 0) (base-row 16 (omega arith)) ∙ row-at 16 8 l k (omega (arith, b, ok .few-devices)) ∙ held .ticks k b
+      ∙ rest-less R (placedOf l) j (omega (arith, placed-long l, few-job)) (fit .free) (fit .known) (ticks R k)
+
+  module _ (k : ℕ) (w : List ℕ) (b : k < R .devices .count) (p : Put R j s base k w) where
+    few-device : k < 8
+    few-device = omega (arith, b, ok .few-devices)
+
+    end-was : getD w k 0 ≡ getD (row 0 8 l) k 0
+    end-was = end-kept R j s base k w few-device p ∙ ap (λ (r : List ℕ). getD r k 0) (base-row 0 (omega arith))
+
+    paid-was : getD w (8 + k) 0 ≡ getD (row 8 8 l) k 0
+    paid-was = paid-kept R j s base k w few-device p ∙ ap (λ (r : List ℕ). getD r k 0) (base-row 8 (omega arith))
+
+    tick-was : uses R k j ≡ true → run R j ≤ getD w (16 + k) 0
+    tick-was u =
+        let e : getD w (16 + k) 0 ≡ ahead R (set (placedOf l) j true) k + run R j = tick-kept R j s base k w few-device p ∙ tick-is k b ∙ ap (λ (y : Bool). ahead R (set (placedOf l) j true) k + cond y (run R j) 0) u in
+        omega (arith, e)
+
+    -- What charging device k asks.
+    pub may-charge : uses R k j ≡ true → (k < 8) × ((getD w (8 + k) 0 ≤ device R k .pw * getD w k 0) × ((getD w k 0 ≤ s) × ((s + run R j ≤ 4096) × (run R j ≤ getD w (16 + k) 0))))
+    unfolding vertexOf
+    may-charge u =
+        (few-device, (rw (paid-was, end-was) (held .settled .cheap k b), (rw end-was (held .settled .ended k b), (omega (arith, fit .fits, ok .few-ticks), tick-was u))))
+
+  module _ (w : List ℕ) (p : Put R j s base (R .devices .count) w) where
+    placed-now : placedOf w ≡ set (placedOf l) j true
+    placed-now = p .placed ∙ base-placed
+
+    ticks-right : (k : ℕ) → k < R .devices .count → getD w (16 + k) 0 ≡ ahead R (placedOf w) k
+    ticks-right k b =
+        let few : k < 8 = omega (arith, ok .few-devices) in
+        let e : getD w (16 + k) 0 ≡ coming R j s base k =
+        sym (row-at 16 8 w k few) ∙ ap (λ (r : List ℕ). getD r k 0) (p .ticks) ∙ stored-at (coming R j s base) (R .devices .count) (row 16 8 base) k 0 b (omega (arith, row-long 16 8 base, ok .few-devices)) in
+        rw placed-now (omega (arith, e, tick-is k b))
+
+    abbrev child : Vertex
+    child = placeAt R (vertexOf l s) j s
+
+    ends-are : row 0 8 w ≡ child .ends
+    unfolding vertexOf
+    ends-are = p .ends ∙ ap (λ (r : List ℕ). each (λ k a. set a k (endStep (uses R k j) (getD r k 0) s (run R j))) (R .devices .count) r) (base-row 0 (omega arith))
+
+    paid-are : row 8 8 w ≡ child .paid
+    unfolding vertexOf
+    paid-are =
+        p .paid ∙ ap (λ (r : List ℕ). each (λ k a. set a k (paidStep (uses R k j) (device R k) (getD r k 0) (getD (row 0 8 base) k 0) s (run R j))) (R .devices .count) r) (base-row 8 (omega arith))
+        ∙ ap (λ (r : List ℕ). each (λ k a. set a k (paidStep (uses R k j) (device R k) (getD (row 8 8 l) k 0) (getD r k 0) s (run R j))) (R .devices .count) (row 8 8 l)) (base-row 0 (omega arith))
+
+    pub child-made : vertexOf w (s + run R j) ≡ child
+    unfolding vertexOf
+    child-made = rw (placed-now, p .starts ∙ base-starts, ends-are, paid-are)
+
+    pub child-held : Holds R w (s + run R j)
+    unfolding vertexOf
+    child-held =
+        record {
+          long = p .long;
+          settled = subst (Settled R) (sym child-made) (placed-settled R ok (vertexOf l s) (row-long 0 8 l) (row-long 8 8 l) j s (held .settled) (omega arith) (omega (arith, fit .fits)));
+          ticks = ticks-right;
+        }

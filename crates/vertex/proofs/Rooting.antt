@@ -1,0 +1,86 @@
+-- The root: its numbers, and that the sums stored there are those of all jobs.
+-- Assumes nothing.
+use mathlib.Core.Path.{_≡_, refl, sym, ap, _∙_, subst}
+use mathlib.Core.Bool.{Bool, false}
+use mathlib.Core.List.{List}
+use Prim.Native.Nat.{ℕ, zero, suc, _+_, _≤_, _<_}
+use native.Mathlib.Omega.{arith}
+use lib.ListN.{getD, set, length, replicate, length-set}
+use Rattle.base.specs.Lists.{upTo}
+use Rattle.base.specs.Loops.{each}
+use Rattle.base.specs.Sums.{sum}
+use Rattle.base.proofs.Stores.{stored-at}
+use Rattle.schedule.specs.declared.Recorder.{Recorder}
+use Rattle.schedule.specs.Quantities.{Valid, jobs, run}
+use Rattle.schedule.specs.Visiting.{ticks}
+use Rattle.vertex.specs.Vertices.{ahead, storing, root, Settled}
+use Rattle.vertex.specs.Layout.{row, placedOf, vertexOf, rootCells}
+use Rattle.vertex.specs.Sums.{Holds, Stored}
+use Rattle.vertex.proofs.Adding.{rest-all, unplaced-all}
+use Rattle.vertex.proofs.Charging.{root-settled}
+use Rattle.vertex.proofs.Reading.{row-at, row-other, row-store, placed-other}
+
+abbrev fresh : List ℕ
+fresh = each (λ j. λ l. set l (40 + j) 1) 16 (replicate 56 0)
+
+module _ (R : Recorder) where
+  abbrev coming : ℕ → ℕ
+  coming k = sum (jobs R) (ticks R k)
+
+  -- The numbers once the first k devices have their ticks.
+  record Rooted (k : ℕ) (l : List ℕ) : Type 0 where
+    pub long : length l ≡ 56
+    pub ends : row 0 8 l ≡ replicate 8 0
+    pub paid : row 8 8 l ≡ replicate 8 0
+    pub ticks : row 16 8 l ≡ each (storing coming) k (replicate 8 0)
+    pub starts : row 24 16 l ≡ replicate 16 0
+    pub placed : placedOf l ≡ replicate 16 false
+
+  rooted-none : Rooted 0 fresh
+  unfolding each row placedOf upTo
+  rooted-none = record { long = refl; ends = refl; paid = refl; ticks = refl; starts = refl; placed = refl }
+
+  rooted-more : (k : ℕ) (l : List ℕ) → k < 8 → Rooted k l → Rooted (suc k) (set l (16 + k) (coming k))
+  unfolding each
+  rooted-more k l b p =
+      record {
+        long = rw length-set (p .long);
+        ends = row-other 0 8 l (16 + k) (coming k) (λ i c e. omega (arith, c, e)) ∙ p .ends;
+        paid = row-other 8 8 l (16 + k) (coming k) (λ i c e. omega (arith, c, e)) ∙ p .paid;
+        ticks = row-store 16 8 l k (coming k) b (omega (arith, p .long)) ∙ ap (λ (r : List ℕ). set r k (coming k)) (p .ticks);
+        starts = row-other 24 16 l (16 + k) (coming k) (λ i c e. omega (arith, c, e)) ∙ p .starts;
+        placed = placed-other l (16 + k) (coming k) (omega arith) ∙ p .placed;
+      }
+
+  rooted-by : (k : ℕ) → k ≤ 8 → Rooted k (each (λ i. λ l. set l (16 + i) (coming i)) k fresh)
+  unfolding each
+  rooted-by zero b = rooted-none
+  rooted-by (suc k) b = rooted-more k _ (omega arith) (rooted-by k (omega arith))
+
+  module _ (ok : Valid R) where
+    rooted : Rooted (R .devices .count) (rootCells R)
+    unfolding rootCells
+    rooted = rooted-by (R .devices .count) (ok .few-devices)
+
+    pub root-is : vertexOf (rootCells R) 0 ≡ root
+    unfolding vertexOf
+    root-is = rw (rooted .ends, rooted .paid, rooted .starts, rooted .placed)
+
+    pub root-holds : Holds R (rootCells R) 0
+    root-holds =
+        record {
+          long = rooted .long;
+          settled = subst (Settled R) (sym root-is) (root-settled R);
+          ticks =
+              λ k b. sym (row-at 16 8 (rootCells R) k (omega (arith, ok .few-devices))) ∙ ap (λ (r : List ℕ). getD r k 0) (rooted .ticks)
+              ∙ stored-at coming (R .devices .count) (replicate 8 0) k 0 b (omega (arith, ok .few-devices)) ∙ sym (rest-all R (ticks R k))
+              ∙ ap (λ (m : List Bool). ahead R m k) (sym (rooted .placed));
+        }
+
+    pub root-stored : (x : ℕ) → x ≡ sum (jobs R) (run R) → x ≤ R .horizon → Stored R (rootCells R) 0 (jobs R) x
+    root-stored x e h =
+        record {
+          left = rw (rooted .placed) (sym (unplaced-all R));
+          sum = rw (rooted .placed) (e ∙ sym (rest-all R (run R)));
+          fits = omega arith;
+        }

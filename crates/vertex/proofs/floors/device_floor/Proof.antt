@@ -1,0 +1,79 @@
+-- `vertex::floors::device_floor` meets its contract.
+-- Assumes nothing.
+use Prim.Native.Nat.{ℕ, _+_, _-_, _*_, _≤_, _<_}
+use native.Mathlib.Omega.{arith}
+use borrow.Author.Needs.{needs}
+use Rattle.schedule.proofs.Bounds.{device-most}
+use Rattle.vertex.specs.Vertices.{floorOf}
+use Rattle.vertex.proofs.Charging.{flooring-fits, product-fits}
+use Rattle.vertex.proofs.floors.device_floor.Statement.{statement}
+use Rattle.vertex.proofs.floors.device_floor.Tie as tie
+
+sub-idle : tie.Need-sub-idle
+sub-idle c = search needs
+
+sub-idle-2 : tie.Need-sub-idle-2
+sub-idle-2 c = search needs
+
+wide-requires : tie.Need-wide-requires
+wide-requires c κs = search needs
+
+mul-result : tie.Need-mul-result
+mul-result c =
+    let a = c .before .args in
+    record { fits = omega (arith, product-fits (c .wide .result) (a .ahead) (omega arith) (omega arith), product-fits (c .wide .result) (a .h - a .end - a .ahead) (omega arith) (omega arith)) }
+
+deep-power-requires : tie.Need-deep-power-requires
+deep-power-requires c κs = search needs
+
+wide-requires-2 : tie.Need-wide-requires-2
+wide-requires-2 c κs = search needs
+
+-- Each part fits by itself, whichever power goes with whichever ticks: at most a whole round at the highest power.
+small :
+    (w : ℕ) → w < 65536 → (c : tie.After-wide2) → let a = c .before .before .before .args in
+    (w * a .ahead ≤ 268431360) × (w * (a .h - a .end - a .ahead) ≤ 268431360) × (a .paid ≤ 268431360)
+small w few c =
+    let a = c .before .before .before .args in
+    let pre = c .before .before .before .pre in (
+      product-fits w (a .ahead) few (omega arith),
+      product-fits w (a .h - a .end - a .ahead) few (omega arith),
+      omega (arith, pre .0, product-fits (a .d .pw) (a .end) (omega arith) (omega arith)),
+    )
+
+-- The whole sum.
+most :
+    (c : tie.After-wide2) → let a = c .before .before .before .args in
+    a .paid + (c .before .before .wide .result * a .ahead + c .wide2 .result * (a .h - a .end - a .ahead)) ≤ 268431360
+most c =
+    let a = c .before .before .before .args in
+    let pre = c .before .before .before .pre in
+    device-most _ (a .h) (flooring-fits (c .before .before .wide .result) (a .paid) (a .end) (a .h) (omega arith) (rw (c .before .before .wide .ensures .0) (pre .0)) (omega arith) (c .wide2 .result) (omega arith) (a .ahead) (pre .1 .0)) (pre .1 .1)
+
+mul-result-2 : tie.Need-mul-result-2
+mul-result-2 c = record { fits = omega (arith, small (c .wide2 .result) (omega arith) c) }
+
+add-result : tie.Need-add-result
+add-result c = record { fits = omega (arith, small (c .before .before .wide .result) (omega arith) c, small (c .wide2 .result) (omega arith) c) }
+
+add-result-2 : tie.Need-add-result-2
+add-result-2 c = record { fits = omega (arith, small (c .before .before .wide .result) (omega arith) c, small (c .wide2 .result) (omega arith) c) }
+
+returns : tie.Need-returns
+unfolding floorOf
+returns c = (rw (c .before .before .wide .ensures .0, c .wide2 .ensures .0, ← c .before .deep-power .ensures), most c)
+
+pub device-floor-spec : {M : Type 1} → statement M
+device-floor-spec =
+    tie.close
+    (tie.spec
+    sub-idle
+    sub-idle-2
+    wide-requires
+    mul-result
+    deep-power-requires
+    wide-requires-2
+    mul-result-2
+    add-result
+    add-result-2
+    returns)

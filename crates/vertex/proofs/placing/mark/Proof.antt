@@ -1,0 +1,32 @@
+-- `vertex::placing::mark` meets its contract.
+-- Assumes nothing.
+use mathlib.Core.Path.{refl}
+use borrow.Author.Needs.{needs}
+use Rattle.vertex.specs.Layout.{marked}
+use Rattle.vertex.proofs.placing.mark.Statement.{statement}
+use Rattle.vertex.proofs.placing.mark.Tie as tie
+
+add-w : tie.Need-add-w
+add-w c = search needs
+
+mul-w : tie.Need-mul-w
+mul-w c = search needs
+
+element-write-w : tie.Need-element-write-w
+element-write-w c = search needs
+
+add-w-2 : tie.Need-add-w-2
+add-w-2 c = search needs
+
+mul-w-2 : tie.Need-mul-w-2
+mul-w-2 c = search needs
+
+element-write-w-2 : tie.Need-element-write-w-2
+element-write-w-2 c = search needs
+
+returns : tie.Need-returns
+unfolding marked
+returns c = refl
+
+pub mark-spec : {M : Type 1} → statement M
+mark-spec = tie.close (tie.spec add-w mul-w element-write-w add-w-2 mul-w-2 element-write-w-2 returns)

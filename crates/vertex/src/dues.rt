@@ -1,0 +1,95 @@
+// Cut A (rule 43) as one comparison: the latest time at which a child passes it depends on its parent and its job alone. No device plays a part here.
+use crate::Cells;
+use base::JobNumber;
+use flat::Flat;
+use flat::deadline_of;
+use flat::job_count;
+use flat::numbers::sooner;
+use flat::numbers::wide;
+use flat::run_of;
+ghost use mathlib.Core.Path.{_≡_};
+ghost use mathlib.Core.Bool.{true};
+ghost use Prim.Native.Nat.{ℕ, _<_, _≤_};
+ghost use lib.ListN.{set};
+ghost use Rattle.base.specs.Sums.{sum};
+ghost use Rattle.schedule.specs.Quantities.{Valid, jobs, run};
+ghost use Rattle.flat.specs.Flat.{recorderOf};
+ghost use Rattle.vertex.specs.Layout.{placedOf};
+ghost use Rattle.vertex.specs.Sums.{due, dueWith, dueFor, limitFor};
+
+// The two smallest last starts of the unplaced jobs, and the job of the smaller one: they tell the smallest without any one job.
+pub struct Dues {
+    pub at: JobNumber,
+    pub first: u32,
+    pub second: u32,
+}
+
+// The same with job j, whose last start is x.
+fn due_with(d: Dues, j: JobNumber, x: u32) -> Dues
+    ensures { λ r. ⌜ r ≡ dueWith d j x ⌝ }
+{
+    if x < d.first {
+        return Dues {
+            at: j,
+            first: x,
+            second: d.first,
+        };
+    }
+    let at = d.at;
+    let second = sooner(d.second, x);
+    Dues {
+        at,
+        first: d.first,
+        second,
+    }
+}
+
+// The two smallest over all unplaced jobs.
+pub fn dues_of(r: &Flat, v: &Cells) -> Dues
+    requires { ⌜ Valid (recorderOf (now r)) ⌝ }
+    ensures { λ x. ⌜ ((j : ℕ) → j < 16 → due (recorderOf (now (r .entry))) (set (placedOf (now (v .entry))) j true) ≡ dueFor x j) ⌝ }
+{
+    let n = job_count(r);
+    let mut dues = Dues {
+        at: JobNumber(0),
+        first: 65536,
+        second: 65536,
+    };
+    let mut i = 0;
+    while i < n {
+        if v[40 + i] == 1 {
+            let last = wide(deadline_of(r, i)) - wide(run_of(r, i));
+            dues = due_with(dues, JobNumber(i), last);
+        }
+        i += 1;
+    }
+    dues
+}
+
+// The last time at which cut A spares a child that places job j, where the other unplaced jobs run for `rest` ticks.
+pub fn limit_of(d: Dues, h: u32, rest: u32, j: JobNumber) -> u32
+    requires { ⌜ rest ≤ h ⌝ }
+    ensures { λ x. ⌜ x ≡ limitFor h rest d (j .0) ⌝ }
+{
+    let at = d.at;
+    if at.0 == j.0 {
+        sooner(h - rest, d.second)
+    } else {
+        sooner(h - rest, d.first)
+    }
+}
+
+// The running time of all jobs.
+pub fn load_of(r: &Flat) -> u32
+    requires { ⌜ jobs (recorderOf (now r)) ≤ 16 ⌝ }
+    ensures { λ x. ⌜ x ≡ sum (jobs (recorderOf (now (r .entry)))) (run (recorderOf (now (r .entry)))) ⌝ }
+{
+    let n = job_count(r);
+    let mut load: u32 = 0;
+    let mut j = 0;
+    while j < n {
+        load += wide(run_of(r, j));
+        j += 1;
+    }
+    load
+}

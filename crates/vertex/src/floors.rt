@@ -1,0 +1,82 @@
+// The floor of a child (rule 46) by its parent's numbers, before the child is made; and the energy of a complete vertex.
+use crate::Cells;
+use base::JobNumber;
+use device::Device;
+use flat::Flat;
+use flat::device_count;
+use flat::device_of;
+use flat::horizon_of;
+use flat::is_used;
+use flat::numbers::wide;
+ghost use mathlib.Core.Path.{_≡_};
+ghost use Prim.Native.Nat.{_+_, _*_, _≤_};
+ghost use Rattle.device.specs.Row.{Sound};
+ghost use Rattle.schedule.specs.Quantities.{Valid};
+ghost use Rattle.flat.specs.Flat.{recorderOf};
+ghost use Rattle.vertex.specs.Vertices.{placeAt, closeOf, closed, floorOf, floor};
+ghost use Rattle.vertex.specs.Layout.{vertexOf, nextFloor};
+ghost use Rattle.vertex.specs.Sums.{Holds, Fitting};
+
+// The floor of device d: what it has cost by the end of its last use, and from there on at work for its ticks to come and in its deepest sleep for all others.
+fn device_floor(d: Device, h: u32, paid: u32, end: u32, ahead: u32) -> u32
+    requires { ⌜ (paid ≤ d .pw * end) × ((end + ahead ≤ h) × (h ≤ 4096)) ⌝ }
+    ensures { λ x. ⌜ (x ≡ floorOf d h paid end ahead) × (x ≤ 268431360) ⌝ }
+{
+    let idle = h - end - ahead;
+    paid + (wide(d.pw) * ahead + wide(device::deep_power(d)) * idle)
+}
+
+// The same once a job is placed at s, if it uses the device: its ticks are among those to come.
+fn next_floor(used: bool, d: Device, h: u32, paid: u32, end: u32, ahead: u32, s: u32) -> u32
+    requires { ⌜ Sound d × ((paid ≤ d .pw * end) × ((end ≤ s) × ((s + ahead ≤ h) × (h ≤ 4096)))) ⌝ }
+    ensures { λ x. ⌜ (x ≡ nextFloor used d h paid end ahead s) × (x ≤ 268431360) ⌝ }
+{
+    if used {
+        let gap = device::gap_energy(d, (s - end) as u16);
+        return device_floor(d, h, paid + gap, s, ahead);
+    }
+    device_floor(d, h, paid, end, ahead)
+}
+
+// The floor of the child that places job j at s.
+pub fn floor_of(r: &Flat, v: &Cells, j: JobNumber, s: u32) -> u32
+    requires { ⌜ Valid (recorderOf (now r)) × (Holds (recorderOf (now r)) (now v) s × Fitting (recorderOf (now r)) (now v) (j .0) s) ⌝ }
+    ensures { λ x. ⌜ x ≡ floor (recorderOf (now (r .entry))) (placeAt (recorderOf (now (r .entry))) (vertexOf (now (v .entry)) s) (j .0) s) ⌝ }
+{
+    let h = wide(horizon_of(r));
+    let m = device_count(r);
+    let mut sum: u32 = 0;
+    let mut k = 0;
+    while k < m {
+        let used = is_used(r, k, j.0);
+        let d = device_of(r, k);
+        sum += next_floor(used, d, h, v[8 + k], v[k], v[16 + k], s);
+        k += 1;
+    }
+    sum
+}
+
+// What device d costs over the whole round, where no job is left.
+fn device_close(d: Device, h: u32, paid: u32, end: u32) -> u32
+    requires { ⌜ (paid ≤ d .pw * end) × ((end ≤ h) × (h ≤ 4096)) ⌝ }
+    ensures { λ x. ⌜ (x ≡ closeOf d h paid end) × (x ≤ 268431360) ⌝ }
+{
+    paid + device::gap_energy(d, (h - end) as u16)
+}
+
+// The energy of a complete vertex.
+pub fn energy_of(r: &Flat, v: &Cells) -> u32
+    requires { ⌜ Valid (recorderOf (now r)) × Holds (recorderOf (now r)) (now v) (recorderOf (now r) .horizon) ⌝ }
+    ensures { λ x. ⌜ x ≡ closed (recorderOf (now (r .entry))) (vertexOf (now (v .entry)) (recorderOf (now (r .entry)) .horizon)) ⌝ }
+{
+    let h = wide(horizon_of(r));
+    let m = device_count(r);
+    let mut sum: u32 = 0;
+    let mut k = 0;
+    while k < m {
+        let d = device_of(r, k);
+        sum += device_close(d, h, v[8 + k], v[k]);
+        k += 1;
+    }
+    sum
+}

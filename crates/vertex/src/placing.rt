@@ -1,0 +1,106 @@
+// A job placed: its ticks go from those to come to those that its devices have paid for. And the root, where no job is placed.
+use crate::Cells;
+use base::JobNumber;
+use device::Device;
+use flat::Flat;
+use flat::device_count;
+use flat::device_of;
+use flat::is_used;
+use flat::job_count;
+use flat::numbers::wide;
+use flat::run_of;
+ghost use mathlib.Core.Path.{_≡_};
+ghost use mathlib.Core.Bool.{cond};
+ghost use Prim.Native.Nat.{_+_, _*_, _<_, _≤_};
+ghost use lib.ListN.{getD};
+ghost use Rattle.base.specs.Sums.{sum};
+ghost use Rattle.schedule.specs.Quantities.{Valid, jobs, run};
+ghost use Rattle.schedule.specs.Visiting.{ticks};
+ghost use Rattle.flat.specs.Flat.{recorderOf};
+ghost use Rattle.vertex.specs.Vertices.{placeAt};
+ghost use Rattle.vertex.specs.Layout.{vertexOf, put, marked, rootCells};
+ghost use Rattle.vertex.specs.Sums.{Holds, Fitting};
+
+// The start and the flag of job j.
+pub fn mark(w: &mut Cells, j: JobNumber, s: u32)
+    requires { ⌜ j .0 < 16 ⌝ }
+    ensures { λ _. ⌜ now (w .exit) ≡ marked (j .0) s (now (w .entry)) ⌝ }
+{
+    w[24 + j.0] = s;
+    w[40 + j.0] = 0;
+}
+
+// A job that starts at s and runs for c ticks, charged to device k, which is d.
+fn charge(w: &mut Cells, d: Device, k: usize, s: u32, c: u32)
+    requires { ⌜ (k < 8) × ((getD (now w) (8 + k) 0 ≤ d .pw * getD (now w) k 0) × ((getD (now w) k 0 ≤ s) × ((s + c ≤ 4096) × (c ≤ getD (now w) (16 + k) 0)))) ⌝ }
+    ensures { λ _. ⌜ now (w .exit) ≡ put d k s c (now (w .entry)) ⌝ }
+{
+    let end = w[k];
+    let paid = w[8 + k];
+    let ahead = w[16 + k];
+    let gap = device::gap_energy(d, (s - end) as u16);
+    w[8 + k] = paid + (gap + wide(d.pw) * c);
+    w[k] = s + c;
+    w[16 + k] = ahead - c;
+}
+
+// Places job j at s.
+pub fn place(r: &Flat, w: &mut Cells, j: JobNumber, s: u32)
+    requires { ⌜ Valid (recorderOf (now r)) × (Holds (recorderOf (now r)) (now w) s × Fitting (recorderOf (now r)) (now w) (j .0) s) ⌝ }
+    ensures made { λ _. ⌜ vertexOf (now (w .exit)) (s + run (recorderOf (now (r .entry))) (j .0)) ≡ placeAt (recorderOf (now (r .entry))) (vertexOf (now (w .entry)) s) (j .0) s ⌝ }
+    ensures held { λ _. ⌜ Holds (recorderOf (now (r .entry))) (now (w .exit)) (s + run (recorderOf (now (r .entry))) (j .0)) ⌝ }
+{
+    let c = wide(run_of(r, j.0));
+    let m = device_count(r);
+    mark(w, j, s);
+    let mut k = 0;
+    while k < m {
+        if is_used(r, k, j.0) {
+            let d = device_of(r, k);
+            charge(w, d, k, s, c);
+        }
+        k += 1;
+    }
+}
+
+// The ticks for which a job of running time c uses a device.
+fn ticks_of(used: bool, c: u16) -> u32
+    ensures { λ x. ⌜ (x ≡ cond used c 0) × (x < 65536) ⌝ }
+{
+    if used { wide(c) } else { 0 }
+}
+
+// The ticks for which all jobs use device k.
+fn all_ticks_of(r: &Flat, k: usize) -> u32
+    requires { ⌜ (jobs (recorderOf (now r)) ≤ 16) × (k < 8) ⌝ }
+    ensures { λ x. ⌜ x ≡ sum (jobs (recorderOf (now (r .entry)))) (ticks (recorderOf (now (r .entry))) k) ⌝ }
+{
+    let n = job_count(r);
+    let mut sum: u32 = 0;
+    let mut j = 0;
+    while j < n {
+        sum += ticks_of(is_used(r, k, j), run_of(r, j));
+        j += 1;
+    }
+    sum
+}
+
+// No job placed yet.
+pub fn root_of(r: &Flat) -> Cells
+    requires { ⌜ Valid (recorderOf (now r)) ⌝ }
+    ensures { λ x. ⌜ x ≡ rootCells (recorderOf (now (r .entry))) ⌝ }
+{
+    let m = device_count(r);
+    let mut v = [0u32; 56];
+    let mut j = 0;
+    while j < 16 {
+        v[40 + j] = 1;
+        j += 1;
+    }
+    let mut k = 0;
+    while k < m {
+        v[16 + k] = all_ticks_of(r, k);
+        k += 1;
+    }
+    v
+}
