@@ -1,11 +1,17 @@
-//! The benchmark's plain search: the same visit as the proved search, with the same sums at the same
-//! places, written as fast Rust without a proof.
+//! The benchmark's plain searches: the same visit as the proved search, written as fast Rust without a
+//! proof, in three shapes.
 //!
-//! Both sums of document 01 are made anew at every vertex: the running times of all unplaced jobs,
-//! and for each device the ticks that unplaced jobs will use it. Carried in the vertex are only the
-//! end of each device's last placed use and the energy before that end.
+//! - `anew` adds both sums (rules 43 and 46) anew at every vertex: the running times of all unplaced
+//!   jobs, and for each device the ticks that unplaced jobs will use it.
+//! - `carried` keeps both sums in one vertex: placing a job and taking it back keep them right.
+//! - `shaped` takes the steps of the proved search: it reads the parent, knows cut A by one
+//!   comparison, and makes the child only where no cut drops it.
 
-use crate::request::{read, Request, MOST_DEVICES, MOST_JOBS};
+pub mod anew;
+pub mod carried;
+pub mod shaped;
+
+use crate::request::{read, MOST_DEVICES, MOST_JOBS};
 
 const DEVICES: usize = MOST_DEVICES as usize;
 
@@ -37,17 +43,13 @@ struct Job {
     devices: u8,
 }
 
-#[derive(Clone, Copy)]
-struct Vertex {
-    time: u32,
-    /// Bit j stands for job j.
-    unplaced: u16,
-    /// For each device, the end of its last placed use, and the least energy before that end.
-    ends: [u32; DEVICES],
-    spent: [u32; DEVICES],
+impl Job {
+    fn uses(&self, device: usize) -> bool {
+        self.devices >> device & 1 == 1
+    }
 }
 
-/// The numbers of the jobs in a set, rising.
+/// The numbers of the jobs in a set, rising. Bit j stands for job j.
 fn members(mut set: u16) -> impl Iterator<Item = usize> {
     std::iter::from_fn(move || {
         let first = set.trailing_zeros() as usize;
@@ -56,28 +58,17 @@ fn members(mut set: u16) -> impl Iterator<Item = usize> {
     })
 }
 
-/// What the search returns. Starts are those of the best, by job number.
-#[derive(Debug, PartialEq, Eq)]
-pub struct Found {
-    pub number: u8,
-    pub energy: u32,
-    pub count: u32,
-    pub starts: Vec<u32>,
-}
-
-struct Search {
+/// What is to be planned.
+struct Problem {
     horizon: u32,
     devices: Vec<Device>,
     jobs: [Job; MOST_JOBS],
-    budget: u32,
-    count: u32,
-    over: bool,
-    starts: [u32; MOST_JOBS],
-    best: Option<(u32, [u32; MOST_JOBS])>,
+    job_count: usize,
 }
 
-impl Search {
-    fn new(request: &Request, budget: u32) -> Search {
+impl Problem {
+    fn of(file: &[u8]) -> Result<Problem, u8> {
+        let request = read(file)?;
         let mut jobs = [Job::default(); MOST_JOBS];
         for (place, job) in jobs.iter_mut().zip(&request.jobs) {
             *place = Job {
@@ -93,144 +84,105 @@ impl Search {
             sleeping: device.sleeping,
             moving: device.moving,
         };
-        Search {
+        Ok(Problem {
             horizon: request.horizon,
             devices: request.devices.iter().map(device).collect(),
             jobs,
+            job_count: request.jobs.len(),
+        })
+    }
+
+    fn all_jobs(&self) -> u16 {
+        ((1u32 << self.job_count) - 1) as u16
+    }
+
+    /// The running time of the jobs in a set.
+    fn load(&self, set: u16) -> u32 {
+        members(set).map(|number| self.jobs[number].running).sum()
+    }
+
+    /// The ticks for which the jobs in a set use a device.
+    fn ahead(&self, set: u16, device: usize) -> u32 {
+        members(set)
+            .map(|number| &self.jobs[number])
+            .filter(|job| job.uses(device))
+            .map(|job| job.running)
+            .sum()
+    }
+
+    fn is_late(&self, number: usize, time: u32) -> bool {
+        let job = &self.jobs[number];
+        time.max(job.release) + job.running > job.deadline
+    }
+}
+
+/// The vertices counted, and the best schedule so far.
+struct Tally {
+    budget: u32,
+    count: u32,
+    over: bool,
+    best: Option<(u32, [u32; MOST_JOBS])>,
+}
+
+impl Tally {
+    fn new(budget: u32) -> Tally {
+        Tally {
             budget,
             count: 0,
             over: false,
-            starts: [0; MOST_JOBS],
             best: None,
         }
     }
 
-    /// `last` is the job placed last and its start: charged to its devices only after cut A, as in the
-    /// proved search. The root has none.
-    fn visit(&mut self, mut vertex: Vertex, last: Option<(usize, u32)>) {
-        if self.count == self.budget {
-            self.over = true;
-            return;
-        }
-        self.count += 1;
-        if self.cut_a(&vertex) {
-            return;
-        }
-        if let Some((number, start)) = last {
-            self.charge(&mut vertex, number, start);
-        }
-        if vertex.unplaced == 0 {
-            let energy = self.energy(&vertex);
-            if self.best.is_none_or(|(best, _)| energy < best) {
-                self.best = Some((energy, self.starts));
-            }
-            return;
-        }
-        if let Some((best, _)) = self.best {
-            if self.floor(&vertex) >= best {
-                return;
-            }
-        }
-        self.children(&vertex);
+    /// One vertex more, or the word that the budget is used up.
+    fn counts(&mut self) -> bool {
+        self.over = self.count == self.budget;
+        self.count += u32::from(!self.over);
+        !self.over
     }
 
-    fn children(&mut self, vertex: &Vertex) {
-        for number in members(vertex.unplaced) {
-            let job = self.jobs[number];
-            let earliest = vertex.time.max(job.release);
-            for start in earliest..=job.deadline - job.running {
-                self.starts[number] = start;
-                let child = self.place(vertex, number, start);
-                self.visit(child, Some((number, start)));
-                if self.over {
-                    return;
-                }
-            }
+    fn offer(&mut self, energy: u32, starts: &[u32; MOST_JOBS]) {
+        if self.best.is_none_or(|(best, _)| energy < best) {
+            self.best = Some((energy, *starts));
         }
     }
 
-    fn place(&self, vertex: &Vertex, number: usize, start: u32) -> Vertex {
-        let job = self.jobs[number];
-        let mut child = *vertex;
-        child.time = start + job.running;
-        child.unplaced &= !(1 << number);
-        child
-    }
-
-    fn charge(&self, vertex: &mut Vertex, number: usize, start: u32) {
-        let job = self.jobs[number];
-        for (k, device) in self.devices.iter().enumerate() {
-            if job.devices >> k & 1 == 1 {
-                vertex.spent[k] +=
-                    device.gap(start - vertex.ends[k]) + device.working * job.running;
-                vertex.ends[k] = vertex.time;
-            }
-        }
-    }
-
-    fn cut_a(&self, vertex: &Vertex) -> bool {
-        let late = |number: usize| {
-            let job = &self.jobs[number];
-            vertex.time.max(job.release) + job.running > job.deadline
-        };
-        if members(vertex.unplaced).any(late) {
-            return true;
-        }
-        let running: u32 = members(vertex.unplaced)
-            .map(|number| self.jobs[number].running)
-            .sum();
-        vertex.time + running > self.horizon
-    }
-
-    fn energy(&self, vertex: &Vertex) -> u32 {
-        let energy = |(k, device): (usize, &Device)| {
-            vertex.spent[k] + device.gap(self.horizon - vertex.ends[k])
-        };
-        self.devices.iter().enumerate().map(energy).sum()
-    }
-
-    fn floor(&self, vertex: &Vertex) -> u32 {
-        let floor = |(k, device): (usize, &Device)| {
-            let to_come: u32 = members(vertex.unplaced)
-                .map(|number| &self.jobs[number])
-                .filter(|job| job.devices >> k & 1 == 1)
-                .map(|job| job.running)
-                .sum();
-            let others = self.horizon - vertex.ends[k] - to_come;
-            vertex.spent[k] + device.working * to_come + device.sleeping * others
-        };
-        self.devices.iter().enumerate().map(floor).sum()
+    fn beats(&self, floor: impl FnOnce() -> u32) -> bool {
+        self.best.is_some_and(|(best, _)| floor() >= best)
     }
 }
 
-pub fn search(file: &[u8], budget: u32) -> Found {
+/// What a search returns. Starts are those of the best, by job number.
+#[derive(Debug, PartialEq, Eq)]
+pub struct Found {
+    pub number: u8,
+    pub energy: u32,
+    pub count: u32,
+    pub starts: Vec<u32>,
+}
+
+/// Reads the file, has `visit` do the work, and says what came of it.
+fn found(file: &[u8], budget: u32, visit: impl FnOnce(&Problem, &mut Tally)) -> Found {
     let refused = |number, count| Found {
         number,
         energy: 0,
         count,
         starts: Vec::new(),
     };
-    let request = match read(file) {
-        Ok(request) => request,
+    let problem = match Problem::of(file) {
+        Ok(problem) => problem,
         Err(number) => return refused(number, 0),
     };
-    let jobs = request.jobs.len();
-    let mut search = Search::new(&request, budget);
-    let root = Vertex {
-        time: 0,
-        unplaced: ((1u32 << jobs) - 1) as u16,
-        ends: [0; DEVICES],
-        spent: [0; DEVICES],
-    };
-    search.visit(root, None);
-    match search.best {
-        _ if search.over => refused(20, budget),
-        None => refused(19, search.count),
+    let mut tally = Tally::new(budget);
+    visit(&problem, &mut tally);
+    match tally.best {
+        _ if tally.over => refused(20, budget),
+        None => refused(19, tally.count),
         Some((energy, starts)) => Found {
             number: 0,
             energy,
-            count: search.count,
-            starts: starts[..jobs].to_vec(),
+            count: tally.count,
+            starts: starts[..problem.job_count].to_vec(),
         },
     }
 }
@@ -252,13 +204,17 @@ mod tests {
         }
     }
 
-    /// The plain search is only worth racing against if it does the same work.
+    /// A plain search is only worth racing against if it does the same work.
     #[test]
-    fn the_plain_search_finds_what_the_oracle_finds() {
+    fn the_plain_searches_find_what_the_oracle_finds() {
         for number in 0..400 {
             let file = draw(3, number).file;
-            let expected = by_the_oracle(&file, 100_000);
-            assert_eq!(search(&file, 100_000), expected, "case {number}");
+            for budget in [7, 100_000] {
+                let expected = by_the_oracle(&file, budget);
+                assert_eq!(anew::search(&file, budget), expected, "case {number}");
+                assert_eq!(carried::search(&file, budget), expected, "case {number}");
+                assert_eq!(shaped::search(&file, budget), expected, "case {number}");
+            }
         }
     }
 }

@@ -1,13 +1,14 @@
-//! Plans requests of some million vertices with a plain search in Rust and, if it is linked, with the
-//! proved search, and prints vertices per second of each and their ratio.
+//! Plans requests of some million vertices with three plain searches in Rust and, if it is linked, with
+//! the proved search, and prints vertices per second of each and the proved one's ratio to each plain one.
 //!
-//! `./bench` at the top builds the proved search and runs both; `cargo run --release` here runs the
-//! plain search alone.
+//! `./bench` at the top builds the proved search and runs all; `cargo run --release` here runs the
+//! plain searches alone.
 
 #[cfg(feature = "proved")]
 mod proved;
 mod requests;
 
+use outside::plain;
 use std::process::ExitCode;
 use std::time::{Duration, Instant};
 
@@ -24,12 +25,13 @@ pub struct Outcome {
     count: u32,
 }
 
-fn plain(file: &[u8], budget: u32) -> Outcome {
-    let found = outside::plain::search(file, budget);
-    Outcome {
-        number: found.number,
-        energy: found.energy,
-        count: found.count,
+impl From<plain::Found> for Outcome {
+    fn from(found: plain::Found) -> Outcome {
+        Outcome {
+            number: found.number,
+            energy: found.energy,
+            count: found.count,
+        }
     }
 }
 
@@ -47,7 +49,15 @@ fn racers() -> Vec<Racer> {
         total: Duration::ZERO,
     };
     vec![
-        racer("plain", plain),
+        racer("anew", |file, budget| {
+            plain::anew::search(file, budget).into()
+        }),
+        racer("carried", |file, budget| {
+            plain::carried::search(file, budget).into()
+        }),
+        racer("shaped", |file, budget| {
+            plain::shaped::search(file, budget).into()
+        }),
         #[cfg(feature = "proved")]
         racer("proved", proved::search),
     ]
@@ -77,17 +87,20 @@ fn millions(vertices: u64, time: Duration) -> f64 {
     vertices as f64 / time.as_secs_f64() / 1e6
 }
 
-/// One line: vertices, then millions of them per second for each racer, then the ratio of the last
-/// to the first.
+/// One line: vertices, then millions of them per second for each racer, then the ratio of the proved
+/// search's speed to that of each plain one.
 fn line(name: &str, vertices: u64, times: &[Duration], racers: &[Racer]) -> String {
     let mut line = format!("{name:30} {vertices:>11} vertices");
     for (racer, time) in racers.iter().zip(times) {
         let speed = millions(vertices, *time);
         line += &format!("  {} {speed:6.1} M/s", racer.name);
     }
-    if let [plain, proved] = times {
-        let ratio = plain.as_secs_f64() / proved.as_secs_f64();
-        line += &format!("  proved/plain {ratio:.2}");
+    let race: Vec<_> = racers.iter().zip(times).collect();
+    if let [plain @ .., (Racer { name: "proved", .. }, proved)] = &race[..] {
+        for (racer, time) in plain {
+            let ratio = time.as_secs_f64() / proved.as_secs_f64();
+            line += &format!("  proved/{} {ratio:.2}", racer.name);
+        }
     }
     line
 }

@@ -94,16 +94,18 @@ pub fn all() -> Vec<Named> {
 #[cfg(test)]
 mod tests {
     use super::*;
-    use outside::plain::search;
+    use outside::plain::{anew, carried, shaped};
     use outside::request::read;
     use outside::visit::visit;
 
-    /// The race is about these vertices: the plain search must count and find what the oracle's
+    /// The race is about these vertices: the plain searches must count and find what the oracle's
     /// visit does, on the very requests that are raced.
     #[test]
-    fn the_plain_search_agrees_with_the_visit_on_every_request() {
+    fn the_plain_searches_agree_with_the_visit_on_every_request() {
         for request in all() {
-            let found = search(&request.file, u32::MAX);
+            let found = anew::search(&request.file, u32::MAX);
+            assert_eq!(carried::search(&request.file, u32::MAX), found);
+            assert_eq!(shaped::search(&request.file, u32::MAX), found);
             let visited = visit(&read(&request.file).unwrap(), u64::MAX);
             assert_eq!(u64::from(found.count), visited.count, "{}", request.name);
             assert_eq!(Some(found.energy.into()), visited.best, "{}", request.name);
