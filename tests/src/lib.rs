@@ -2,9 +2,9 @@
 //! try it with.
 //!
 //! The oracle shares nothing with the proved code but the rules: the reader, the row energies, the
-//! listing and the visit are made a second time, by other means. `plain` is no part of it. It is the
-//! benchmark's other side and shares with the proved search the visit, and the places at which the
-//! two sums over unplaced jobs are made, so that the race is between two makers of the same work.
+//! listing and the visit are made a second time, by other means. `plain` is no part of it. Its three
+//! searches are the benchmark's other side: they share with the proved search the visit, and one of
+//! them its shape too, so that the race is between makers of the same work.
 
 pub mod cases;
 pub mod catalogue;
