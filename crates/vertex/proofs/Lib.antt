@@ -1,6 +1,7 @@
 pub mod Flags
 pub mod Adding
 pub mod Limits
+pub mod Cutting
 pub mod Soonest
 pub mod Offering
 pub mod Reading

@@ -1,11 +1,13 @@
 -- The root: its numbers, and that the sums stored there are those of all jobs.
 -- Assumes nothing.
 use mathlib.Core.Path.{_≡_, refl, sym, ap, _∙_, subst}
-use mathlib.Core.Bool.{Bool, false}
+use mathlib.Core.Bool.{Bool, true, false, cond}
 use mathlib.Core.List.{List}
 use Prim.Native.Nat.{ℕ, zero, suc, _+_, _≤_, _<_}
 use native.Mathlib.Omega.{arith}
+use lib.Dec.{ltb}
 use lib.ListN.{getD, set, length, replicate, length-set}
+use borrow.Author.Tests.{lt-ltb, le-ltb}
 use Rattle.base.specs.Lists.{upTo}
 use Rattle.base.specs.Loops.{each}
 use Rattle.base.specs.Sums.{sum}
@@ -13,11 +15,12 @@ use Rattle.base.proofs.Stores.{stored-at}
 use Rattle.schedule.specs.declared.Recorder.{Recorder}
 use Rattle.schedule.specs.Quantities.{Valid, jobs, run}
 use Rattle.schedule.specs.Visiting.{ticks}
-use Rattle.vertex.specs.Vertices.{ahead, storing, root, Settled}
+use Rattle.vertex.specs.Vertices.{load, ahead, late, cutA, storing, root, Settled}
 use Rattle.vertex.specs.Layout.{row, placedOf, vertexOf, rootCells}
-use Rattle.vertex.specs.Sums.{Holds, Stored}
+use Rattle.vertex.specs.Sums.{latest, Holds, Stored}
 use Rattle.vertex.proofs.Adding.{rest-all, unplaced-all}
 use Rattle.vertex.proofs.Charging.{root-settled}
+use Rattle.vertex.proofs.Limits.{cut-latest}
 use Rattle.vertex.proofs.Reading.{row-at, row-other, row-store, placed-other}
 
 abbrev fresh : List ℕ
@@ -84,3 +87,19 @@ module _ (R : Recorder) where
           sum = rw (rooted .placed) (e ∙ sym (rest-all R (run R)));
           fits = omega arith;
         }
+
+-- Cut A at the root, where x is the running time of all jobs.
+module _ (R : Recorder) (ok : Valid R) (x : ℕ) (ex : x ≡ sum (jobs R) (run R)) where
+  load-is : load R (replicate 16 false) ≡ x
+  load-is = rest-all R (run R) ∙ sym ex
+
+  pub root-late : R .horizon < x → cutA R 0 (replicate 16 false) ≡ true
+  unfolding cutA
+  root-late h = go (late R 0 (replicate 16 false))
+    where
+      go : (b : Bool) → cond b true (ltb (R .horizon) (0 + load R (replicate 16 false))) ≡ true
+      go true = refl
+      go false = lt-ltb (R .horizon) (0 + load R (replicate 16 false)) (omega (arith, load-is, h))
+
+  pub root-uncut : x ≤ R .horizon → cutA R 0 (replicate 16 false) ≡ false
+  root-uncut h = cut-latest R ok 0 (replicate 16 false) (omega arith) (omega (arith, load-is)) ∙ le-ltb (latest R (replicate 16 false)) 0 (omega arith)

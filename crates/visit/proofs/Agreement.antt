@@ -2,7 +2,7 @@
 -- So what the search answers follows from the visiting order and the budget.
 -- Assumes nothing.
 use mathlib.Core.Path.{_≡_, refl, sym, ap, _∙_, subst}
-use mathlib.Core.Bool.{Bool, true, false, not, cond, _||_}
+use mathlib.Core.Bool.{Bool, true, false, not, cond}
 use mathlib.Core.Option.{Option, none, some}
 use mathlib.Core.List.{List, [], _∷_, _++_}
 use Prim.Native.Nat.{ℕ, zero, suc, _+_, _-_, _≤_, _<_, max}
@@ -20,7 +20,7 @@ use Rattle.schedule.specs.declared.Recorder.{Recorder}
 use Rattle.schedule.specs.Quantities.{Valid, jobs, release, run, deadline}
 use Rattle.schedule.specs.Listing.{place}
 use Rattle.schedule.specs.Visiting as doc
-use Rattle.vertex.specs.Vertices.{Vertex, flagged, unflagged, lateStep, isLate, late, cutA, endAt, paidAt, endStep, paidStep, placeAt, root, closeOf, closeAt, closed, floorOf, floorAt, floor, Settled}
+use Rattle.vertex.specs.Vertices.{Vertex, flagged, unflagged, cutA, endAt, paidAt, endStep, paidStep, placeAt, root, closeOf, closeAt, closed, floorOf, floorAt, floor, Settled}
 use Rattle.visit.specs.Steps.{Best, Tally, improves, offer, cutB, counting, completed, opens, earliest, span, tryStart, tryJob, visitOf, bare, searched}
 use Rattle.schedule.proofs.Runs.{length-starts}
 use Rattle.schedule.proofs.Tree.{Reached, starts-child, root-reached, child-reached}
@@ -29,6 +29,7 @@ use Rattle.schedule.proofs.Floors.{floor-is}
 use Rattle.vertex.specs.Layout.{vertexOf}
 use Rattle.vertex.specs.Sums.{Holds, Stored}
 use Rattle.vertex.proofs.Charging.{end-now, paid-now, ends-long, paid-long, placed-settled, root-settled}
+use Rattle.vertex.proofs.Cutting.{cut-visiting}
 use Rattle.visit.proofs.Order.{job-placed, job-open}
 use Rattle.vertex.proofs.Flags.{among, none-flagged, flag-more, over-flags, over-span}
 
@@ -64,43 +65,11 @@ pub stored-sums :
 unfolding vertexOf
 stored-sums R l t n x w same holds stored = (rw (same .unplaced) (stored .sum), λ k b. rw (same .unplaced) (holds .ticks k b))
 
--- ---- cut A
-
-late-or : (R : Recorder) (t : ℕ) (l : List ℕ) (b : Bool) → through (λ j x. cond (ltb (deadline R j) (doc.earliest R t j + run R j)) true x) l b ≡ (b || doc.late R t l)
-unfolding doc.late
-late-or R t [] true = refl
-late-or R t [] false = refl
-late-or R t (j ∷ l) b =
-    late-or R t l (cond (ltb (deadline R j) (doc.earliest R t j + run R j)) true b)
-    ∙ swap (ltb (deadline R j) (doc.earliest R t j + run R j)) b
-  where
-    swap : (c b : Bool) → (cond c true b || doc.late R t l) ≡ (b || (c || doc.late R t l))
-    swap true true = refl
-    swap true false = refl
-    swap false true = refl
-    swap false false = refl
-
-late-same : (R : Recorder) (m : List Bool) (t : ℕ) → late R t m ≡ doc.late R t (unflagged m (jobs R))
-unfolding late lateStep
-late-same R m t =
-    over-flags (λ (x y : Bool). x ≡ y) (isLate R t m) (λ j x. cond (ltb (deadline R j) (doc.earliest R t j + run R j)) true x) m (jobs R)
-    (λ j l q a b e. simp q e)
-    (λ j l q a b e. rw (q, e))
-    false false refl
-    ∙ late-or R t (unflagged m (jobs R)) false
-
 -- ---- one vertex
-
-or-cond : (b c : Bool) → cond b true c ≡ (b || c)
-or-cond true c = refl
-or-cond false c = refl
 
 module _ (R : Recorder) (v : Vertex) (w : doc.Vertex) (same : Same R v w) where
   cut-same : cutA R (v .time) (v .placed) ≡ doc.cutA R w
-  unfolding cutA doc.cutA
-  cut-same =
-      rw (late-same R (v .placed) (v .time), same .time, ← same .unplaced)
-      (or-cond (doc.late R (w .time) (w .unplaced)) (ltb (R .horizon) (w .time + total (run R) (w .unplaced))))
+  cut-same = ap (λ (t : ℕ). cutA R t (v .placed)) (same .time) ∙ cut-visiting R (v .placed) w (same .unplaced)
 
   floor-same : (m : ℕ) → Reached R m w → floor R v ≡ doc.floor R w
   unfolding floor floorOf doc.floor

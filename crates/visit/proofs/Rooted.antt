@@ -1,23 +1,18 @@
 -- The visit of the root.
 -- Assumes nothing.
 use mathlib.Core.Path.{_≡_, refl, sym, ap, _∙_, subst}
-use mathlib.Core.Bool.{Bool, true, false, cond}
+use mathlib.Core.Bool.{true, false}
 use mathlib.Core.List.{List}
-use Prim.Native.Nat.{ℕ, _+_, _≤_, _<_}
+use Prim.Native.Nat.{ℕ, _≤_, _<_}
 use native.Mathlib.Omega.{arith}
-use lib.Dec.{ltb}
 use lib.ListN.{replicate}
-use borrow.Author.Tests.{lt-ltb, le-ltb}
 use Rattle.base.specs.Lists.{upTo}
 use Rattle.base.specs.Sums.{sum}
 use Rattle.schedule.specs.declared.Recorder.{Recorder}
 use Rattle.schedule.specs.Quantities.{Valid, jobs, run}
-use Rattle.vertex.specs.Vertices.{Vertex, load, late, cutA, root}
+use Rattle.vertex.specs.Vertices.{Vertex, root}
 use Rattle.vertex.specs.Layout.{row, vertexOf, rootCells}
-use Rattle.vertex.specs.Sums.{latest}
-use Rattle.vertex.proofs.Adding.{rest-all}
-use Rattle.vertex.proofs.Limits.{cut-latest}
-use Rattle.vertex.proofs.Rooting.{root-is}
+use Rattle.vertex.proofs.Rooting.{root-is, root-late, root-uncut}
 use Rattle.visit.specs.Steps.{Tally, Run, cutB, counting, bare, visitOf, searched, capped}
 use Rattle.visit.specs.Lent.{tallyOf, ran, below}
 use Rattle.visit.proofs.Budget.{capped-over}
@@ -30,20 +25,6 @@ fresh-tally = refl
 
 -- x is the running time of all jobs.
 module _ (R : Recorder) (ok : Valid R) (x : ℕ) (ex : x ≡ sum (jobs R) (run R)) where
-  load-is : load R (replicate 16 false) ≡ x
-  load-is = rest-all R (run R) ∙ sym ex
-
-  root-late : R .horizon < x → cutA R 0 (replicate 16 false) ≡ true
-  unfolding cutA
-  root-late h = go (late R 0 (replicate 16 false))
-    where
-      go : (b : Bool) → cond b true (ltb (R .horizon) (0 + load R (replicate 16 false))) ≡ true
-      go true = refl
-      go false = lt-ltb (R .horizon) (0 + load R (replicate 16 false)) (omega (arith, load-is, h))
-
-  root-uncut : x ≤ R .horizon → cutA R 0 (replicate 16 false) ≡ false
-  root-uncut h = cut-latest R ok 0 (replicate 16 false) (omega arith) (omega (arith, load-is)) ∙ le-ltb (latest R (replicate 16 false)) 0 (omega arith)
-
   module _ (b : ℕ) where
     pub root-over : b ≡ 0 → (m : List ℕ) → ran b true m ≡ capped b (searched R)
     unfolding ran searched
@@ -56,7 +37,7 @@ module _ (R : Recorder) (ok : Valid R) (x : ℕ) (ex : x ≡ sum (jobs R) (run R
       pub root-cut : R .horizon < x → ran b false m ≡ capped b (searched R)
       unfolding searched
       root-cut h =
-          let v : visitOf R (jobs R) root (bare 0) ≡ counting (bare 0) = cut-counts R root (bare 0) (root-late h) (jobs R) in
+          let v : visitOf R (jobs R) root (bare 0) ≡ counting (bare 0) = cut-counts R root (bare 0) (root-late R ok x ex h) (jobs R) in
           ran-ends b m (visitOf R (jobs R) root (bare 0)) (counted-is ∙ sym v) (subst (λ (y : Tally). y .count ≤ b) (sym v) (omega (arith, some)))
 
       pub root-enters :
@@ -65,4 +46,4 @@ module _ (R : Recorder) (ok : Valid R) (x : ℕ) (ex : x ≡ sum (jobs R) (run R
       root-enters h v ev n en r er =
           er ∙ ap (λ (i : ℕ). capped b (below R i (vertexOf v 0) (tallyOf m))) en ∙ ap (λ (l : List ℕ). capped b (below R (jobs R) (vertexOf l 0) (tallyOf m))) ev
           ∙ ap (λ (w : Vertex). capped b (below R (jobs R) w (tallyOf m))) (root-is R ok) ∙ ap (λ (y : Tally). capped b (below R (jobs R) root y)) counted-is
-          ∙ ap (capped b) (sym (entered-below R root (bare 0) (root-uncut h) refl (jobs R)))
+          ∙ ap (capped b) (sym (entered-below R root (bare 0) (root-uncut R ok x ex h) refl (jobs R)))
