@@ -1,0 +1,12 @@
+pub mod Found
+pub mod Steady
+pub mod Counts
+pub mod Only
+pub mod Larger
+pub mod Beside
+pub mod Alike
+pub mod Budget
+pub mod Tallies
+pub mod Walking
+pub mod Ending
+pub mod Figures

@@ -1,0 +1,3 @@
+pub mod TillFound
+pub mod Promises
+pub mod Steps
