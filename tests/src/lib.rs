@@ -17,6 +17,7 @@ pub mod judge;
 pub mod listing;
 pub mod mend;
 pub mod plain;
+pub mod possible;
 pub mod random;
 pub mod request;
 pub mod rows;

@@ -1,4 +1,5 @@
-//! The full listing of all feasible schedules, and the first of those with least energy.
+//! The full listing of all feasible schedules: the first of those with least energy, and the first of
+//! all.
 //!
 //! The search is judged against a listing that is defined without the tree (rule 49). So there is no
 //! tree here: every vector of start times is written out, job by job independently, and thrown away
@@ -46,6 +47,23 @@ pub fn first_of_the_least(request: &Request) -> Option<Schedule> {
     }
 }
 
+/// The first of all feasible schedules, by job number, whatever it costs.
+pub fn first(request: &Request) -> Option<Vec<u32>> {
+    let mut first: Option<Vec<u32>> = None;
+    let mut starts: Vec<u32> = request.jobs.iter().map(|job| job.release).collect();
+    loop {
+        if no_shared_tick(&request.jobs, &starts) {
+            let is_earlier = |first: &Vec<u32>| running_order(&starts) < running_order(first);
+            if first.as_ref().is_none_or(is_earlier) {
+                first = Some(starts.clone());
+            }
+        }
+        if !advance(&request.jobs, &mut starts) {
+            return first;
+        }
+    }
+}
+
 /// The next vector, counted like the digits of a number; false when all have been listed.
 fn advance(jobs: &[Job], starts: &mut [u32]) -> bool {
     for (job, start) in jobs.iter().zip(starts) {
@@ -68,7 +86,7 @@ fn no_shared_tick(jobs: &[Job], starts: &[u32]) -> bool {
 
 /// The schedule as rule 47 compares it: (job, start) in running order, so that the order of vectors
 /// is the rule's: smaller job first, then earlier start.
-fn running_order(starts: &[u32]) -> Vec<(usize, u32)> {
+pub fn running_order(starts: &[u32]) -> Vec<(usize, u32)> {
     let mut order: Vec<(usize, u32)> = starts.iter().copied().enumerate().collect();
     order.sort_by_key(|&(_, start)| start);
     order
