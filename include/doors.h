@@ -32,6 +32,9 @@ uint8_t door_tables(const uint8_t *file, size_t file_len, uint8_t *out, size_t o
 uint8_t door_build(const uint8_t *catalogue, size_t catalogue_len, const uint8_t *wanted, size_t wanted_len, const uint8_t *tables, size_t tables_len,
                    uint8_t *out, size_t out_len, uint8_t *result, size_t result_len);
 
+/* The start times of the first of all plans, two bytes each, if the budget covers the vertices visited till then. */
+uint8_t door_possible(const uint8_t *file, size_t file_len, uint32_t budget, uint8_t *starts, size_t starts_len, uint8_t *result, size_t result_len);
+
 /* The start times mended. `out`: the new ones by job number, two bytes each. `moved`: six bytes for each job that moved, two each for its number, its given
  * start and its new one; the count of the answer is how many moved. */
 uint8_t door_mend(const uint8_t *file, size_t file_len, const uint8_t *starts, size_t starts_len, uint8_t *out, size_t out_len, uint8_t *moved,

@@ -6,7 +6,8 @@
 //! nothing is visited: the vertices that stand at or before the schedule, as sequences compare.
 //! Requests too large for that are held to `visited`, which does visit; the small ones hold it to both.
 
-use crate::damage::{change, cut_short};
+use crate::damage::{add, change, cut_short};
+use crate::faults;
 use crate::listing;
 use crate::random::Random;
 use crate::request::{read, Job, Request};
@@ -234,15 +235,23 @@ fn draw(random: &mut Random) -> Vec<u8> {
         4 => loose_list(random).bytes(),
         5 => hopeless(random).bytes(),
         6 | 7 => tight_list(random).bytes(),
-        8 => {
-            let file = job_list(random).bytes();
-            change(random, file)
-        }
-        9 => {
-            let file = tight_list(random).bytes();
-            cut_short(random, file)
-        }
+        8 | 9 => damaged(random),
         _ => job_list(random).bytes(),
+    }
+}
+
+/// A file with a fault that was put there, or damaged without knowing how.
+fn damaged(random: &mut Random) -> Vec<u8> {
+    let mut tables = job_list(random);
+    match random.within(1, 6) {
+        1 => change(random, tables.bytes()),
+        2 => cut_short(random, tables.bytes()),
+        3 => add(random, tables.bytes()),
+        _ => {
+            let number = random.pick(&faults::NUMBERS);
+            faults::put(random, &mut tables, number);
+            tables.bytes()
+        }
     }
 }
 
@@ -287,7 +296,7 @@ mod tests {
     #[test]
     fn the_visit_agrees_and_every_number_is_met() {
         let met = run(SEED, REQUESTS, by(|_, answer| answer)).expect("the same outcomes");
-        for number in [0, 1, 13, 15, 19, 20] {
+        for number in (0..=13).chain([15, 19, 20]) {
             assert!(met.numbers[number] > 0, "{number} is not met");
         }
     }

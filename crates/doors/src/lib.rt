@@ -7,6 +7,7 @@ use calls::RESULT;
 pub mod door_build; // door_build.rt: a request from part numbers
 pub mod door_margins; // door_margins.rt: margins
 pub mod door_mend; // door_mend.rt: mending
+pub mod door_possible; // door_possible.rt: whether there is any plan
 pub mod door_tables; // door_tables.rt: the tables of a file
 pub mod door_verdict; // door_verdict.rt: the verdict
 pub mod door_write; // door_write.rt: the writer

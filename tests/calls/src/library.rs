@@ -68,6 +68,15 @@ mod c {
             r: *mut u8,
             r_len: usize,
         ) -> u8;
+        pub fn door_possible(
+            f: *const u8,
+            f_len: usize,
+            budget: u32,
+            s: *mut u8,
+            s_len: usize,
+            r: *mut u8,
+            r_len: usize,
+        ) -> u8;
         pub fn door_mend(
             f: *const u8,
             f_len: usize,
@@ -207,6 +216,20 @@ pub fn build(
             tables.len(),
             out.as_mut_ptr(),
             out.len(),
+            result.as_mut_ptr(),
+            result.len(),
+        )
+    }
+}
+
+pub fn possible(file: &[u8], budget: u32, starts: &mut [u8], result: &mut [u8]) -> u8 {
+    unsafe {
+        c::door_possible(
+            file.as_ptr(),
+            file.len(),
+            budget,
+            starts.as_mut_ptr(),
+            starts.len(),
             result.as_mut_ptr(),
             result.len(),
         )

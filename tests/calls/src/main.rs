@@ -6,6 +6,7 @@ mod expected;
 mod figures;
 mod library;
 mod mend;
+mod possible;
 mod writing;
 
 use expected::{Buffers, Outcome, Searched, RESULT};
@@ -207,9 +208,14 @@ fn test() -> Result<String, String> {
     if let Some(failure) = tester.failure {
         return Err(failure);
     }
-    for (number, count) in mend::test()? {
-        tester.calls += count;
-        tester.met.insert(("door_mend", number), count);
+    for (name, met) in [
+        ("door_mend", mend::test()?),
+        ("door_possible", possible::test()?),
+    ] {
+        for (number, count) in met {
+            tester.calls += count;
+            tester.met.insert((name, number), count);
+        }
     }
     for ((name, number), count) in &tester.met {
         println!("{count:7}  {name} {number}");

@@ -1,0 +1,35 @@
+// The door to whether there is any plan.
+use crate::SHUT;
+use crate::least;
+use calls::RESULT;
+use calls::put_starts;
+use calls::tell;
+use planner::Answer;
+use possible::any_plan;
+use request::read;
+
+// The start times go to the first bytes; what is lent beyond one start a job stays as it was.
+fn possible_bytes(file: &[u8], budget: u32, starts: &mut [u8]) -> Answer {
+    let mut own = [0u16; 16];
+    let places = least(starts.len() / 2, 16);
+    let answer = any_plan(file, budget, &mut own[..places]);
+    if answer.number == 0 {
+        let request = read(file);
+        let jobs = least(request.recorder.jobs.count, places);
+        put_starts(&own[..jobs], starts);
+    }
+    answer
+}
+
+#[no_mangle]
+pub extern "C" fn door_possible(
+    file: &[u8],
+    budget: u32,
+    starts: &mut [u8],
+    result: &mut [u8],
+) -> u8 {
+    if result.len() < RESULT {
+        return SHUT;
+    }
+    tell(possible_bytes(file, budget, starts), result)
+}
