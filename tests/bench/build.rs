@@ -1,4 +1,4 @@
-//! Says where the proved search is, if it is asked for.
+//! Says where the proved library and its doors are, if they are asked for.
 
 use std::env;
 use std::path::Path;
@@ -10,12 +10,14 @@ fn main() {
     }
     let here = env::var("CARGO_MANIFEST_DIR").expect("cargo names the folder of the manifest");
     let folder = Path::new(&here).join("../../target/lib");
-    let library = folder.join("libfloebucket.a");
-    assert!(
-        library.exists(),
-        "there is no target/lib/libfloebucket.a: run ./bench at the top, which builds it first"
-    );
-    println!("cargo:rerun-if-changed={}", library.display());
     println!("cargo:rustc-link-search=native={}", folder.display());
-    println!("cargo:rustc-link-lib=static=floebucket");
+    for name in ["floebucket", "doors"] {
+        let library = folder.join(format!("lib{name}.a"));
+        assert!(
+            library.exists(),
+            "there is no target/lib/lib{name}.a: run ./bench at the top, which builds it first"
+        );
+        println!("cargo:rerun-if-changed={}", library.display());
+        println!("cargo:rustc-link-lib=static={name}");
+    }
 }

@@ -1,5 +1,6 @@
 //! Plans requests of some million vertices with three plain searches in Rust and, if it is linked, with
 //! the proved search, and prints vertices per second of each and the proved one's ratio to each plain one.
+//! Then how long it takes to say whether there is any plan, beside the search for the cheapest.
 //!
 //! `./bench` at the top builds the proved search and runs all; `cargo run --release` here runs the
 //! plain searches alone.
@@ -124,8 +125,38 @@ fn bench() -> Result<(), String> {
     Ok(())
 }
 
+/// The best time of some rounds, and what came out.
+#[cfg(feature = "proved")]
+fn timed(answer: fn(&[u8], u32) -> Outcome, file: &[u8]) -> (Outcome, Duration) {
+    let round = |_| {
+        let begin = Instant::now();
+        (answer(file, BUDGET), begin.elapsed())
+    };
+    (0..ROUNDS)
+        .map(round)
+        .min_by_key(|(_, time)| *time)
+        .expect("there are rounds")
+}
+
+/// Whether there is any plan: vertices and time to the answer, beside the proved search's.
+#[cfg(feature = "proved")]
+fn answers() {
+    for request in requests::all().into_iter().chain([requests::none()]) {
+        let (any, soon) = timed(proved::possible, &request.file);
+        let (_, late) = timed(proved::search, &request.file);
+        let speed = millions(any.count.into(), soon);
+        println!(
+            "{:30} {:>11} vertices  any plan: answer {:2} in {soon:>10.1?}  {speed:6.1} M/s  search {late:>8.1?}",
+            request.name, any.count, any.number
+        );
+    }
+}
+
+#[cfg(not(feature = "proved"))]
+fn answers() {}
+
 fn main() -> ExitCode {
-    match bench() {
+    match bench().map(|()| answers()) {
         Ok(()) => ExitCode::SUCCESS,
         Err(reason) => {
             println!("bench: FAILED: {reason}");

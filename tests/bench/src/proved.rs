@@ -1,10 +1,15 @@
-//! The proved search, from the library that `./library` builds.
+//! The proved search, and the proved word whether there is any plan, from the libraries that
+//! `./library` builds.
 
 use crate::Outcome;
 
 /// One start time, of two bytes, for each of at most 16 jobs.
 const STARTS: usize = 32;
 const RESULT: usize = 11;
+
+/// As both are declared: the file, the budget, the start times and the result buffer.
+type Call =
+    unsafe extern "C" fn(*const u8, usize, u32, *mut u8, usize, *mut u8, usize) -> u8;
 
 extern "C" {
     fn floe_search(
@@ -16,14 +21,32 @@ extern "C" {
         result: *mut u8,
         result_len: usize,
     ) -> u8;
+
+    fn door_possible(
+        file: *const u8,
+        file_len: usize,
+        budget: u32,
+        starts: *mut u8,
+        starts_len: usize,
+        result: *mut u8,
+        result_len: usize,
+    ) -> u8;
 }
 
 pub fn search(file: &[u8], budget: u32) -> Outcome {
+    called(floe_search, file, budget)
+}
+
+pub fn possible(file: &[u8], budget: u32) -> Outcome {
+    called(door_possible, file, budget)
+}
+
+fn called(call: Call, file: &[u8], budget: u32) -> Outcome {
     let (mut starts, mut result) = ([0u8; STARTS], [0u8; RESULT]);
     // SAFETY: each pointer comes from a live buffer and goes with its own length; no two of them
     // overlap, and the library keeps none.
     let number = unsafe {
-        floe_search(
+        call(
             file.as_ptr(),
             file.len(),
             budget,

@@ -28,7 +28,8 @@ fn many_starts() -> Tables {
     }
 }
 
-/// In the manner of document 001's Table 6: two tasks with a device each.
+/// In the manner of the pruning paper's Table 6 (docs/RULES.md names it): two tasks with a device
+/// each.
 fn two_tasks(second: u16, running: u16) -> Tables {
     Tables {
         devices: vec![device_a(); 2],
@@ -73,6 +74,23 @@ fn many_orders() -> Tables {
         devices: vec![device_a(); 2],
         tasks: Vec::new(),
         jobs: (0..10).map(|n| job(0, 12, 1, 1 + n % 2)).collect(),
+    }
+}
+
+/// Two jobs that want the same ticks at the end: there is no plan, which only a visit of every order
+/// and start of the other four shows.
+pub fn none() -> Named {
+    let mut jobs = vec![job(0, 40, 1, 0b01); 4];
+    jobs.extend(vec![job(42, 44, 2, 0b10); 2]);
+    let tables = Tables {
+        horizon: 44,
+        devices: vec![device_a(); 2],
+        tasks: Vec::new(),
+        jobs,
+    };
+    Named {
+        name: "6 jobs, no plan",
+        file: tables.bytes(),
     }
 }
 
