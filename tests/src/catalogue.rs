@@ -94,7 +94,8 @@ pub fn draw(random: &mut Random) -> Call {
         };
         part.extend(record);
     }
-    parts.sort_by_key(|part| part[NUMBER - 1] ^ part[0] ^ part[1]);
+    // Not in the order in which they are wanted.
+    parts.sort();
     spoil_parts(random, &mut parts);
     spoil_wanted(random, &mut wanted, &parts);
     let mut call = Call {

@@ -2,6 +2,7 @@
 //!
 //! Bytes changed by chance rarely hit a number like 8 or 13, and hardly ever hit it by one.
 
+use crate::damage;
 use crate::random::Random;
 use crate::tables::{job, task, DeviceRecord, JobRecord, Tables, TaskRecord};
 use crate::valid;
@@ -32,6 +33,20 @@ pub fn put(random: &mut Random, tables: &mut Tables, number: u8) {
         12 => too_many_jobs(random, tables),
         13 => bad_job(random, tables),
         _ => unreachable!("no fault of a table has number {number}"),
+    }
+}
+
+/// The file of the tables, with a fault that is put there or damaged without knowing how.
+pub fn damaged(random: &mut Random, mut tables: Tables) -> Vec<u8> {
+    match random.within(1, 6) {
+        1 => damage::change(random, tables.bytes()),
+        2 => damage::cut_short(random, tables.bytes()),
+        3 => damage::add(random, tables.bytes()),
+        _ => {
+            let number = random.pick(&NUMBERS);
+            put(random, &mut tables, number);
+            tables.bytes()
+        }
     }
 }
 

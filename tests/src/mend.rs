@@ -7,8 +7,7 @@
 //! follows the rule by which a job finds its place. Requests too large for that are held to `plain`,
 //! which does follow it, and which the small ones hold to the listing.
 
-use crate::damage::{add, change, cut_short};
-use crate::faults;
+use crate::faults::damaged;
 use crate::random::Random;
 use crate::request::{read, Job, Request};
 use crate::tables::{job, Tables};
@@ -273,7 +272,10 @@ pub fn draw(random: &mut Random) -> Call {
         3 => task_list(random).bytes(),
         4 => job_list(random).bytes(),
         5 => tight_list(random).bytes(),
-        6 => damaged(random),
+        6 => {
+            let tables = small_list(random);
+            damaged(random, tables)
+        }
         _ => small_list(random).bytes(),
     };
     let request = read(&file).ok();
@@ -292,21 +294,6 @@ pub fn draw(random: &mut Random) -> Call {
         given,
         starts,
         moved,
-    }
-}
-
-/// A file with a fault that was put there, or damaged without knowing how.
-fn damaged(random: &mut Random) -> Vec<u8> {
-    let mut tables = small_list(random);
-    match random.within(1, 6) {
-        1 => change(random, tables.bytes()),
-        2 => cut_short(random, tables.bytes()),
-        3 => add(random, tables.bytes()),
-        _ => {
-            let number = random.pick(&faults::NUMBERS);
-            faults::put(random, &mut tables, number);
-            tables.bytes()
-        }
     }
 }
 

@@ -6,8 +6,7 @@
 //! nothing is visited: the vertices that stand at or before the schedule, as sequences compare.
 //! Requests too large for that are held to `visited`, which does visit; the small ones hold it to both.
 
-use crate::damage::{add, change, cut_short};
-use crate::faults;
+use crate::faults::damaged;
 use crate::listing;
 use crate::random::Random;
 use crate::request::{read, Job, Request};
@@ -235,23 +234,11 @@ fn draw(random: &mut Random) -> Vec<u8> {
         4 => loose_list(random).bytes(),
         5 => hopeless(random).bytes(),
         6 | 7 => tight_list(random).bytes(),
-        8 | 9 => damaged(random),
-        _ => job_list(random).bytes(),
-    }
-}
-
-/// A file with a fault that was put there, or damaged without knowing how.
-fn damaged(random: &mut Random) -> Vec<u8> {
-    let mut tables = job_list(random);
-    match random.within(1, 6) {
-        1 => change(random, tables.bytes()),
-        2 => cut_short(random, tables.bytes()),
-        3 => add(random, tables.bytes()),
-        _ => {
-            let number = random.pick(&faults::NUMBERS);
-            faults::put(random, &mut tables, number);
-            tables.bytes()
+        8 | 9 => {
+            let tables = job_list(random);
+            damaged(random, tables)
         }
+        _ => job_list(random).bytes(),
     }
 }
 

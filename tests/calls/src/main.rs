@@ -7,6 +7,7 @@ mod figures;
 mod library;
 mod mend;
 mod possible;
+mod tails;
 mod writing;
 
 use expected::{Buffers, Outcome, Searched, RESULT};

@@ -2,6 +2,7 @@
 
 use crate::expected::{RESULT, SHUT};
 use crate::library;
+use crate::tails::{hand_back, is_blank, longer, only, BLANK};
 use outside::mend::{by_bytes, draw, run};
 use outside::random::Random;
 use std::collections::BTreeMap;
@@ -10,22 +11,12 @@ const SEED: u64 = 18;
 const CALLS: u64 = 20_000;
 const SHUT_CALLS: u64 = 1_000;
 
-/// What lies in a buffer where nothing may be written.
-const BLANK: u8 = 0xA5;
+/// Those of a file, of the lists, and of a job that is late.
+const NUMBERS: [u8; 17] = [0, 1, 2, 3, 4, 5, 6, 7, 8, 9, 10, 11, 12, 13, 14, 15, 17];
 
 /// The numbers met and how often, 255 among them; or the first call that is not as it must be.
 pub fn test() -> Result<BTreeMap<u8, u64>, String> {
     let found = run(SEED, CALLS, by_bytes(with_tails))?;
-    let mut met = BTreeMap::from([(SHUT, SHUT_CALLS)]);
-    for (number, count) in found.numbers.into_iter().enumerate() {
-        let given = number <= 15 || number == 17;
-        if given != (count > 0) {
-            return Err(format!("door_mend answered {number} in {count} calls"));
-        }
-        if given {
-            met.insert(number as u8, count);
-        }
-    }
     if found.moved < 1_000 || found.unmoved < 100 {
         return Err(format!("too few schedules are mended: {found:?}"));
     }
@@ -37,7 +28,7 @@ pub fn test() -> Result<BTreeMap<u8, u64>, String> {
             return Err(format!("not found: a mending with {name}"));
         }
     }
-    Ok(met)
+    only("door_mend", found.numbers, &NUMBERS, SHUT_CALLS)
 }
 
 /// The door on buffers that are longer, by too little for a place more or by some bytes: these stay.
@@ -50,7 +41,6 @@ fn with_tails(
     result: &mut [u8],
 ) -> u8 {
     let tail = file.iter().fold(0, |sum, &byte| sum + usize::from(byte));
-    let longer = |bytes: &[u8], by: usize| [bytes, &vec![BLANK; by]].concat();
     let mut long_out = longer(out, tail % 2);
     let mut long_moved = longer(moved, tail / 2 % 2);
     let mut long_result = vec![BLANK; RESULT + tail / 4 % 3];
@@ -61,14 +51,9 @@ fn with_tails(
         &mut long_moved,
         &mut long_result,
     );
-    for (front, whole) in [(out, long_out), (moved, long_moved), (result, long_result)] {
-        let (written, kept) = whole.split_at(front.len());
-        assert!(
-            kept.iter().all(|&byte| byte == BLANK),
-            "door_mend on file {file:02X?} writes past a list"
-        );
-        front.copy_from_slice(written);
-    }
+    hand_back(out, &long_out);
+    hand_back(moved, &long_moved);
+    hand_back(result, &long_result);
     number
 }
 
@@ -91,9 +76,7 @@ fn shut(random: &mut Random) -> Result<(), String> {
     }
     let (mut out, mut moved) = (vec![BLANK; 40], vec![BLANK; 100]);
     let number = library::mend(&call.file, &given, &mut out, &mut moved, &mut result);
-    let kept = [&out, &moved, &result]
-        .iter()
-        .all(|bytes| bytes.iter().all(|&byte| byte == BLANK));
+    let kept = is_blank(&out) && is_blank(&moved) && is_blank(&result);
     if number == SHUT && kept {
         return Ok(());
     }

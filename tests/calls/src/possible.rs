@@ -2,6 +2,7 @@
 
 use crate::expected::{RESULT, SHUT};
 use crate::library;
+use crate::tails::{hand_back, is_blank, longer, only, BLANK};
 use outside::cases;
 use outside::possible::{by_bytes, run};
 use std::collections::BTreeMap;
@@ -10,22 +11,12 @@ const SEED: u64 = 17;
 const REQUESTS: u64 = 2_000;
 const SHUT_CALLS: u64 = 500;
 
-/// What lies in a buffer where nothing may be written.
-const BLANK: u8 = 0xA5;
+/// Those of a file, of the lent list, and of the visit.
+const NUMBERS: [u8; 17] = [0, 1, 2, 3, 4, 5, 6, 7, 8, 9, 10, 11, 12, 13, 15, 19, 20];
 
 /// The numbers met and how often, 255 among them; or the first call that is not as it must be.
 pub fn test() -> Result<BTreeMap<u8, u64>, String> {
     let found = run(SEED, REQUESTS, by_bytes(with_tails))?;
-    let mut met = BTreeMap::from([(SHUT, SHUT_CALLS)]);
-    for (number, count) in found.numbers.into_iter().enumerate() {
-        let given = number <= 13 || [15, 19, 20].contains(&number);
-        if given != (count > 0) {
-            return Err(format!("door_possible answered {number} in {count} calls"));
-        }
-        if given {
-            met.insert(number as u8, count);
-        }
-    }
     for number in 0..SHUT_CALLS {
         shut(&cases::draw(SEED, number).file, number as usize % RESULT)?;
     }
@@ -34,24 +25,18 @@ pub fn test() -> Result<BTreeMap<u8, u64>, String> {
             return Err(format!("not found: a search for any plan with {name}"));
         }
     }
-    Ok(met)
+    only("door_possible", found.numbers, &NUMBERS, SHUT_CALLS)
 }
 
 /// The door on buffers that are longer by some bytes, which stay, and on a result buffer that is
 /// full before the call, so that each of the eleven bytes has to be written.
 fn with_tails(file: &[u8], budget: u32, starts: &mut [u8], result: &mut [u8]) -> u8 {
     let tail = file.iter().fold(0, |sum, &byte| sum + usize::from(byte));
-    let mut long_starts = [&starts[..], &vec![BLANK; tail % 2]].concat();
+    let mut long_starts = longer(starts, tail % 2);
     let mut long_result = vec![BLANK; RESULT + tail / 2 % 3];
     let number = library::possible(file, budget, &mut long_starts, &mut long_result);
-    for (front, whole) in [(starts, long_starts), (result, long_result)] {
-        let (written, kept) = whole.split_at(front.len());
-        assert!(
-            kept.iter().all(|&byte| byte == BLANK),
-            "door_possible on file {file:02X?} writes past a buffer"
-        );
-        front.copy_from_slice(written);
-    }
+    hand_back(starts, &long_starts);
+    hand_back(result, &long_result);
     number
 }
 
@@ -59,8 +44,7 @@ fn with_tails(file: &[u8], budget: u32, starts: &mut [u8], result: &mut [u8]) ->
 fn shut(file: &[u8], room: usize) -> Result<(), String> {
     let (mut starts, mut result) = (vec![BLANK; 40], vec![BLANK; room]);
     let number = library::possible(file, 1_000, &mut starts, &mut result);
-    let is_kept = |bytes: &[u8]| bytes.iter().all(|&byte| byte == BLANK);
-    if number == SHUT && is_kept(&starts) && is_kept(&result) {
+    if number == SHUT && is_blank(&starts) && is_blank(&result) {
         return Ok(());
     }
     Err(format!(
