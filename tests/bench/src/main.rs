@@ -141,7 +141,8 @@ fn timed(answer: fn(&[u8], u32) -> Outcome, file: &[u8]) -> (Outcome, Duration) 
 /// Whether there is any plan: vertices and time to the answer, beside the proved search's.
 #[cfg(feature = "proved")]
 fn answers() {
-    for request in requests::all().into_iter().chain([requests::none()]) {
+    let others = [requests::long(), requests::none()];
+    for request in requests::all().into_iter().chain(others) {
         let (any, soon) = timed(proved::possible, &request.file);
         let (_, late) = timed(proved::search, &request.file);
         let speed = millions(any.count.into(), soon);

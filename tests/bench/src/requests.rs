@@ -55,15 +55,15 @@ fn sixteen_jobs() -> Tables {
 }
 
 /// The most sums over devices.
-fn eight_devices() -> Tables {
+fn eight_devices(horizon: u16) -> Tables {
     let sets = [0x81, 0x42, 0x24, 0x18, 0x11, 0x88];
     Tables {
-        horizon: 16,
+        horizon,
         devices: (0..8u8)
             .map(|k| device(1 + k % 2, 9 + u16::from(k), 1, 4))
             .collect(),
         tasks: Vec::new(),
-        jobs: sets.map(|set| job(0, 16, 1, set)).to_vec(),
+        jobs: sets.map(|set| job(0, horizon, 1, set)).to_vec(),
     }
 }
 
@@ -74,6 +74,14 @@ fn many_orders() -> Tables {
         devices: vec![device_a(); 2],
         tasks: Vec::new(),
         jobs: (0..10).map(|n| job(0, 12, 1, 1 + n % 2)).collect(),
+    }
+}
+
+/// On which the search for the cheapest takes seconds.
+pub fn long() -> Named {
+    Named {
+        name: "6 jobs, 8 devices, 26 ticks",
+        file: eight_devices(26).bytes(),
     }
 }
 
@@ -104,7 +112,7 @@ pub fn all() -> Vec<Named> {
         named("12 jobs of tasks 5 and 7", two_tasks(7, 2)),
         named("13 jobs of tasks 5 and 8", two_tasks(8, 3)),
         named("16 jobs, 2 devices", sixteen_jobs()),
-        named("6 jobs, 8 devices", eight_devices()),
+        named("6 jobs, 8 devices", eight_devices(16)),
         named("10 jobs, 2 devices, any order", many_orders()),
     ]
 }
