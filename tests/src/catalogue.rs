@@ -298,7 +298,7 @@ mod tests {
         })));
         let without_zeros = |number: &[u8]| {
             let zeros = number.iter().take_while(|&&byte| byte == b'0').count();
-            number[zeros..].to_vec()
+            number[zeros..].trim_ascii_end().to_vec()
         };
         assert!(is_found(by(Rules {
             key: without_zeros,
