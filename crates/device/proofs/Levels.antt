@@ -1,82 +1,28 @@
--- A device with any number of sleep levels, with times and powers of its own for going down and coming up. Level 0 is working. The device of specs/Row is
--- the one with a single sleep (First); `theorem-levels` is used when devices with levels and moves of their own come.
+-- The device of specs/Row, with any number of sleep levels and with times and powers of its own for going down and coming up: every filling of a gap is a walk over
+-- the levels, so that the gap's row is the best filling.
 -- Assumes nothing.
 use mathlib.Core.Path.{_≡_, refl, sym, ap, subst}
-use mathlib.Core.Bool.{Bool}
 use mathlib.Core.List.{List, [], _∷_, _++_, append-nil, append-assoc}
 use Prim.Native.Nat.{ℕ, zero, suc, _+_, _-_, _*_, _≤_, _<_}
 use mathlib.Core.Logic.{⊎-elim}
-use native.Mathlib.Nat.{mul-zero, sub-zero, add-suc, eq-or-lt-of-le}
-use native.Mathlib.Numerals.{add-one}
+use native.Mathlib.Nat.{mul-zero, sub-zero, eq-or-lt-of-le, mul-le-mul-left}
 use native.Mathlib.Omega.{arith}
 use lib.ListN.{replicate, replicate-append-replicate}
-use Rattle.base.specs.Sums.{total}
-use Rattle.device.specs.Row.{rowFrom}
-use Rattle.device.proofs.Rows.{Machine, Run, stop, tick, Legal, Works, Best, Beats, row-legal, row-beats}
+use Rattle.device.specs.declared.Device.{Device}
+use Rattle.device.specs.Row.{powerAt, Sound, Letter, at, D, U, State, level, down, up, Rests, rests, fallen, risen, Step, stays, shuts, wakes, falls, rises, resumes, Ends, at-work, woken, power, moving, depth, gapRow}
+use Rattle.device.specs.Row as R
+use Rattle.device.proofs.Rows.{Machine, Run, stop, tick, Works, Best}
 use Rattle.device.proofs.Walk.{Moves, Walk, done, stay, fall, rise, trip, Cheaper}
-use Rattle.device.proofs.Gap.{Room, Walked, Counts, choose, choice, best, trip-low, total-trip}
+use Rattle.device.proofs.Gap.{Room, Walked, Choice, best}
+use Rattle.device.proofs.Chosen.{chosen, trip-energy, trip-moved, power-falls}
 
--- W is `at 0`; `at k` is the letter of level k.
-pub data Letter : Type 0 where
-  at : ℕ → Letter
-  D U : Letter
-
--- At rest on a level; or on the way down or up to it, with the ticks left.
-pub data State : Type 0 where
-  level : ℕ → State
-  down : ℕ → ℕ → State
-  up : ℕ → ℕ → State
-
-pub record Ladder : Type 0 where
-  pub deepest : ℕ
-  pub shut : ℕ
-  pub wake : ℕ
-  pub power-down : ℕ
-  pub power-up : ℕ
-  pub power-at : ℕ → ℕ
-
-unfoldable pub power : Ladder → Letter → ℕ
-power d (at k) = d .power-at k
-power d D = d .power-down
-power d U = d .power-up
-
-unfoldable pub downs : Letter → ℕ
-downs (at k) = 0
-downs D = 1
-downs U = 0
-
--- The device has come to level k, and may stay there or go on. (On coming up to level 0 it works, by `resumes` or by the row's end.)
-pub data Rests : State → ℕ → Type 0 where
-  rests : {k : ℕ} → Rests (level k) k
-  fallen : {k : ℕ} → Rests (down (suc k) 0) (suc k)
-  risen : {k : ℕ} → Rests (up (suc k) 0) (suc k)
-
-pub data Step (d : Ladder) : State → Letter → State → Type 0 where
-  stays : {s : State} {k : ℕ} → Rests s k → k ≤ d .deepest → Step d s (at k) (level k)
-  shuts : {s : State} {k n : ℕ} → Rests s k → k < d .deepest → suc n ≡ d .shut → Step d s D (down (suc k) n)
-  wakes : {s : State} {k n : ℕ} → Rests s (suc k) → suc n ≡ d .wake → Step d s U (up k n)
-  falls : {k n : ℕ} → Step d (down k (suc n)) D (down k n)
-  rises : {k n : ℕ} → Step d (up k (suc n)) U (up k n)
-  resumes : Step d (up 0 0) (at 0) (level 0)
-
-pub data Ends : State → Type 0 where
-  at-work : Ends (level 0)
-  woken : Ends (up 0 0)
-
-abbrev pub machine : Ladder → Machine Letter
+abbrev pub machine : Device → Machine Letter
 machine d = record { State = State; start = level 0; ends = Ends; work = at 0; step = Step d }
 
-abbrev pub moves : Ladder → Moves Letter
-moves d = record { deepest = d .deepest; rest = at; down = D; up = U; shut = d .shut; wake = d .wake }
+abbrev pub moves : Device → Moves Letter
+moves d = record { deepest = d .levels; rest = at; down = D; up = U; shut = d .shut; wake = d .wake }
 
--- The best filling of a gap: the trip to the level of least cost, the shallower of two.
-abbrev pub fill : Ladder → ℕ → List Letter
-fill d g = trip (moves d) (choose (moves d) (power d) (d .deepest) g) g
-
-abbrev pub row : Ladder → List Bool → List Letter
-row d u = rowFrom (at 0) (fill d) 0 u
-
-module _ (d : Ladder) where
+module _ (d : Device) where
   pub machine-works : Works (machine d)
   machine-works = record { returns = ret; resumes = res }
     where
@@ -132,7 +78,7 @@ module _ (d : Ladder) where
   run-rises k (suc n) q r = tick rises (run-rises k n q r)
 
   module _ (shut-some : 1 ≤ d .shut) (wake-some : 1 ≤ d .wake) where
-    down-block : {s : State} {k : ℕ} (q : List Letter) → Rests s k → k < d .deepest → Run (machine d) (down (suc k) 0) q
+    down-block : {s : State} {k : ℕ} (q : List Letter) → Rests s k → k < d .levels → Run (machine d) (down (suc k) 0) q
         → Run (machine d) s (replicate (d .shut) D ++ q)
     down-block {s} {k} q h l r =
         let n = d .shut - 1 in
@@ -149,11 +95,11 @@ module _ (d : Ladder) where
     run-ups zero = rw mul-zero (stop woken)
     run-ups (suc k) = rw (many U (d .wake) k) (up-block (replicate (d .wake * k) U) risen (run-ups k))
 
-    run-stay : {s : State} (m c : ℕ) → suc m ≤ d .deepest → Rests s (suc m) → Run (machine d) s (replicate c (at (suc m)) ++ replicate (d .wake * suc m) U)
+    run-stay : {s : State} (m c : ℕ) → suc m ≤ d .levels → Rests s (suc m) → Run (machine d) s (replicate c (at (suc m)) ++ replicate (d .wake * suc m) U)
     run-stay m zero l h = rw (many U (d .wake) m) (up-block (replicate (d .wake * m) U) h (run-ups m))
     run-stay m (suc c) l h = tick (stays h l) (run-stay m c l rests)
 
-    run-trip : {s : State} (j k c m : ℕ) → Rests s k → k + j ≡ suc m → suc m ≤ d .deepest
+    run-trip : {s : State} (j k c m : ℕ) → Rests s k → k + j ≡ suc m → suc m ≤ d .levels
         → Run (machine d) s (replicate (d .shut * j) D ++ (replicate c (at (suc m)) ++ replicate (d .wake * suc m) U))
     run-trip {s} zero k c m h e l = rw mul-zero (run-stay m c l (subst (Rests s) (omega arith) h))
     run-trip {s} (suc j) k c m h e l =
@@ -165,7 +111,7 @@ module _ (d : Ladder) where
     run-work zero = stop at-work
     run-work (suc g) = tick (stays {k = 0} rests (omega arith)) (run-work g)
 
-    trips : (m g : ℕ) → m ≤ d .deepest → Room (moves d) m g → Run (machine d) (level 0) (trip (moves d) m g)
+    trips : (m g : ℕ) → m ≤ d .levels → Room (moves d) m g → Run (machine d) (level 0) (trip (moves d) m g)
     unfolding trip
     trips zero g h r = simp (mul-zero, sub-zero, append-nil) (run-work g)
     trips (suc m) g h r = run-trip (suc m) 0 (g - (d .shut * suc m + d .wake * suc m)) m rests (omega arith) h
@@ -173,67 +119,42 @@ module _ (d : Ladder) where
     pub walked : Walked (moves d) (machine d)
     walked = record { sound = λ p run. run-walk p run; trips = trips }
 
-  -- What is asked of the figures: moves take time, the powers fall level by level, and both moves and work are above the first level's.
-  pub record Sleeps : Type 0 where
-    pub shut-some : 1 ≤ d .shut
-    pub wake-some : 1 ≤ d .wake
-    pub below : (k : ℕ) → k < d .deepest → d .power-at (suc k) < d .power-at k
-    pub below-down : d .power-at 1 < d .power-down
-    pub below-up : d .power-at 1 < d .power-up
-
-  module _ (Z : Sleeps) where
-    -- i and the levels j further down
-    fall-far : (i j : ℕ) → i + suc j ≤ d .deepest → d .power-at (i + suc j) < d .power-at i
-    fall-far i zero h = rw add-one (Z .below i (omega arith))
-    fall-far i (suc j) h =
-        let a = fall-far i j (omega arith) in
-        let b = Z .below (i + suc j) (omega arith) in
-        rw add-suc (omega arith)
-
-    pub power-falls : (i j : ℕ) → i < j → j ≤ d .deepest → d .power-at j < d .power-at i
-    power-falls i j l h =
-        let e : i + suc (j - suc i) ≡ j = omega arith in
-        rw e at (fall-far i (j - suc i) (omega arith))
-
-    first-most : (m : ℕ) → 1 ≤ m → m ≤ d .deepest → d .power-at m ≤ d .power-at 1
+  module _ (Z : Sound d) where
+    first-most : (m : ℕ) → 1 ≤ m → m ≤ d .levels → powerAt d m ≤ powerAt d 1
     first-most zero l h = absurd (omega arith)
     first-most (suc zero) l h = omega arith
-    first-most (suc (suc m)) l h = omega (arith, power-falls 1 (suc (suc m)) (omega arith) h)
+    first-most (suc (suc m)) l h = omega (arith, power-falls d Z 1 (suc (suc m)) (omega arith) h)
 
     pub cheaper : Cheaper (moves d) (power d)
-    unfolding power
     cheaper = record {
-      falls = power-falls;
-      under-down = λ m l h. omega (arith, first-most m l h, Z .below-down);
-      under-up = λ m l h. omega (arith, first-most m l h, Z .below-up);
-      takes-time = Z .shut-some;
+      falls = power-falls d Z;
+      under-down = λ m l h. omega (arith, first-most m l h, Z .shuts-dearer);
+      under-up = λ m l h. omega (arith, first-most m l h, Z .wakes-dearer);
+      takes-time = Z .shuts;
     }
 
-    counts : Counts (moves d) (power d) (Z .shut-some) downs
-    unfolding downs
-    counts = record { at-rest = λ m. refl; at-up = refl; at-down = refl }
+    -- The level that specs/Row chooses is the best one. A deeper one moves in more ticks.
+    same-trip : (m g : ℕ) → trip (moves d) m g ≡ R.trip d m g
+    unfolding trip R.trip
+    same-trip m g = refl
 
-    pub best-fill : Best (machine d) (power d) downs (fill d)
-    best-fill =
-        best (moves d) (power d) downs (machine d) (walked (Z .shut-some) (Z .wake-some)) cheaper (choose (moves d) (power d) (d .deepest))
-        (choice (moves d) (power d) (Z .shut-some) downs counts)
+    more-ticks : (m k : ℕ) → d .shut * k + d .wake * k ≤ d .shut * m + d .wake * m → m ≤ k → k ≡ m
+    more-ticks m k h l = ⊎-elim sym (λ lt. absurd (omega (arith, mul-le-mul-left (d .shut) lt, mul-le-mul-left (d .wake) lt, Z .shuts))) (eq-or-lt-of-le l)
 
-    -- THEOREM. For every pattern of use the row is legal, and no legal row has less energy; of those with the same energy none has fewer ticks of
-    -- going down, and one that has no more of them is that row.
-    pub theorem-levels : (u : List Bool) → Legal (machine d) (level 0) u (row d u)
-        × ((r : List Letter) → Legal (machine d) (level 0) u r → Beats (power d) downs (row d u) r)
-    theorem-levels u =
-        (row-legal (machine d) (power d) downs (fill d) machine-works best-fill u, λ r l. row-beats (machine d) (power d) downs (fill d) machine-works best-fill u r l)
+    choice : Choice (moves d) (power d) moving (depth d (d .levels))
+    choice = record {
+      within = λ g. chosen d (d .levels) g .within;
+      fits = λ g. chosen d (d .levels) g .room;
+      beats = λ g k h r.
+          let m = depth d (d .levels) g in
+          let c = chosen d (d .levels) g in
+          rw (same-trip m g, same-trip k g, trip-energy d m g, trip-energy d k g, trip-moved d m g, trip-moved d k g) (
+            c .least k h r,
+            λ e. omega (arith, mul-le-mul-left (d .shut) (c .shallower k h r e), mul-le-mul-left (d .wake) (c .shallower k h r e)),
+            λ e v. more-ticks m k v (c .shallower k h r e),
+          );
+    }
 
-    -- No tick of a gap costs less than on the deepest level.
-    pub low-level : (m : ℕ) → m ≤ d .deepest → d .power-at (d .deepest) ≤ d .power-at m
-    low-level m h = ⊎-elim (λ e. omega (arith, ap (d .power-at) e)) (λ l. omega (arith, power-falls m (d .deepest) l (omega arith))) (eq-or-lt-of-le h)
-
-    pub fill-low : 1 ≤ d .deepest → (g : ℕ) → d .power-at (d .deepest) * g ≤ total (power d) (fill d g)
-    unfolding power
-    fill-low some g =
-        let k = choose (moves d) (power d) (d .deepest) g in
-        let c = choice (moves d) (power d) (Z .shut-some) downs counts in
-        rw (total-trip (moves d) (power d) (Z .shut-some) k g)
-        (trip-low (moves d) (power d) (d .power-at (d .deepest)) k g
-        (omega (arith, low-level 1 some, Z .below-down)) (omega (arith, low-level 1 some, Z .below-up)) (low-level k (c .within g)) (c .fits g))
+    pub best-gap : Best (machine d) (power d) moving (gapRow d)
+    unfolding trip R.trip
+    best-gap = best (moves d) (power d) moving (machine d) (walked (Z .shuts) (Z .wakes)) cheaper (depth d (d .levels)) choice

@@ -2,12 +2,12 @@ pub mod Pattern
 pub mod Prefix
 pub mod Walk
 pub mod Rows
+pub mod Chosen
 pub mod Gap
 pub mod Levels
 pub mod Round
-pub mod Depths
-pub mod First
-pub mod Literal
 pub mod Least
+pub mod Rules
+pub mod OneSleep
 pub mod Spacing
 pub mod Bytes

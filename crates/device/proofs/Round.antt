@@ -1,4 +1,4 @@
--- Used when the round loses its seam; until then only Depths cites it. A row without a seam is one that is legal repeated for ever. With a use in it, it is the
+-- Used when the round loses its seam; until then nothing cites it. A row without a seam is one that is legal repeated for ever. With a use in it, it is the
 -- row of the pattern that begins after that use, turned back.
 -- Assumes nothing.
 use mathlib.Core.Path.{_≡_, refl, sym, ap, _∙_, subst}

@@ -99,14 +99,14 @@ module _ (u : Uses) (h : ℕ) (ok : Spaced u h) where
   -- Up to `at`, where the uses before use i have ended, and on from there.
   module _ (d : Device) where
     pub row-use : (i at : ℕ) → i < u .count → at ≡ after u i
-        → rowOf d (pattern (usedIn u) 0 (end u i)) ≡ rowOf d (pattern (usedIn u) 0 at) ++ (gapRow (d .t) (begin u i - at) ++ replicate (end u i - begin u i) W)
+        → rowOf d (pattern (usedIn u) 0 (end u i)) ≡ rowOf d (pattern (usedIn u) 0 at) ++ (gapRow d (begin u i - at) ++ replicate (end u i - begin u i) W)
     row-use i at l e =
         let s = ok .lasting i l in
         let c : suc (end u i - begin u i - 1) ≡ end u i - begin u i = omega arith in
         rw e (ap (rowOf d) (pattern-use i l) ∙ row-place d (ended-after i (omega arith)) (begin u i - after u i) (end u i - begin u i - 1)
-        ∙ ap (λ (n : ℕ). rowOf d (pattern (usedIn u) 0 (after u i)) ++ (gapRow (d .t) (begin u i - after u i) ++ replicate n W)) c)
+        ∙ ap (λ (n : ℕ). rowOf d (pattern (usedIn u) 0 (after u i)) ++ (gapRow d (begin u i - after u i) ++ replicate n W)) c)
 
-    pub row-last : (at : ℕ) → at ≡ after u (u .count) → rowOf d (pattern (usedIn u) 0 h) ≡ rowOf d (pattern (usedIn u) 0 at) ++ gapRow (d .t) (h - at)
+    pub row-last : (at : ℕ) → at ≡ after u (u .count) → rowOf d (pattern (usedIn u) 0 h) ≡ rowOf d (pattern (usedIn u) 0 at) ++ gapRow d (h - at)
     row-last at e = rw (e, pattern-last) (row-close d (ended-after (u .count) (omega arith)) (h - after u (u .count)))
 
     pub energy-use : (i at : ℕ) → i < u .count → at ≡ after u i

@@ -1,100 +1,150 @@
--- The rows of a device (docs/RULES.md, rules 30 to 38): the letters, the legal rows, their energy, the row of least energy, and the rule for gaps.
--- The declared `Device` has the fields t, pw, ps and p0: T, Pw, Ps and P0 of rule 3.
+-- The rows of a device (docs/RULES.md, rules 30 to 38): the letters, the legal rows, their energy, the row given, and the rule for gaps.
+-- The declared `Device` is general. `shut` and `wake` are the ticks of a move down and of one up, by one level; `pd` and `pu` are their powers; `pw` is the power
+-- at work, and `powers` has those of the `levels` sleep levels, the shallowest first. A device of rule 3 has T and P0 for both moves and one level, of power Ps.
 -- Assumes nothing.
 use mathlib.Core.Path.{_≡_}
-use mathlib.Core.Bool.{Bool, true, false, cond}
+use mathlib.Core.Bool.{Bool, true, false, cond, _&&_}
 use mathlib.Core.List.{List, [], _∷_, _++_}
-use Prim.Native.Nat.{ℕ, zero, suc, _+_, _-_, _≤_, _<_}
-use lib.Dec.{leb}
-use lib.ListN.{replicate}
+use Prim.Native.Nat.{ℕ, zero, suc, _+_, _-_, _*_, _≤_, _<_}
+use lib.Dec.{leb, ltb}
+use lib.ListN.{replicate, getD}
 use Rattle.base.specs.Sums.{total}
 use Rattle.device.specs.declared.Device.{Device}
 
--- What a number past the end of a list of devices stands for.
-abbrev pub noDevice : Device
-noDevice = record { t = 0; pw = 0; ps = 0; p0 = 0 }
+-- The power at a level: 0 is work, and from 1 on each is a deeper sleep.
+abbrev pub powerAt : Device → ℕ → ℕ
+powerAt d zero = d .pw
+powerAt d (suc k) = getD (d .powers) k 0
 
--- The figures of a device (rule 3): a transition takes time, moving costs more than sleep and less than work. The upper ends of the ranges are those of the
--- file's fields.
+-- The figures of a device: moves take time, each level costs less than the one above it, and moving costs more than any sleep. It may cost more than work.
 pub record Sound (d : Device) : Type 0 where
-  pub moves : 1 ≤ d .t
-  pub sleeps-cheaper : d .ps < d .p0
-  pub works-dearer : d .p0 < d .pw
+  pub some-level : 1 ≤ d .levels
+  pub few-levels : d .levels ≤ 4
+  pub shuts : 1 ≤ d .shut
+  pub wakes : 1 ≤ d .wake
+  pub falls : (k : ℕ) → k < d .levels → powerAt d (suc k) < powerAt d k
+  pub shuts-dearer : powerAt d 1 < d .pd
+  pub wakes-dearer : powerAt d 1 < d .pu
 
--- What a device does in a tick (rule 30): it works, goes down, sleeps or comes up.
+-- What a device does in a tick (rule 30): it stays at a level, goes down or comes up.
 pub data Letter : Type 0 where
-  W D S U : Letter
+  at : ℕ → Letter
+  D U : Letter
 
--- The byte that stands for a letter: its ASCII code.
+-- At work it is at level 0.
+abbrev pub W : Letter
+W = at 0
+
+-- The byte that stands for a letter: its ASCII code, and S for sleep.
 abbrev pub byteOf : Letter → ℕ
-byteOf W = 87
+byteOf (at zero) = 87
+byteOf (at (suc k)) = 83
 byteOf D = 68
-byteOf S = 83
 byteOf U = 85
 
--- Where a device is between two ticks. A number is the ticks left of a move.
+-- Where a device is between two ticks: at a level, or on the way down or up to one, with the ticks left.
 pub data State : Type 0 where
-  working : State
-  down : ℕ → State
-  asleep : State
-  up : ℕ → State
+  level : ℕ → State
+  down : ℕ → ℕ → State
+  up : ℕ → ℕ → State
 
--- `Step d s x s′`: from s, a tick of letter x leads to s′. A move has T ticks: the first is D from work (shuts) or U from sleep (wakes), and the others
--- follow (falls, rises). Once down, a device sleeps (rests, sleeps) or comes up at once (turns); once up, it works (resumes). These are rules 32 to 34.
+-- It has come to level k, and may stay there or move on. (Come up to level 0 it can only work: `resumes`.)
+pub data Rests : State → ℕ → Type 0 where
+  rests : {k : ℕ} → Rests (level k) k
+  fallen : {k : ℕ} → Rests (down (suc k) 0) (suc k)
+  risen : {k : ℕ} → Rests (up (suc k) 0) (suc k)
+
+-- `Step d s x t`: from s, a tick of letter x leads to t.
 pub data Step (d : Device) : State → Letter → State → Type 0 where
-  works : Step d working W working
-  shuts : {n : ℕ} → suc n ≡ d .t → Step d working D (down n)
-  falls : {n : ℕ} → Step d (down (suc n)) D (down n)
-  rests : Step d (down 0) S asleep
-  turns : {n : ℕ} → suc n ≡ d .t → Step d (down 0) U (up n)
-  sleeps : Step d asleep S asleep
-  wakes : {n : ℕ} → suc n ≡ d .t → Step d asleep U (up n)
-  rises : {n : ℕ} → Step d (up (suc n)) U (up n)
-  resumes : Step d (up 0) W working
+  -- Rule 33: it stays at a level to which it has come.
+  stays : {s : State} {k : ℕ} → Rests s k → k ≤ d .levels → Step d s (at k) (level k)
+  -- Rule 32: the first tick of a move down by one level,
+  shuts : {s : State} {k n : ℕ} → Rests s k → k < d .levels → suc n ≡ d .shut → Step d s D (down (suc k) n)
+  -- and the others.
+  falls : {k n : ℕ} → Step d (down k (suc n)) D (down k n)
+  -- Rule 34: the first tick of a move up by one level,
+  wakes : {s : State} {k n : ℕ} → Rests s (suc k) → suc n ≡ d .wake → Step d s U (up k n)
+  -- the others,
+  rises : {k n : ℕ} → Step d (up k (suc n)) U (up k n)
+  -- and work after the last.
+  resumes : Step d (up 0 0) W (level 0)
 
 -- A row may end where the next tick could be one of work (rule 31): the device works, or has just come up.
 pub data Ends : State → Type 0 where
-  at-work : Ends working
-  woken : Ends (up 0)
+  at-work : Ends (level 0)
+  woken : Ends (up 0 0)
 
--- The rows of a pattern of use, tick by tick. The pattern has `true` for each tick of a job that uses the device, and there the letter is W (rule 35).
-pub data Legal (d : Device) : State → List Bool → List Letter → Type 0 where
-  end : {s : State} → Ends s → Legal d s [] []
-  used : {s t : State} {u : List Bool} {r : List Letter} → Step d s W t → Legal d t u r → Legal d s (true ∷ u) (W ∷ r)
-  free : {s t : State} {x : Letter} {u : List Bool} {r : List Letter} → Step d s x t → Legal d t u r → Legal d s (false ∷ u) (x ∷ r)
+-- From s a row leads to z, tick by tick, for a pattern of use. The pattern has `true` for each tick of a job that uses the device, and there the letter is W
+-- (rule 35).
+pub data Goes (d : Device) : State → List Bool → List Letter → State → Type 0 where
+  over : {s : State} → Goes d s [] [] s
+  used : {s t z : State} {u : List Bool} {r : List Letter} → Step d s W t → Goes d t u r z → Goes d s (true ∷ u) (W ∷ r) z
+  free : {s t z : State} {x : Letter} {u : List Bool} {r : List Letter} → Step d s x t → Goes d t u r z → Goes d s (false ∷ u) (x ∷ r) z
 
--- Before the first tick the device was at work (rule 31).
+-- Before the first tick the device was at work, and after the last it could be (rule 31).
+pub record Once (d : Device) (u : List Bool) (r : List Letter) : Type 0 where
+  pub last : State
+  pub goes : Goes d (level 0) u r last
+  pub ends : Ends last
+
 abbrev pub LegalRow : Device → List Bool → List Letter → Type 0
-LegalRow d u r = Legal d working u r
+LegalRow d u r = Once d u r
 
--- What a tick costs, by its letter: both moves cost the same. A row costs what its ticks do (rule 36).
+-- What a tick costs, by its letter. A row costs what its ticks do (rule 36).
 abbrev pub power : Device → Letter → ℕ
-power d W = d .pw
-power d D = d .p0
-power d S = d .ps
-power d U = d .p0
+power d (at k) = powerAt d k
+power d D = d .pd
+power d U = d .pu
 
 abbrev pub energy : Device → List Letter → ℕ
 energy d r = total (power d) r
 
--- No legal row of the pattern has less energy (rule 37).
+-- The ticks in which a row moves.
+abbrev pub moving : Letter → ℕ
+moving (at k) = 0
+moving D = 1
+moving U = 1
+
+abbrev pub moved : List Letter → ℕ
+moved r = total moving r
+
+-- The row given (rule 37): no legal row of the pattern has less energy, and of those that have as little none moves in fewer ticks.
 pub record LeastRow (d : Device) (u : List Bool) (r : List Letter) : Type 0 where
   pub legal : LegalRow d u r
   pub least : (r′ : List Letter) → LegalRow d u r′ → energy d r ≤ energy d r′
+  pub shallowest : (r′ : List Letter) → LegalRow d u r′ → energy d r′ ≤ energy d r → moved r ≤ moved r′
 
--- The rule for gaps (rule 38): in g ticks without use a device goes down, sleeps what is left and comes up, where both moves have room; else it works through.
-abbrev pub gapRow : ℕ → ℕ → List Letter
-gapRow T g = cond (leb (T + T) g) (replicate T D ++ (replicate (g - (T + T)) S ++ replicate T U)) (replicate g W)
+-- ---- the rule for gaps (rule 38)
+
+-- In g ticks without use a device goes down to level m, stays there and comes back; at level 0 it works through.
+unfoldable pub trip : Device → ℕ → ℕ → List Letter
+trip d m g = replicate (d .shut * m) D ++ (replicate (g - (d .shut * m + d .wake * m)) (at m) ++ replicate (d .wake * m) U)
+
+-- What that costs.
+abbrev pub tripCost : Device → ℕ → ℕ → ℕ
+tripCost d m g = d .pd * (d .shut * m) + d .pu * (d .wake * m) + powerAt d m * (g - (d .shut * m + d .wake * m))
+
+-- To which of the first n levels: the cheapest of those for which both ways have room, and the shallowest where some cost the same.
+abbrev pub depth : Device → ℕ → ℕ → ℕ
+depth d zero g = 0
+depth d (suc n) g = cond (leb (d .shut * suc n + d .wake * suc n) g && ltb (tripCost d (suc n) g) (tripCost d (depth d n g) g)) (suc n) (depth d n g)
+
+abbrev pub gapRow : Device → ℕ → List Letter
+gapRow d g = trip d (depth d (d .levels) g) g
 
 -- ---- what others know of a device: these two and its working power
 
 -- What a gap of g ticks costs.
 unfoldable pub gapCost : Device → ℕ → ℕ
-gapCost d g = energy d (gapRow (d .t) g)
+gapCost d g = energy d (gapRow d g)
 
--- The power in the deepest sleep: no tick costs less. A device of this kind has one sleep, so it is Ps.
+-- The power at the deepest level: no tick costs less.
 abbrev pub deep : Device → ℕ
-deep d = d .ps
+deep d = powerAt d (d .levels)
+
+-- What a number past the end of a list of devices stands for.
+abbrev pub noDevice : Device
+noDevice = record { shut = 0; wake = 0; pw = 0; pd = 0; pu = 0; levels = 0; powers = replicate 4 0 }
 
 -- ---- rows and patterns of use
 
@@ -105,9 +155,9 @@ module _ {L : Type 0} (work : L) (fill : ℕ → List L) where
   rowFrom g (true ∷ u) = fill g ++ work ∷ rowFrom 0 u
   rowFrom g (false ∷ u) = rowFrom (suc g) u
 
--- The row by the rule for gaps. proofs/Least: it is the least row, and the only one.
+-- The row by the rule for gaps. proofs/Least: it is the row given, and the only one.
 abbrev pub rowOf : Device → List Bool → List Letter
-rowOf d u = rowFrom W (gapRow (d .t)) 0 u
+rowOf d u = rowFrom W (gapRow d) 0 u
 
 -- The least energy of a pattern of use.
 abbrev pub energyOf : Device → List Bool → ℕ

@@ -1,18 +1,21 @@
-// One device: its record, the energy of its least row, and writing that row.
+// One device: its figures, the energy of its least row, and writing that row.
 mod energy;
 mod writer;
 
-pub use crate::energy::deep_power;
 pub use crate::energy::energy_of;
 pub use crate::energy::gap_energy;
 pub use crate::writer::write_row;
 
-// A device of the request file: transition time T, and the powers working, sleeping and moving. Both transitions have the same time and power.
+// A device, of whatever kind: the ticks of a move down and of one up, by one level; the powers at work, going down and coming up; and the powers of its sleep
+// levels, the shallowest first.
 pub struct Device {
-    pub t: u8,
+    pub shut: u8,
+    pub wake: u8,
     pub pw: u16,
-    pub ps: u16,
-    pub p0: u16,
+    pub pd: u16,
+    pub pu: u16,
+    pub levels: usize,
+    pub powers: [u16; 4],
 }
 
 // The uses of one device in running order: use i begins at tick begins[i] and ends before tick ends[i].

@@ -2,6 +2,7 @@
 -- Assumes nothing.
 use mathlib.Core.Path.{_≡_, refl, ap, sym, _∙_}
 use Prim.Native.Nat.{ℕ, _+_, _-_, _*_, _≤_, _<_}
+use native.Mathlib.Nat.{mul-le-mul-right}
 use native.Mathlib.Omega.{arith}
 use borrow.Author.Needs.{needs}
 use Rattle.device.specs.Row.{energyOf, pattern}
@@ -24,8 +25,9 @@ loop-holds c = (omega arith, refl, sym (energy-none (c .args .d)))
 -- No tick costs more than 65,535; so no least energy within the horizon is past 65,535 × 65,535.
 most : (c : tie.Start Inv-loop μ-loop) (e : ℕ) → energyOf (c .args .d) (pattern (usedIn (c .args .t3)) 0 e) ≤ 65535 * e
 most c e =
-    let m = energy-most (c .args .d) 65535 (omega (arith, c .good .0)) (omega (arith, c .good .0)) (omega (arith, c .good .0)) (pattern (usedIn (c .args .t3)) 0 e) in
-    omega (arith, length-pattern (usedIn (c .args .t3)) 0 e)
+    let power : c .args .d .pw ≤ 65535 = omega (arith, c .good .0) in
+    let most = rw (length-pattern (usedIn (c .args .t3)) 0 e) at (energy-most (c .args .d) (pattern (usedIn (c .args .t3)) 0 e)) in
+    omega (arith, mul-le-mul-right e power)
 
 small : (c : tie.Start Inv-loop μ-loop) (e : ℕ) → e ≤ c .args .h → energyOf (c .args .d) (pattern (usedIn (c .args .t3)) 0 e) ≤ 65535 * 65535
 small c e l = omega (arith, most c e)
@@ -37,7 +39,7 @@ fits : (c : tie.In-loop Inv-loop μ-loop)
     × (end (c .before .before .args .t3) (c .before .loop .i) ≤ c .before .before .args .h)
 fits c =
     let s = c .before .before in
-    let f = use-fits (s .args .t3) (s .args .h) (s .pre) (c .before .loop .i) (c .loop-test .taken) in
+    let f = use-fits (s .args .t3) (s .args .h) (s .pre .1) (c .before .loop .i) (c .loop-test .taken) in
     (omega (arith, c .before .loop .inv .1), f .1, f .2)
 
 -- What a turn adds.
@@ -49,7 +51,7 @@ turn : (c : tie.After-gap-energy Inv-loop μ-loop) → let l = c .before .before
 turn c =
     let l = c .before .before .before in
     let s = l .before .before in
-    let e = energy-use (s .args .t3) (s .args .h) (s .pre) (s .args .d) (l .before .loop .i) (l .before .loop .at) (l .loop-test .taken) (l .before .loop .inv .1) in
+    let e = energy-use (s .args .t3) (s .args .h) (s .pre .1) (s .args .d) (l .before .loop .i) (l .before .loop .at) (l .loop-test .taken) (l .before .loop .inv .1) in
     (omega (arith, e, l .before .loop .inv .2, c .gap-energy .ensures .0), small s (end (s .args .t3) (l .before .loop .i)) (fits l .2))
 
 mul-begin : tie.Need-mul-begin Inv-loop μ-loop
@@ -68,7 +70,7 @@ sub-gap-energy : tie.Need-sub-gap-energy Inv-loop μ-loop
 sub-gap-energy c = omega (arith, fits (c .before .before))
 
 gap-energy-requires : tie.Need-gap-energy-requires Inv-loop μ-loop
-gap-energy-requires c κs = search needs
+gap-energy-requires c κs = c .before .before .before .before .pre .0
 
 add-sum : tie.Need-add-sum Inv-loop μ-loop
 add-sum c = omega (arith, turn c)
@@ -106,10 +108,10 @@ over c =
     c .before .loop .inv .1 ∙ ap (after (c .before .before .args .t3)) last
 
 sub-gap-energy-2 : tie.Need-sub-gap-energy-2 Inv-loop μ-loop
-sub-gap-energy-2 c = omega (arith, over c, c .before .before .pre .within)
+sub-gap-energy-2 c = omega (arith, over c, c .before .before .pre .1 .within)
 
 gap-energy-requires-2 : tie.Need-gap-energy-requires-2 Inv-loop μ-loop
-gap-energy-requires-2 c κs = search needs
+gap-energy-requires-2 c κs = c .before .before .pre .0
 
 -- What the last gap adds.
 last : (c : tie.After-gap-energy2 Inv-loop μ-loop) → let s = c .before .before .before in
@@ -118,7 +120,7 @@ last c =
     let s = c .before .before .before in
     omega (
       arith,
-      energy-last (s .args .t3) (s .args .h) (s .pre) (s .args .d) (c .before .before .loop .at) (over (c .before)),
+      energy-last (s .args .t3) (s .args .h) (s .pre .1) (s .args .d) (c .before .before .loop .at) (over (c .before)),
       c .before .before .loop .inv .2,
       c .gap-energy2 .ensures .0,
     )

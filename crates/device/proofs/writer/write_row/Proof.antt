@@ -32,8 +32,8 @@ fits : (c : tie.In-loop Inv-loop μ-loop)
     × (length (c .before .loop .out) ≡ length (c .before .before .before .args .out .now))
 fits c =
     let s = c .before .before .before in
-    let f = use-fits (s .args .t3) (s .args .h) (s .pre .0) (c .before .loop .i) (c .loop-test .taken) in
-    (omega (arith, c .before .loop .inv .1), f .1, f .2, filled-length (c .before .loop .inv .2) (omega (arith, s .pre .1, c .before .loop .inv .1)))
+    let f = use-fits (s .args .t3) (s .args .h) (s .pre .1 .0) (c .before .loop .i) (c .loop-test .taken) in
+    (omega (arith, c .before .loop .inv .1), f .1, f .2, filled-length (c .before .loop .inv .2) (omega (arith, s .pre .1 .1, c .before .loop .inv .1)))
 
 mul-begin : tie.Need-mul-begin Inv-loop μ-loop
 mul-begin c = search needs
@@ -66,7 +66,9 @@ sub-write-gap-2 : tie.Need-sub-write-gap-2 Inv-loop μ-loop
 sub-write-gap-2 c = omega (arith, fits (c .before .before .before))
 
 write-gap-requires : tie.Need-write-gap-requires Inv-loop μ-loop
-write-gap-requires c κs = omega (arith, fits (c .before .before .before))
+write-gap-requires c κs =
+    let l = c .before .before .before in
+    (l .before .before .before .pre .0, (omega (arith, fits l), omega (arith, fits l)))
 
 add-at : tie.Need-add-at Inv-loop μ-loop
 add-at c = omega (arith, fits (c .before .before .before .before .before .before))
@@ -104,13 +106,13 @@ loop-again c =
     let u = s .args .t3 in
     let i = l .before .loop .i in
     let at = l .before .loop .at in
-    let gap = written-on (l .before .loop .inv .2) (map byteOf (gapRow (s .args .d .t) (begin u i - at))) (length-gap-bytes (s .args .d .t) (begin u i - at))
+    let gap = written-on (l .before .loop .inv .2) (map byteOf (gapRow (s .args .d) (begin u i - at))) (length-gap-bytes (s .args .d) (begin u i - at))
     (omega (arith, fits l)) (g .write-gap .ensures) in
     let used = written-on gap (replicate (end u i - begin u i) 87) (length-replicate (end u i - begin u i) 87) (omega (arith, fits l)) (w .write-run .ensures) in
     let to : at + g .write-gap .result + w .write-run .result ≡ end u i = omega (arith, fits l) in (
       omega arith,
       to ∙ after-next u i,
-      rw (to, bytes-use u (s .args .h) (s .pre .0) (s .args .d) i at (l .loop-test .taken) (l .before .loop .inv .1)) (rw to at used),
+      rw (to, bytes-use u (s .args .h) (s .pre .1 .0) (s .args .d) i at (l .loop-test .taken) (l .before .loop .inv .1)) (rw to at used),
     )
 
 -- All uses are passed.
@@ -122,7 +124,7 @@ over c =
     let s = c .before .before .before in
     let last : c .before .loop .i ≡ s .args .t3 .count = omega arith in
     let e : c .before .loop .at ≡ after (s .args .t3) (s .args .t3 .count) = c .before .loop .inv .1 ∙ ap (after (s .args .t3)) last in
-    (e, omega (arith, s .pre .0 .within), filled-length (c .before .loop .inv .2) (omega (arith, s .pre .0 .within, s .pre .1)))
+    (e, omega (arith, s .pre .1 .0 .within), filled-length (c .before .loop .inv .2) (omega (arith, s .pre .1 .0 .within, s .pre .1 .1)))
 
 sub-write-gap-3 : tie.Need-sub-write-gap-3 Inv-loop μ-loop
 sub-write-gap-3 c = omega (arith, over c)
@@ -137,7 +139,7 @@ sub-write-gap-4 : tie.Need-sub-write-gap-4 Inv-loop μ-loop
 sub-write-gap-4 c = omega (arith, over (c .before))
 
 write-gap-requires-2 : tie.Need-write-gap-requires-2 Inv-loop μ-loop
-write-gap-requires-2 c κs = omega (arith, over (c .before))
+write-gap-requires-2 c κs = (c .before .before .before .before .pre .0, (omega (arith, over (c .before)), omega (arith, over (c .before))))
 
 -- The last gap is written too.
 whole : (c : tie.After-write-gap2 Inv-loop μ-loop) → let l = c .before .before .before in
@@ -148,13 +150,13 @@ whole c =
     let l = c .before .before in
     let s = l .before .before .before in
     let at = l .before .loop .at in
-    let gap = written-on (l .before .loop .inv .2) (map byteOf (gapRow (s .args .d .t) (s .args .h - at))) (length-gap-bytes (s .args .d .t) (s .args .h - at))
+    let gap = written-on (l .before .loop .inv .2) (map byteOf (gapRow (s .args .d) (s .args .h - at))) (length-gap-bytes (s .args .d) (s .args .h - at))
     (omega (arith, over l)) (c .write-gap2 .ensures) in
     let to : at + c .write-gap2 .result ≡ s .args .h = omega (arith, over l) in
-    rw (bytes-last (s .args .t3) (s .args .h) (s .pre .0) (s .args .d) at (over l .0)) (rw to at gap)
+    rw (bytes-last (s .args .t3) (s .args .h) (s .pre .1 .0) (s .args .d) at (over l .0)) (rw to at gap)
 
 same-length : tie.Need-same-length Inv-loop μ-loop
-same-length c = filled-length (whole (c .before .before)) (c .before .before .before .before .before .before .before .pre .1)
+same-length c = filled-length (whole (c .before .before)) (c .before .before .before .before .before .before .before .pre .1 .1)
 
 returns : tie.Need-returns Inv-loop μ-loop
 returns c = whole (c .before .before) .is
