@@ -15,7 +15,8 @@ use Rattle.device.proofs.Pattern.{Ended, placed}
 use Rattle.device.proofs.Prefix.{length-rowFrom, rowFrom-place, rowFrom-close, total-place, total-close}
 use Rattle.device.proofs.Rows.{Legal, end, Beats, row-legal, row-beats}
 use Rattle.device.proofs.Rows as M
-use Rattle.device.proofs.Chosen.{length-gap, gap-none, gap-most}
+use Rattle.device.proofs.Chosen.{length-gap, gap-none}
+pub use Rattle.device.proofs.Chosen.{gap-low, gap-most}
 use Rattle.device.proofs.Levels.{machine, machine-works, best-gap}
 
 module _ (d : Device) where

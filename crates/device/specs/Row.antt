@@ -144,7 +144,7 @@ deep d = powerAt d (d .levels)
 
 -- What a number past the end of a list of devices stands for.
 abbrev pub noDevice : Device
-noDevice = record { shut = 0; wake = 0; pw = 0; pd = 0; pu = 0; levels = 0; powers = replicate 4 0 }
+noDevice = record { shut = 0; wake = 0; pw = 0; pd = 0; pu = 0; levels = 0; powers = [] }
 
 -- ---- rows and patterns of use
 

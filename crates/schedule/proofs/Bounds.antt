@@ -9,7 +9,7 @@ use native.Mathlib.Numerals.{add-one}
 use native.Mathlib.Omega.{arith}
 use Rattle.base.specs.Sums.{sum}
 use Rattle.device.specs.Row.{energyOf}
-use Rattle.device.proofs.Least.{energy-high}
+use Rattle.device.proofs.Least.{energy-most}
 use Rattle.device.proofs.Pattern.{length-pattern}
 use Rattle.schedule.specs.declared.Recorder.{Recorder}
 use Rattle.schedule.specs.Quantities.{device, Valid}
@@ -44,7 +44,7 @@ plan-energy-most R valid fits s =
     one k l =
         omega (
           arith,
-          energy-high (device R k) (valid .sound k l) (usesOf R s k),
+          energy-most (device R k) (usesOf R s k),
           mul-le-mul (fits k l) (valid .few-ticks),
           ap (λ (n : ℕ). device R k .pw * n) (length-pattern (used R k (places R s)) 0 (R .horizon)),
         )

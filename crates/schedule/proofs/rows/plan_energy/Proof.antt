@@ -33,7 +33,9 @@ element-copy-out-energy-of : tie.Need-element-copy-out-energy-of Inv-loop μ-loo
 element-copy-out-energy-of c = omega (arith, c .before .before .before .before .before .pre .0)
 
 energy-of-requires : tie.Need-energy-of-requires Inv-loop μ-loop
-energy-of-requires c κs = c .before .uses-of .ensures .spaced
+energy-of-requires c κs =
+    let l = c .before .before .before in
+    (l .before .before .before .pre .0 .sound (l .loop .k) (c .before .before .loop-test .taken), c .before .uses-of .ensures .spaced)
 
 -- The sum with the energy of the device at hand.
 more : (c : tie.After-energy-of Inv-loop μ-loop) → let k = c .before .before .before .before .loop .k in

@@ -65,7 +65,9 @@ part-write-row-end : tie.Need-part-write-row-end Inv-loop μ-loop
 part-write-row-end c = omega (arith, roomy (c .before .before))
 
 write-row-requires : tie.Need-write-row-requires Inv-loop μ-loop
-write-row-requires c κs = (c .before .before .uses-of .ensures .spaced, simp (length-take, length-drop) (omega (arith, roomy (c .before .before .before))))
+write-row-requires c κs =
+    let i = c .before .before .before in
+    (i .before .before .before .before .before .before .pre .0 .sound (i .before .loop .k) (i .loop-test .taken), (c .before .before .uses-of .ensures .spaced, simp (length-take, length-drop) (omega (arith, roomy i))))
 
 add-k : tie.Need-add-k Inv-loop μ-loop
 add-k c = omega (arith, c .before .before .before .before .before .before .before .before .before .before .before .before .pre .0)
