@@ -44,7 +44,7 @@ pub fn gap_trip(d: Device, g: u16) -> Trip
         cost: d.pw as u32 * g as u32,
     };
     let mut n = 0;
-    while n < d.levels {
+    while n < d.levels as usize {
         best = better_trip(d, g, n, best);
         n += 1;
     }

@@ -14,7 +14,7 @@ pub struct Device {
     pub pw: u16,
     pub pd: u16,
     pub pu: u16,
-    pub levels: usize,
+    pub levels: u8,
     pub powers: [u16; 4],
 }
 

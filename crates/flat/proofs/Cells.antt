@@ -2,21 +2,23 @@
 -- Assumes nothing.
 use mathlib.Core.Path.{_≡_, refl, sym, ap, _∙_}
 use mathlib.Core.Bool.{Bool, true, false, cond}
-use mathlib.Core.List.{List}
-use Prim.Native.Nat.{ℕ, _+_, _-_, _*_, _/_, _%_, _<_}
+use mathlib.Core.List.{List, [], _∷_}
+use Prim.Native.Nat.{ℕ, zero, suc, _+_, _-_, _*_, _/_, _%_, _<_, _≤_}
 use native.Mathlib.Omega.{arith}
-use native.Mathlib.Nat.{zero-add, mod-eq-of-lt}
+use native.Mathlib.Nat.{zero-add, add-zero, mod-eq-of-lt}
 use lib.Arith.{digits-div, digits-mod}
 use lib.Dec.{eqb}
 use lib.ListN.{getD}
 use mir.Val.{boolByte}
-use borrow.Author.Tests.{lt-ltb, ne-eqb}
+use borrow.Author.Tests.{lt-ltb, le-ltb, ne-eqb}
 use Rattle.base.specs.Lists.{upTo}
 use Rattle.base.proofs.Arrays.{getD-upTo, upTo-whole}
+use Rattle.device.specs.declared.Device.{Device}
+use Rattle.device.specs.Row.{Sound, deep, powerAt}
 use Rattle.schedule.specs.declared.Job.{Job}
 use Rattle.schedule.specs.declared.Recorder.{Recorder}
 use Rattle.schedule.specs.Quantities.{job, device, release, deadline, run, uses, noJob, noDevice}
-use Rattle.flat.specs.Flat.{cell, jobColumn, deviceColumn, recorderOf, jobNumber, deviceNumber, numberOf}
+use Rattle.flat.specs.Flat.{cell, jobColumn, deviceRow, recorderOf, jobNumber, deviceNumber, numberOf}
 use Rattle.flat.proofs.Shapes.{Shaped}
 
 -- ---- a flag as a number
@@ -54,19 +56,59 @@ module _ (l : List ℕ) where
       let place : 16 * (3 + k) + j ≡ 48 + 16 * k + j = omega arith in
       rw (← job-at j g, getD-upTo (λ i. eqb (cell l (3 + i) j) 1) 8 k false h, place)
 
-  pub device-at : (k : ℕ) → k < 8 → deviceColumn l k ≡ device (recorderOf l) k
+  pub device-at : (k : ℕ) → k < 8 → deviceRow l k ≡ device (recorderOf l) k
   unfolding recorderOf
-  device-at k h = sym (getD-upTo (deviceColumn l) 8 k noDevice h)
+  device-at k h = sym (getD-upTo (deviceRow l) 8 k noDevice h)
 
--- ---- sixteen rows of sixteen
+  -- All figures of device k, where its row begins at the place a.
+  pub figures-at : (k a : ℕ) → k < 8 → a ≡ 176 + 16 * k
+      → record {
+        shut = getD l a 0 % 256;
+        wake = getD l (a + 1) 0 % 256;
+        pw = getD l (a + 2) 0;
+        pd = getD l (a + 3) 0;
+        pu = getD l (a + 4) 0;
+        levels = getD l (a + 5) 0 % 256;
+        powers = getD l (a + 6) 0 ∷ getD l (a + 7) 0 ∷ getD l (a + 8) 0 ∷ getD l (a + 9) 0 ∷ [];
+      }
+      ≡ device (recorderOf l) k
+  unfolding deviceRow upTo
+  figures-at k a h e =
+      let row : a ≡ 16 * (11 + k) = omega arith in
+      rw row (rw (add-zero (16 * (11 + k))) at (device-at k h))
+
+  -- Its power at work, its number of levels, and its power in the deepest sleep.
+  pub work-at : (k : ℕ) → k < 8 → getD l (178 + 16 * k) 0 ≡ device (recorderOf l) k .pw
+  unfolding deviceRow
+  work-at k h =
+      let place : 178 + 16 * k ≡ 16 * (11 + k) + 2 = omega arith in
+      rw place (ap (λ (d : Device). d .pw) (device-at k h))
+
+  pub levels-at : (k : ℕ) → k < 8 → getD l (181 + 16 * k) 0 % 256 ≡ device (recorderOf l) k .levels
+  unfolding deviceRow
+  levels-at k h =
+      let place : 181 + 16 * k ≡ 16 * (11 + k) + 5 = omega arith in
+      rw place (ap (λ (d : Device). d .levels) (device-at k h))
+
+  pub deep-at : (k : ℕ) → k < 8 → Sound (device (recorderOf l) k) → getD l (181 + 16 * k + device (recorderOf l) k .levels) 0 ≡ deep (device (recorderOf l) k)
+  unfolding deviceRow
+  deep-at k h ok = go (device (recorderOf l) k .levels) (ok .some-level) (ok .few-levels)
+    where
+      go : (n : ℕ) → 1 ≤ n → n ≤ 4 → getD l (181 + 16 * k + n) 0 ≡ powerAt (device (recorderOf l) k) n
+      go zero a b = absurd (omega arith)
+      go (suc n) a b =
+          let place : 181 + 16 * k + suc n ≡ 16 * (11 + k) + (6 + n) = omega arith in
+          rw place (sym (getD-upTo (λ i. cell l (11 + k) (6 + i)) 4 n 0 (omega arith)) ∙ ap (λ (d : Device). getD (d .powers) n 0) (device-at k h))
+
+-- ---- twenty rows of sixteen
 
 abbrev pub grid : (ℕ → ℕ → ℕ) → List ℕ
-grid f = upTo (λ n. f (n / 16) (n % 16)) 256
+grid f = upTo (λ n. f (n / 16) (n % 16)) 320
 
-pub cell-grid : (f : ℕ → ℕ → ℕ) (i k : ℕ) → i < 16 → k < 16 → cell (grid f) i k ≡ f i k
+pub cell-grid : (f : ℕ → ℕ → ℕ) (i k : ℕ) → i < 20 → k < 16 → cell (grid f) i k ≡ f i k
 cell-grid f i k h g =
     let place : 16 * i + k ≡ i * 16 + k = omega arith in
-    getD-upTo (λ n. f (n / 16) (n % 16)) 256 (16 * i + k) 0 (omega arith) ∙ rw (place, digits-div i g, digits-mod i g)
+    getD-upTo (λ n. f (n / 16) (n % 16)) 320 (16 * i + k) 0 (omega arith) ∙ rw (place, digits-div i g, digits-mod i g)
 
 -- ---- the recorder read back
 
@@ -93,22 +135,46 @@ module _ (R : Recorder) (s : Shaped R) where
       let u : upTo (λ k. eqb (held (3 + k) j) 1) 8 ≡ job R j .uses = upTo-whole _ (job R j .uses) false 8 (s .uses-long j h) (λ k l. used-kept k j l h) in
       rw (a, d, c, u)
 
-  device-kept : (k : ℕ) → k < 8 → deviceColumn (grid (numberOf R)) k ≡ device R k
-  unfolding deviceColumn numberOf deviceNumber
+  -- Number i of device k.
+  number-kept : (k i : ℕ) → k < 8 → i < 10 → held (11 + k) i ≡ deviceNumber (device R k) i
+  unfolding numberOf
+  number-kept k i h g =
+      let row : 11 + k - 11 ≡ k = omega arith in
+      cell-grid (numberOf R) (11 + k) i (omega arith) (omega arith)
+      ∙ simp (le-ltb (11 + k) 11 (omega arith), lt-ltb (11 + k) 19 (omega arith), lt-ltb i 10 g, row)
+
+  power-kept : (k i : ℕ) → k < 8 → i < 4 → held (11 + k) (6 + i) ≡ getD (device R k .powers) i 0
+  unfolding deviceNumber
+  power-kept k i h g =
+      let place : 6 + i - 6 ≡ i = omega arith in
+      let past : (j : ℕ) → j < 6 → eqb (6 + i) j ≡ false = λ j l. ne-eqb (6 + i) j (λ e. omega (arith, l, e)) in
+      number-kept k (6 + i) h (omega arith)
+      ∙ simp (past 0 (omega arith), past 1 (omega arith), past 2 (omega arith), past 3 (omega arith), past 4 (omega arith), past 5 (omega arith), place)
+
+  device-kept : (k : ℕ) → k < 8 → deviceRow (grid (numberOf R)) k ≡ device R k
+  unfolding deviceRow deviceNumber
   device-kept k h =
-      let few : k < 16 = omega arith in
-      let t : held 11 k ≡ device R k .t = cell-grid (numberOf R) 11 k (omega arith) few ∙ simp (lt-ltb k 8 h) in
-      let pw : held 12 k ≡ device R k .pw = cell-grid (numberOf R) 12 k (omega arith) few ∙ simp (lt-ltb k 8 h) in
-      let ps : held 13 k ≡ device R k .ps = cell-grid (numberOf R) 13 k (omega arith) few ∙ simp (lt-ltb k 8 h) in
-      let p0 : held 14 k ≡ device R k .p0 = cell-grid (numberOf R) 14 k (omega arith) few ∙ simp (lt-ltb k 8 h) in
-      rw (t, mod-eq-of-lt (s .t-byte k h), pw, ps, p0)
+      let f = s .figures k h in
+      let ps : upTo (λ i. held (11 + k) (6 + i)) 4 ≡ device R k .powers = upTo-whole _ (device R k .powers) 0 4 (f .powers-long) (λ i l. power-kept k i h l) in
+      rw (
+        number-kept k 0 h (omega arith),
+        number-kept k 1 h (omega arith),
+        number-kept k 2 h (omega arith),
+        number-kept k 3 h (omega arith),
+        number-kept k 4 h (omega arith),
+        number-kept k 5 h (omega arith),
+        mod-eq-of-lt (f .shut-byte),
+        mod-eq-of-lt (f .wake-byte),
+        mod-eq-of-lt (f .levels-byte),
+        ps,
+      )
 
   pub recorder-kept : recorderOf (grid (numberOf R)) ≡ R
   unfolding recorderOf numberOf
   recorder-kept =
-      let h : held 15 0 ≡ R .horizon = cell-grid (numberOf R) 15 0 (omega arith) (omega arith) in
-      let n : held 15 1 ≡ R .jobs .count = cell-grid (numberOf R) 15 1 (omega arith) (omega arith) in
-      let m : held 15 2 ≡ R .devices .count = cell-grid (numberOf R) 15 2 (omega arith) (omega arith) in
+      let h : held 19 0 ≡ R .horizon = cell-grid (numberOf R) 19 0 (omega arith) (omega arith) in
+      let n : held 19 1 ≡ R .jobs .count = cell-grid (numberOf R) 19 1 (omega arith) (omega arith) in
+      let m : held 19 2 ≡ R .devices .count = cell-grid (numberOf R) 19 2 (omega arith) (omega arith) in
       let js : upTo (jobColumn (grid (numberOf R))) 16 ≡ R .jobs .list = upTo-whole _ (R .jobs .list) noJob 16 (s .jobs-long) job-kept in
-      let ds : upTo (deviceColumn (grid (numberOf R))) 8 ≡ R .devices .list = upTo-whole _ (R .devices .list) noDevice 8 (s .devices-long) device-kept in
+      let ds : upTo (deviceRow (grid (numberOf R))) 8 ≡ R .devices .list = upTo-whole _ (R .devices .list) noDevice 8 (s .devices-long) device-kept in
       rw (h, n, m, js, ds)

@@ -1,4 +1,4 @@
--- What owning a recorder tells of it and its type does not: how long each of its lists is, and that a transition time is a byte.
+-- What owning a recorder tells of it and its type does not: how long each of its lists is, and which of its numbers are bytes.
 -- Assumes nothing.
 use mathlib.Core.Path.{_≡_, sym, _∙_}
 use mathlib.Core.List.{List, [], _∷_, map}
@@ -39,14 +39,25 @@ each-every into own P h (x ∷ xs) (u ∷ us) p = (h x (u ∷ []) (p .0), each-e
 job-shaped : (x : Job) (vs : List Val) → shadow (job-field .row .own (job-field .into x) vs) → length (x .uses) ≡ 8
 job-shaped x vs p = mapped-long (λ b. b) (x .uses) 8 (p .1 .1 .1 .1 .1 .0 .1 .0 .1)
 
-device-shaped : (x : Device) (vs : List Val) → shadow (device-field .row .own (device-field .into x) vs) → x .t < 256
-device-shaped x vs p = p .1 .1 .0 .1
+pub record Figures (d : Device) : Type 0 where
+  pub shut-byte : d .shut < 256
+  pub wake-byte : d .wake < 256
+  pub levels-byte : d .levels < 256
+  pub powers-long : length (d .powers) ≡ 4
+
+device-shaped : (x : Device) (vs : List Val) → shadow (device-field .row .own (device-field .into x) vs) → Figures x
+device-shaped x vs p = record {
+  shut-byte = p .1 .1 .0 .1;
+  wake-byte = p .1 .1 .1 .0 .1;
+  levels-byte = p .1 .1 .1 .1 .1 .1 .1 .0 .1;
+  powers-long = mapped-long (λ n. n) (x .powers) 4 (p .1 .1 .1 .1 .1 .1 .1 .1 .0 .1 .0 .1);
+}
 
 pub record Shaped (R : Recorder) : Type 0 where
   pub jobs-long : length (R .jobs .list) ≡ 16
   pub uses-long : (j : ℕ) → j < 16 → length (job R j .uses) ≡ 8
   pub devices-long : length (R .devices .list) ≡ 8
-  pub t-byte : (k : ℕ) → k < 8 → device R k .t < 256
+  pub figures : (k : ℕ) → k < 8 → Figures (device R k)
 
 pub recorder-shaped : (R : Recorder) (vs : List Val) → Is the-row R vs → Shaped R
 recorder-shaped R vs p =
@@ -59,6 +70,6 @@ recorder-shaped R vs p =
       uses-long =
           λ j h. every-at _ (R .jobs .list) noJob (each-every (job-field .into) (job-field .row .own) (λ x. length (x .uses) ≡ 8) job-shaped (R .jobs .list) (js .0) (js .1 .1)) j (omega arith);
       devices-long = eight;
-      t-byte =
-          λ k h. every-at _ (R .devices .list) noDevice (each-every (device-field .into) (device-field .row .own) (λ x. x .t < 256) device-shaped (R .devices .list) (ds .0) (ds .1 .1)) k (omega arith);
+      figures =
+          λ k h. every-at _ (R .devices .list) noDevice (each-every (device-field .into) (device-field .row .own) Figures device-shaped (R .devices .list) (ds .0) (ds .1 .1)) k (omega arith);
     }

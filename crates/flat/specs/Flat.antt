@@ -1,6 +1,7 @@
--- The recorder laid flat: sixteen rows of sixteen numbers, which the search lends, so that nothing of it is copied at a vertex.
+-- The recorder laid flat: twenty rows of sixteen numbers, which the search lends, so that nothing of it is copied at a vertex.
 -- Rows 0 to 2 hold each job's release, deadline and running time; rows 3 to 10, one for each device, 1 for a job that uses it and 0 for another;
--- rows 11 to 14 each device's transition time, which has one byte, and its powers Pw, Ps and P0; row 15 the horizon and the numbers of jobs and of devices.
+-- rows 11 to 18, one for each device, its figures in their order, of which the times of its moves and its number of levels have one byte each; row 19 the horizon
+-- and the numbers of jobs and of devices.
 -- Assumes nothing.
 use mathlib.Core.Bool.{false, cond}
 use mathlib.Core.List.{List}
@@ -19,26 +20,37 @@ cell l i k = getD l (16 * i + k) 0
 unfoldable pub jobColumn : List ℕ → ℕ → Job
 jobColumn l j = record { release = cell l 0 j; deadline = cell l 1 j; run = cell l 2 j; uses = upTo (λ k. eqb (cell l (3 + k) j) 1) 8 }
 
-unfoldable pub deviceColumn : List ℕ → ℕ → Device
-deviceColumn l k = record { t = cell l 11 k % 256; pw = cell l 12 k; ps = cell l 13 k; p0 = cell l 14 k }
+unfoldable pub deviceRow : List ℕ → ℕ → Device
+deviceRow l k =
+    record {
+      shut = cell l (11 + k) 0 % 256;
+      wake = cell l (11 + k) 1 % 256;
+      pw = cell l (11 + k) 2;
+      pd = cell l (11 + k) 3;
+      pu = cell l (11 + k) 4;
+      levels = cell l (11 + k) 5 % 256;
+      powers = upTo (λ i. cell l (11 + k) (6 + i)) 4;
+    }
 
 unfoldable pub recorderOf : List ℕ → Recorder
 recorderOf l =
     record {
-      horizon = cell l 15 0;
-      devices = record { count = cell l 15 2; list = upTo (deviceColumn l) 8 };
-      jobs = record { count = cell l 15 1; list = upTo (jobColumn l) 16 };
+      horizon = cell l 19 0;
+      devices = record { count = cell l 19 2; list = upTo (deviceRow l) 8 };
+      jobs = record { count = cell l 19 1; list = upTo (jobColumn l) 16 };
     }
 
--- What a job has in its column, and what a device has in its.
+-- What a job has in its column, and what a device has in its row.
 unfoldable pub jobNumber : Job → ℕ → ℕ
 jobNumber j i = cond (eqb i 0) (j .release) (cond (eqb i 1) (j .deadline) (cond (eqb i 2) (j .run) (cond (getD (j .uses) (i - 3) false) 1 0)))
 
 unfoldable pub deviceNumber : Device → ℕ → ℕ
-deviceNumber d i = cond (eqb i 11) (d .t) (cond (eqb i 12) (d .pw) (cond (eqb i 13) (d .ps) (d .p0)))
+deviceNumber d i =
+    cond (eqb i 0) (d .shut) (cond (eqb i 1) (d .wake) (cond (eqb i 2) (d .pw) (cond (eqb i 3) (d .pd)
+    (cond (eqb i 4) (d .pu) (cond (eqb i 5) (d .levels) (getD (d .powers) (i - 6) 0))))))
 
 -- What flat_of writes in a row and a column.
 unfoldable pub numberOf : Recorder → ℕ → ℕ → ℕ
 numberOf R i k =
     cond (ltb i 11) (jobNumber (job R k) i)
-    (cond (ltb i 15) (cond (ltb k 8) (deviceNumber (device R k) i) 0) (cond (eqb k 0) (R .horizon) (cond (eqb k 1) (R .jobs .count) (R .devices .count))))
+    (cond (ltb i 19) (cond (ltb k 10) (deviceNumber (device R (i - 11)) k) 0) (cond (eqb k 0) (R .horizon) (cond (eqb k 1) (R .jobs .count) (R .devices .count))))

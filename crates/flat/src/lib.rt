@@ -1,35 +1,36 @@
-// The recorder laid flat, sixteen rows of sixteen numbers (specs/Flat says which). A struct that goes by value is copied at every call; this is lent, so that
+// The recorder laid flat, twenty rows of sixteen numbers (specs/Flat says which). A struct that goes by value is copied at every call; this is lent, so that
 // nothing of the recorder is copied at a vertex.
 use device::Device;
 use schedule::Job;
 use schedule::Recorder;
 ghost use mathlib.Core.Path.{_≡_};
 ghost use Prim.Native.Nat.{_<_};
+ghost use Rattle.device.specs.Row.{Sound, deep};
 ghost use Rattle.schedule.specs.Quantities.{Valid, device, jobs, release, deadline, run, uses};
 ghost use Rattle.flat.specs.Flat.{recorderOf, jobNumber, deviceNumber, numberOf};
 
 pub mod numbers; // numbers.rt: sums past sixteen bits
 
-pub type Flat = [u16; 256];
+pub type Flat = [u16; 320];
 
 pub fn horizon_of(r: &Flat) -> u16
     ensures { λ x. ⌜ x ≡ recorderOf (now (r .entry)) .horizon ⌝ }
 {
-    r[240]
+    r[304]
 }
 
 // The counts are read through a reference of their own, of which it is known that the number fits its type.
 pub fn job_count(r: &Flat) -> usize
     ensures { λ x. ⌜ x ≡ jobs (recorderOf (now (r .entry))) ⌝ }
 {
-    let count = &r[241];
+    let count = &r[305];
     *count as usize
 }
 
 pub fn device_count(r: &Flat) -> usize
     ensures { λ x. ⌜ x ≡ recorderOf (now (r .entry)) .devices .count ⌝ }
 {
-    let count = &r[242];
+    let count = &r[306];
     *count as usize
 }
 
@@ -66,12 +67,33 @@ pub fn device_of(r: &Flat, k: usize) -> Device
     requires { ⌜ k < 8 ⌝ }
     ensures { λ x. ⌜ x ≡ device (recorderOf (now (r .entry))) k ⌝ }
 {
+    let at = 176 + 16 * k;
     Device {
-        t: (r[176 + k] % 256) as u8,
-        pw: r[192 + k],
-        ps: r[208 + k],
-        p0: r[224 + k],
+        shut: (r[at] % 256) as u8,
+        wake: (r[at + 1] % 256) as u8,
+        pw: r[at + 2],
+        pd: r[at + 3],
+        pu: r[at + 4],
+        levels: (r[at + 5] % 256) as u8,
+        powers: [r[at + 6], r[at + 7], r[at + 8], r[at + 9]],
     }
+}
+
+// The power of device k at work.
+pub fn work_power(r: &Flat, k: usize) -> u16
+    requires { ⌜ k < 8 ⌝ }
+    ensures { λ x. ⌜ x ≡ device (recorderOf (now (r .entry))) k .pw ⌝ }
+{
+    r[178 + 16 * k]
+}
+
+// Its power in the deepest sleep.
+pub fn deep_power(r: &Flat, k: usize) -> u16
+    requires { ⌜ (k < 8) × Sound (device (recorderOf (now r)) k) ⌝ }
+    ensures { λ x. ⌜ x ≡ deep (device (recorderOf (now (r .entry))) k) ⌝ }
+{
+    let levels = (r[181 + 16 * k] % 256) as usize;
+    r[181 + 16 * k + levels]
 }
 
 // What a job has in its column: its times, and 1 for each device that it uses.
@@ -91,35 +113,45 @@ fn job_number(job: Job, row: usize) -> u16
     job.uses[row - 3] as u16
 }
 
-// What a device has in its column, from row 11 on.
-fn device_number(device: Device, row: usize) -> u16
-    ensures { λ x. ⌜ x ≡ deviceNumber device row ⌝ }
+// What a device has in its row.
+fn device_number(device: Device, column: usize) -> u16
+    requires { ⌜ column < 10 ⌝ }
+    ensures { λ x. ⌜ x ≡ deviceNumber device column ⌝ }
 {
-    if row == 11 {
-        return device.t as u16;
+    if column == 0 {
+        return device.shut as u16;
     }
-    if row == 12 {
+    if column == 1 {
+        return device.wake as u16;
+    }
+    if column == 2 {
         return device.pw;
     }
-    if row == 13 {
-        return device.ps;
+    if column == 3 {
+        return device.pd;
     }
-    device.p0
+    if column == 4 {
+        return device.pu;
+    }
+    if column == 5 {
+        return device.levels as u16;
+    }
+    device.powers[column - 6]
 }
 
 // The number that stands in a row and a column of the recorder laid flat.
 fn number_of(r: Recorder, row: usize, column: usize) -> u16
-    requires { ⌜ Valid r × ((row < 16) × (column < 16)) ⌝ }
+    requires { ⌜ Valid r × ((row < 20) × (column < 16)) ⌝ }
     ensures { λ x. ⌜ x ≡ numberOf r row column ⌝ }
 {
     if row < 11 {
         let jobs = r.jobs;
         return job_number(jobs.list[column], row);
     }
-    if row < 15 {
-        if column < 8 {
+    if row < 19 {
+        if column < 10 {
             let devices = r.devices;
-            return device_number(devices.list[column], row);
+            return device_number(devices.list[row - 11], column);
         }
         return 0;
     }
@@ -136,9 +168,9 @@ pub fn flat_of(r: Recorder) -> Flat
     requires { ⌜ Valid r ⌝ }
     ensures { λ x. ⌜ recorderOf x ≡ r ⌝ }
 {
-    let mut flat = [0u16; 256];
+    let mut flat = [0u16; 320];
     let mut i = 0;
-    while i < 256 {
+    while i < 320 {
         flat[i] = number_of(r, i / 16, i % 16);
         i += 1;
     }

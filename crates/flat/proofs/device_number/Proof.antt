@@ -1,5 +1,7 @@
--- `visit::flat::device_number` meets its contract.
+-- `flat::device_number` meets its contract.
 -- Assumes nothing.
+use Prim.Native.Nat.{ℕ, _-_, _*_, _^_, _<_}
+use native.Mathlib.Omega.{arith}
 use borrow.Author.Needs.{needs}
 use borrow.Author.Tests.{eq-eqb, ne-eqb}
 use Rattle.flat.specs.Flat.{deviceNumber}
@@ -11,7 +13,10 @@ cast-result c = search needs
 
 returns : tie.Need-returns
 unfolding deviceNumber
-returns c = simp (eq-eqb _ _ (c .before .if1 .taken))
+returns c = simp (eq-eqb _ _ (c .if1 .taken))
+
+cast-result-2 : tie.Need-cast-result-2
+cast-result-2 c = search needs
 
 returns-2 : tie.Need-returns-2
 unfolding deviceNumber
@@ -23,7 +28,56 @@ returns-3 c = simp (ne-eqb _ _ (c .before .before .if1 .left), ne-eqb _ _ (c .be
 
 returns-4 : tie.Need-returns-4
 unfolding deviceNumber
-returns-4 c = simp (ne-eqb _ _ (c .before .before .if1 .left), ne-eqb _ _ (c .before .if2 .left), ne-eqb _ _ (c .if3 .left))
+returns-4 c = simp (ne-eqb _ _ (c .before .before .before .if1 .left), ne-eqb _ _ (c .before .before .if2 .left), ne-eqb _ _ (c .before .if3 .left), eq-eqb _ _ (c .if4 .taken))
+
+returns-5 : tie.Need-returns-5
+unfolding deviceNumber
+returns-5 c = simp (ne-eqb _ _ (c .before .before .before .before .if1 .left), ne-eqb _ _ (c .before .before .before .if2 .left), ne-eqb _ _ (c .before .before .if3 .left), ne-eqb _ _ (c .before .if4 .left), eq-eqb _ _ (c .if5 .taken))
+
+cast-result-3 : tie.Need-cast-result-3
+cast-result-3 c = search needs
+
+returns-6 : tie.Need-returns-6
+unfolding deviceNumber
+returns-6 c = simp (ne-eqb _ _ (c .before .before .before .before .before .if1 .left), ne-eqb _ _ (c .before .before .before .before .if2 .left), ne-eqb _ _ (c .before .before .before .if3 .left), ne-eqb _ _ (c .before .before .if4 .left), ne-eqb _ _ (c .before .if5 .left), eq-eqb _ _ (c .if6 .taken))
+
+sub-result : tie.Need-sub-result
+sub-result c = search needs
+
+-- Past the first six numbers come the powers.
+low : {n : ℕ} → n < 10 → n - 6 < 4
+low h = omega arith
+
+place : (c : tie.Else6) → c .before .before .before .before .before .before .args .column - 6 < 4
+place c = low (c .before .before .before .before .before .before .pre)
+
+small : {n : ℕ} → n < 4 → n * 2 < 2 ^ 64
+small h = omega arith
+
+mul-result : tie.Need-mul-result
+mul-result c = record { fits = small (place c) }
+
+element-copy-out-result : tie.Need-element-copy-out-result
+element-copy-out-result c = place c
+
+returns-7 : tie.Need-returns-7
+unfolding deviceNumber
+returns-7 c = simp (ne-eqb _ _ (c .before .before .before .before .before .before .if1 .left), ne-eqb _ _ (c .before .before .before .before .before .if2 .left), ne-eqb _ _ (c .before .before .before .before .if3 .left), ne-eqb _ _ (c .before .before .before .if4 .left), ne-eqb _ _ (c .before .before .if5 .left), ne-eqb _ _ (c .before .if6 .left))
 
 pub device-number-spec : {M : Type 1} → statement M
-device-number-spec = tie.close (tie.spec cast-result returns returns-2 returns-3 returns-4)
+device-number-spec =
+    tie.close
+    (tie.spec
+    cast-result
+    returns
+    cast-result-2
+    returns-2
+    returns-3
+    returns-4
+    returns-5
+    cast-result-3
+    returns-6
+    sub-result
+    mul-result
+    element-copy-out-result
+    returns-7)

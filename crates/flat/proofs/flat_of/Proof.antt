@@ -1,4 +1,4 @@
--- `visit::flat::flat_of` meets its contract. The loop's invariant: the array holds the numbers of the cells so far.
+-- `flat::flat_of` meets its contract. The loop's invariant: the array holds the numbers of the cells so far.
 -- Assumes nothing.
 use mathlib.Core.Path.{_≡_, refl}
 use Prim.Native.Nat.{ℕ, _-_, _≤_, _/_, _%_}
@@ -12,10 +12,10 @@ use Rattle.flat.proofs.flat_of.Statement.{statement}
 use Rattle.flat.proofs.flat_of.Tie as tie
 
 abbrev Inv-loop : tie.InvT-loop
-Inv-loop r flat₀ i₀ flat i = (i ≤ 256) × (flat ≡ padded 256 0 (upTo (λ n. numberOf r (n / 16) (n % 16)) i))
+Inv-loop r flat₀ i₀ flat i = (i ≤ 320) × (flat ≡ padded 320 0 (upTo (λ n. numberOf r (n / 16) (n % 16)) i))
 
 abbrev μ-loop : tie.MeasureT-loop
-μ-loop r flat₀ i₀ flat i = 256 - i
+μ-loop r flat₀ i₀ flat i = 320 - i
 
 loop-holds : tie.Need-loop-holds Inv-loop μ-loop
 unfolding upTo padded
@@ -40,14 +40,14 @@ loop-again : tie.Need-loop-again Inv-loop μ-loop
 loop-again c =
     let R = c .before .before .before .args .r in
     let l = c .before .before .loop in
-    (omega arith, rw (c .number-of .ensures, l .inv .1) (upTo-fill 256 0 (λ (n : ℕ). numberOf R (n / 16) (n % 16)) (l .i) (omega arith)))
+    (omega arith, rw (c .number-of .ensures, l .inv .1) (upTo-fill 320 0 (λ (n : ℕ). numberOf R (n / 16) (n % 16)) (l .i) (omega arith)))
 
 returns : tie.Need-returns Inv-loop μ-loop
 returns c =
     let R = c .before .before .args .r in
     let l = c .before .loop in
-    let all : l .i ≡ 256 = omega arith in
-    let full = padded-whole 256 0 (grid (numberOf R)) (length-upTo _ 256) in
+    let all : l .i ≡ 320 = omega arith in
+    let full = padded-whole 320 0 (grid (numberOf R)) (length-upTo _ 320) in
     rw (l .inv .1, all, full) (recorder-kept R (recorder-shaped R _ (c .before .before .good .0)))
 
 pub flat-of-spec : {M : Type 1} → statement M

@@ -1,4 +1,4 @@
--- `visit::flat::horizon_of` meets its contract.
+-- `flat::horizon_of` meets its contract.
 -- Assumes nothing.
 use mathlib.Core.Path.{refl}
 use borrow.Author.Needs.{needs}

@@ -1,4 +1,4 @@
--- `visit::flat::is_used` meets its contract.
+-- `flat::is_used` meets its contract.
 -- Assumes nothing.
 use native.Mathlib.Omega.{arith}
 use borrow.Author.Needs.{needs}

@@ -1,4 +1,4 @@
--- `visit::flat::job_number` meets its contract.
+-- `flat::job_number` meets its contract.
 -- Assumes nothing.
 use mathlib.Core.Bool.{false}
 use Prim.Native.Nat.{_-_}

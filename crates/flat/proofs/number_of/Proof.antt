@@ -1,4 +1,4 @@
--- `visit::flat::number_of` meets its contract.
+-- `flat::number_of` meets its contract.
 -- Assumes nothing.
 use borrow.Author.Needs.{needs}
 use borrow.Author.Tests.{lt-ltb, le-ltb, eq-eqb, ne-eqb}

@@ -27,6 +27,9 @@ mul-t7 c =
 loop-holds : tie.Need-loop-holds Inv-loop μ-loop
 loop-holds c = (omega arith, record { level = refl; cost = simp (mul-zero, sub-zero, zero-add) })
 
+cast-if1 : tie.Need-cast-if1 Inv-loop μ-loop
+cast-if1 c = search needs
+
 better-trip-requires : tie.Need-better-trip-requires Inv-loop μ-loop
 better-trip-requires c κs =
     let l = c .before .before in
@@ -57,6 +60,7 @@ gap-trip-spec =
     cast-t5
     mul-t7
     loop-holds
+    cast-if1
     better-trip-requires
     add-n
     loop-less
