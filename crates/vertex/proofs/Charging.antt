@@ -11,8 +11,8 @@ use Rattle.base.specs.Lists.{padded}
 use Rattle.base.proofs.Arrays.{getD-padded}
 use Rattle.base.proofs.Stores.{length-stored, stored-at}
 use Rattle.device.specs.declared.Device.{Device}
-use Rattle.device.specs.Row.{Sound, gapCost}
-use Rattle.device.proofs.Least.{gap-high}
+use Rattle.device.specs.Row.{gapCost}
+use Rattle.device.proofs.Least.{gap-most}
 use Rattle.schedule.specs.declared.Recorder.{Recorder}
 use Rattle.schedule.specs.Quantities.{Valid, device, run, uses}
 use Rattle.vertex.specs.Vertices.{Vertex, endAt, paidAt, paidStep, endStep, endNow, paidNow, placeAt, root, Settled}
@@ -41,18 +41,18 @@ product-fits a b h k = let f : a * b ≤ 65535 * b = mul-le-mul-right b (omega a
 up-to : (w b e g x : ℕ) → b ≤ w * e → x ≤ w * g → b + x ≤ w * (e + g)
 up-to w b e g x h k = omega arith
 
-pub gap-cheap : (d : Device) → Sound d → (b e s : ℕ) → b ≤ d .pw * e → e ≤ s → b + gapCost d (s - e) ≤ d .pw * s
-gap-cheap d ok b e s h l =
+pub gap-cheap : (d : Device) (b e s : ℕ) → b ≤ d .pw * e → e ≤ s → b + gapCost d (s - e) ≤ d .pw * s
+gap-cheap d b e s h l =
     let q : e + (s - e) ≡ s = omega arith in
-    subst (λ (x : ℕ). b + gapCost d (s - e) ≤ d .pw * x) q (up-to (d .pw) b e (s - e) (gapCost d (s - e)) h (gap-high d ok (s - e)))
+    subst (λ (x : ℕ). b + gapCost d (s - e) ≤ d .pw * x) q (up-to (d .pw) b e (s - e) (gapCost d (s - e)) h (gap-most d (s - e)))
 
 with-use : (w x s c : ℕ) → x ≤ w * s → x + w * c ≤ w * (s + c)
 with-use w x s c h = omega arith
 
-paid-cheap : (u : Bool) (d : Device) → Sound d → (b e s c : ℕ) → b ≤ d .pw * e → e ≤ s → paidStep u d b e s c ≤ d .pw * endStep u e s c
+paid-cheap : (u : Bool) (d : Device) (b e s c : ℕ) → b ≤ d .pw * e → e ≤ s → paidStep u d b e s c ≤ d .pw * endStep u e s c
 unfolding paidStep endStep
-paid-cheap false d ok b e s c h l = h
-paid-cheap true d ok b e s c h l = omega (arith, with-use (d .pw) (b + gapCost d (s - e)) s c (gap-cheap d ok b e s h l))
+paid-cheap false d b e s c h l = h
+paid-cheap true d b e s c h l = omega (arith, with-use (d .pw) (b + gapCost d (s - e)) s c (gap-cheap d b e s h l))
 
 end-within : (u : Bool) (e s c : ℕ) → e ≤ s → endStep u e s c ≤ s + c
 unfolding endStep
@@ -88,7 +88,7 @@ module _
           ended = λ k l. rw (end-now k l) (end-within (uses R k j) (endAt v k) s (run R j) (omega (arith, settled .ended k l)));
           cheap =
               λ k l. rw (paid-now k l, end-now k l)
-              (paid-cheap (uses R k j) (device R k) (ok .sound k l) (paidAt v k) (endAt v k) s (run R j) (settled .cheap k l) (omega (arith, settled .ended k l)));
+              (paid-cheap (uses R k j) (device R k) (paidAt v k) (endAt v k) s (run R j) (settled .cheap k l) (omega (arith, settled .ended k l)));
         }
 
 pub root-settled : (R : Recorder) → Settled R root

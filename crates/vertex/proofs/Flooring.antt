@@ -46,17 +46,20 @@ module _ (R : Recorder) (ok : Valid R) (l : List ℕ) (j s : ℕ) (held : Holds 
   tick-is = held .ticks k b ∙ rest-less R (placedOf l) j job-in (fit .free) (fit .known) (ticks R k)
 
   -- What the code's step asks,
-  pub may-floor : Sound (device R k) × ((getD l (8 + k) 0 ≤ device R k .pw * getD l k 0) × ((getD l k 0 ≤ s) × ((s + getD l (16 + k) 0 ≤ R .horizon) × (R .horizon ≤ 4096))))
+  pub may-floor : (k < 8) × (Sound (device R k) × ((getD l (8 + k) 0 ≤ device R k .pw * getD l k 0) × ((getD l k 0 ≤ s) × ((s + getD l (16 + k) 0 ≤ R .horizon) × (R .horizon ≤ 4096)))))
   unfolding vertexOf
   may-floor = (
-    ok .sound k b,
+    few-device,
     (
-      rw (← row-at 8 8 l k few-device, ← end-cell l k few-device) (held .settled .cheap k b),
+      ok .sound k b,
       (
-        rw (← end-cell l k few-device) (held .settled .ended k b),
+        rw (← row-at 8 8 l k few-device, ← end-cell l k few-device) (held .settled .cheap k b),
         (
-          omega (arith, held .ticks k b, ahead-few R (placedOf l) k, rest-less R (placedOf l) j job-in (fit .free) (fit .known) (run R), fit .fits),
-          ok .few-ticks,
+          rw (← end-cell l k few-device) (held .settled .ended k b),
+          (
+            omega (arith, held .ticks k b, ahead-few R (placedOf l) k, rest-less R (placedOf l) j job-in (fit .free) (fit .known) (run R), fit .fits),
+            ok .few-ticks,
+          ),
         ),
       ),
     ),
@@ -82,10 +85,10 @@ module _ (R : Recorder) (ok : Valid R) (l : List ℕ) (t : ℕ) (held : Holds R 
   near : k < 8
   near = omega (arith, b, ok .few-devices)
 
-  pub may-close : (getD l (8 + k) 0 ≤ device R k .pw * getD l k 0) × ((getD l k 0 ≤ R .horizon) × (R .horizon ≤ 4096))
+  pub may-close : Sound (device R k) × ((getD l (8 + k) 0 ≤ device R k .pw * getD l k 0) × ((getD l k 0 ≤ R .horizon) × (R .horizon ≤ 4096)))
   unfolding vertexOf
   may-close =
-      (rw (← row-at 8 8 l k near, ← end-cell l k near) (held .settled .cheap k b), (rw (← end-cell l k near) (omega (arith, held .settled .ended k b, held .settled .within)), ok .few-ticks))
+      (ok .sound k b, (rw (← row-at 8 8 l k near, ← end-cell l k near) (held .settled .cheap k b), (rw (← end-cell l k near) (omega (arith, held .settled .ended k b, held .settled .within)), ok .few-ticks)))
 
   pub close-step : closeOf (device R k) (R .horizon) (getD l (8 + k) 0) (getD l k 0) ≡ closeAt R (vertexOf l t) k
   unfolding vertexOf

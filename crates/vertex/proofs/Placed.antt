@@ -11,7 +11,7 @@ use Rattle.base.specs.Loops.{each}
 use Rattle.base.proofs.Turns.{each-more}
 use Rattle.base.proofs.Stores.{stored-at, stored-kept}
 use Rattle.device.specs.declared.Device.{Device}
-use Rattle.device.specs.Row.{gapCost}
+use Rattle.device.specs.Row.{Sound, gapCost}
 use Rattle.schedule.specs.declared.Recorder.{Recorder}
 use Rattle.schedule.specs.Quantities.{Valid, run, uses, device}
 use Rattle.schedule.specs.Visiting.{ticks}
@@ -190,10 +190,10 @@ module _ (R : Recorder) (ok : Valid R) (l : List ℕ) (j s : ℕ) (held : Holds 
         omega (arith, e)
 
     -- What charging device k asks.
-    pub may-charge : uses R k j ≡ true → (k < 8) × ((getD w (8 + k) 0 ≤ device R k .pw * getD w k 0) × ((getD w k 0 ≤ s) × ((s + run R j ≤ 4096) × (run R j ≤ getD w (16 + k) 0))))
+    pub may-charge : uses R k j ≡ true → Sound (device R k) × ((k < 8) × ((getD w (8 + k) 0 ≤ device R k .pw * getD w k 0) × ((getD w k 0 ≤ s) × ((s + run R j ≤ 4096) × (run R j ≤ getD w (16 + k) 0)))))
     unfolding vertexOf
     may-charge u =
-        (few-device, (rw (paid-was, end-was) (held .settled .cheap k b), (rw end-was (held .settled .ended k b), (omega (arith, fit .fits, ok .few-ticks), tick-was u))))
+        (ok .sound k b, (few-device, (rw (paid-was, end-was) (held .settled .cheap k b), (rw end-was (held .settled .ended k b), (omega (arith, fit .fits, ok .few-ticks), tick-was u)))))
 
   module _ (w : List ℕ) (p : Put R j s base (R .devices .count) w) where
     placed-now : placedOf w ≡ set (placedOf l) j true

@@ -3,39 +3,53 @@ use crate::Cells;
 use base::JobNumber;
 use device::Device;
 use flat::Flat;
+use flat::deep_power;
 use flat::device_count;
 use flat::device_of;
 use flat::horizon_of;
 use flat::is_used;
 use flat::numbers::wide;
+use flat::work_power;
 ghost use mathlib.Core.Path.{_≡_};
-ghost use Prim.Native.Nat.{_+_, _*_, _≤_};
+ghost use Prim.Native.Nat.{_+_, _-_, _*_, _<_, _≤_};
 ghost use Rattle.device.specs.Row.{Sound};
-ghost use Rattle.schedule.specs.Quantities.{Valid};
+ghost use Rattle.schedule.specs.Quantities.{Valid, device};
 ghost use Rattle.flat.specs.Flat.{recorderOf};
-ghost use Rattle.vertex.specs.Vertices.{placeAt, closeOf, closed, floorOf, floor};
+ghost use Rattle.vertex.specs.Vertices.{placeAt, closeOf, closed, floor};
 ghost use Rattle.vertex.specs.Layout.{vertexOf, nextFloor};
 ghost use Rattle.vertex.specs.Sums.{Holds, Fitting};
 
-// The floor of device d: what it has cost by the end of its last use, and from there on at work for its ticks to come and in its deepest sleep for all others.
-fn device_floor(d: Device, h: u32, paid: u32, end: u32, ahead: u32) -> u32
-    requires { ⌜ (paid ≤ d .pw * end) × ((end + ahead ≤ h) × (h ≤ 4096)) ⌝ }
-    ensures { λ x. ⌜ (x ≡ floorOf d h paid end ahead) × (x ≤ 268431360) ⌝ }
+// The floor of a device by its powers at work and in its deepest sleep: what it has cost by the end of its last use, and from there on at work for its ticks to
+// come and in its deepest sleep for all others.
+fn device_floor(work: u16, deep: u16, h: u32, paid: u32, end: u32, ahead: u32) -> u32
+    requires { ⌜ (paid ≤ work * end) × ((end + ahead ≤ h) × (h ≤ 4096)) ⌝ }
+    ensures { λ x. ⌜ (x ≡ paid + (work * ahead + deep * (h - end - ahead))) × (x ≤ 268431360) ⌝ }
 {
     let idle = h - end - ahead;
-    paid + (wide(d.pw) * ahead + wide(device::deep_power(d)) * idle)
+    paid + (wide(work) * ahead + wide(deep) * idle)
 }
 
-// The same once a job is placed at s, if it uses the device: its ticks are among those to come.
-fn next_floor(used: bool, d: Device, h: u32, paid: u32, end: u32, ahead: u32, s: u32) -> u32
-    requires { ⌜ Sound d × ((paid ≤ d .pw * end) × ((end ≤ s) × ((s + ahead ≤ h) × (h ≤ 4096)))) ⌝ }
-    ensures { λ x. ⌜ (x ≡ nextFloor used d h paid end ahead s) × (x ≤ 268431360) ⌝ }
+// The same for device k once a job is placed at s, if it uses the device: its ticks are among those to come. Only a gap wants all of the device's figures.
+fn next_floor(
+    r: &Flat,
+    k: usize,
+    used: bool,
+    h: u32,
+    paid: u32,
+    end: u32,
+    ahead: u32,
+    s: u32,
+) -> u32
+    requires { ⌜ (k < 8) × (Sound (device (recorderOf (now r)) k) × ((paid ≤ device (recorderOf (now r)) k .pw * end) × ((end ≤ s) × ((s + ahead ≤ h) × (h ≤ 4096))))) ⌝ }
+    ensures { λ x. ⌜ (x ≡ nextFloor used (device (recorderOf (now (r .entry))) k) h paid end ahead s) × (x ≤ 268431360) ⌝ }
 {
+    let work = work_power(r, k);
+    let deep = deep_power(r, k);
     if used {
-        let gap = device::gap_energy(d, (s - end) as u16);
-        return device_floor(d, h, paid + gap, s, ahead);
+        let gap = device::gap_energy(device_of(r, k), (s - end) as u16);
+        return device_floor(work, deep, h, paid + gap, s, ahead);
     }
-    device_floor(d, h, paid, end, ahead)
+    device_floor(work, deep, h, paid, end, ahead)
 }
 
 // The floor of the child that places job j at s.
@@ -49,8 +63,7 @@ pub fn floor_of(r: &Flat, v: &Cells, j: JobNumber, s: u32) -> u32
     let mut k = 0;
     while k < m {
         let used = is_used(r, k, j.0);
-        let d = device_of(r, k);
-        sum += next_floor(used, d, h, v[8 + k], v[k], v[16 + k], s);
+        sum += next_floor(r, k, used, h, v[8 + k], v[k], v[16 + k], s);
         k += 1;
     }
     sum
@@ -58,7 +71,7 @@ pub fn floor_of(r: &Flat, v: &Cells, j: JobNumber, s: u32) -> u32
 
 // What device d costs over the whole round, where no job is left.
 fn device_close(d: Device, h: u32, paid: u32, end: u32) -> u32
-    requires { ⌜ (paid ≤ d .pw * end) × ((end ≤ h) × (h ≤ 4096)) ⌝ }
+    requires { ⌜ Sound d × ((paid ≤ d .pw * end) × ((end ≤ h) × (h ≤ 4096))) ⌝ }
     ensures { λ x. ⌜ (x ≡ closeOf d h paid end) × (x ≤ 268431360) ⌝ }
 {
     paid + device::gap_energy(d, (h - end) as u16)

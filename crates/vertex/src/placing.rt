@@ -14,6 +14,7 @@ ghost use mathlib.Core.Bool.{cond};
 ghost use Prim.Native.Nat.{_+_, _*_, _<_, _≤_};
 ghost use lib.ListN.{getD};
 ghost use Rattle.base.specs.Sums.{sum};
+ghost use Rattle.device.specs.Row.{Sound};
 ghost use Rattle.schedule.specs.Quantities.{Valid, jobs, run};
 ghost use Rattle.schedule.specs.Visiting.{ticks};
 ghost use Rattle.flat.specs.Flat.{recorderOf};
@@ -32,7 +33,7 @@ pub fn mark(w: &mut Cells, j: JobNumber, s: u32)
 
 // A job that starts at s and runs for c ticks, charged to device k, which is d.
 fn charge(w: &mut Cells, d: Device, k: usize, s: u32, c: u32)
-    requires { ⌜ (k < 8) × ((getD (now w) (8 + k) 0 ≤ d .pw * getD (now w) k 0) × ((getD (now w) k 0 ≤ s) × ((s + c ≤ 4096) × (c ≤ getD (now w) (16 + k) 0)))) ⌝ }
+    requires { ⌜ Sound d × ((k < 8) × ((getD (now w) (8 + k) 0 ≤ d .pw * getD (now w) k 0) × ((getD (now w) k 0 ≤ s) × ((s + c ≤ 4096) × (c ≤ getD (now w) (16 + k) 0))))) ⌝ }
     ensures { λ _. ⌜ now (w .exit) ≡ put d k s c (now (w .entry)) ⌝ }
 {
     let end = w[k];

@@ -22,7 +22,7 @@ gap-energy-requires c κs = search needs
 most : (c : tie.After-gap-energy) → c .before .args .paid + c .gap-energy .result ≤ 268431360
 most c =
     let a = c .before .args in
-    device-most _ (a .h) (closing-fits (a .d .pw) (a .paid) (a .end) (a .h) (omega arith) (c .before .pre .0) (c .before .pre .1 .0) (c .gap-energy .result) (c .gap-energy .ensures .1)) (c .before .pre .1 .1)
+    device-most _ (a .h) (closing-fits (a .d .pw) (a .paid) (a .end) (a .h) (omega arith) (c .before .pre .1 .0) (c .before .pre .1 .1 .0) (c .gap-energy .result) (c .gap-energy .ensures .1)) (c .before .pre .1 .1 .1)
 
 add-result : tie.Need-add-result
 add-result c = record { fits = omega (arith, most c) }

@@ -35,9 +35,6 @@ loop-holds c = (omega arith, omega (arith, c .device-count .ensures, c .before .
 is-used-requires : tie.Need-is-used-requires Inv-loop μ-loop
 is-used-requires c κs = (omega arith, omega (arith, c .before .before .before .before .before .pre .1 .1 .known, c .before .before .before .before .before .pre .0 .few-jobs))
 
-device-of-requires : tie.Need-device-of-requires Inv-loop μ-loop
-device-of-requires c κs = omega arith
-
 add-next-floor : tie.Need-add-next-floor Inv-loop μ-loop
 add-next-floor c = omega arith
 
@@ -63,14 +60,18 @@ element-copy-out-next-floor-3 : tie.Need-element-copy-out-next-floor-3 Inv-loop 
 element-copy-out-next-floor-3 c = omega arith
 
 next-floor-requires : tie.Need-next-floor-requires Inv-loop μ-loop
-next-floor-requires c κs = rw (c .before .before .before .device-of .ensures, c .before .before .before .before .before .before .before .before .wide .ensures .0, c .before .before .before .before .before .before .before .before .before .horizon-of .ensures) (may-floor _ (c .before .before .before .before .before .before .before .before .before .before .pre .0) _ _ _ (c .before .before .before .before .before .before .before .before .before .before .pre .1 .0) (c .before .before .before .before .before .before .before .before .before .before .pre .1 .1) (c .before .before .before .before .before .before .loop .k) (omega (arith, c .before .before .before .before .before .loop-test .taken, c .before .before .before .before .before .before .before .device-count .ensures)))
+next-floor-requires c κs =
+    let l = c .before .before .before .before .before in
+    let start = l .before .before .before .before in
+    rw (l .before .before .wide .ensures .0, l .before .before .before .horizon-of .ensures)
+    (may-floor _ (start .pre .0) _ _ _ (start .pre .1 .0) (start .pre .1 .1) (l .loop .k) (omega (arith, c .before .before .before .before .loop-test .taken, l .before .device-count .ensures)))
 
 -- The sum with the device at hand.
 more :
-    (c : tie.After-next-floor Inv-loop μ-loop) → let l = c .before .before .before .before .before .before .before .loop in
+    (c : tie.After-next-floor Inv-loop μ-loop) → let l = c .before .before .before .before .before .before .loop in
     (l .sum + c .next-floor .result ≤ 268431360 * (l .k + 1)) × (l .sum + c .next-floor .result ≤ 2147450880)
 more c =
-    let l = c .before .before .before .before .before .before .before .loop in
+    let l = c .before .before .before .before .before .before .loop in
     devices-more (l .sum) (l .k) (c .next-floor .result) (l .inv .3) (omega arith) (c .next-floor .ensures .1)
 
 add-sum : tie.Need-add-sum Inv-loop μ-loop
@@ -84,12 +85,13 @@ loop-less c = omega arith
 
 loop-again : tie.Need-loop-again Inv-loop μ-loop
 loop-again c =
-    let l = c .before .before .before .before .before .before .before .loop in
-    let start = c .before .before .before .before .before .before .before .before .before .before .before in
+    let at = c .before .before .before .before .before .before in
+    let l = at .loop in
+    let start = at .before .before .before .before in
     let R = recorderOf (start .args .r .now) in
     let child = placeAt R (vertexOf (start .args .v .now) (start .args .s)) (start .args .j .0) (start .args .s) in
-    let few : l .k < R .devices .count = omega (arith, c .before .before .before .before .before .before .loop-test .taken, c .before .before .before .before .before .before .before .before .device-count .ensures) in
-    let here : c .next-floor .result ≡ floorAt R child (l .k) = rw (c .before .before .before .before .before .is-used .ensures, c .before .before .before .before .device-of .ensures, c .before .before .before .before .before .before .before .before .before .wide .ensures .0, c .before .before .before .before .before .before .before .before .before .before .horizon-of .ensures) at (c .next-floor .ensures .0) ∙ floor-step R (start .pre .0) _ _ _ (start .pre .1 .0) (start .pre .1 .1) (l .k) few in
+    let few : l .k < R .devices .count = omega (arith, c .before .before .before .before .before .loop-test .taken, at .before .device-count .ensures) in
+    let here : c .next-floor .result ≡ floorAt R child (l .k) = rw (c .before .before .before .before .is-used .ensures, at .before .before .wide .ensures .0, at .before .before .before .horizon-of .ensures) at (c .next-floor .ensures .0) ∙ floor-step R (start .pre .0) _ _ _ (start .pre .1 .0) (start .pre .1 .1) (l .k) few in
     (omega arith, l .inv .1, omega (arith, here, l .inv .2, sum-more (l .k) (floorAt R child)), more c .0)
 
 returns : tie.Need-returns Inv-loop μ-loop
@@ -111,7 +113,6 @@ floor-of-spec =
     device-count-requires
     loop-holds
     is-used-requires
-    device-of-requires
     add-next-floor
     mul-next-floor
     element-copy-out-next-floor

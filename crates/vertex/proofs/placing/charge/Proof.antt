@@ -55,7 +55,7 @@ most c =
     omega (
       arith,
       product-fits (c .wide .result) (a .c) (omega arith) (omega arith),
-      closing-fits (a .d .pw) (getD (a .w .now) (8 + a .k) 0) (getD (a .w .now) (a .k) 0) (a .s) (omega arith) (pre .1 .0) (pre .1 .1 .0) (c .before .gap-energy .result) (c .before .gap-energy .ensures .1),
+      closing-fits (a .d .pw) (getD (a .w .now) (8 + a .k) 0) (getD (a .w .now) (a .k) 0) (a .s) (omega arith) (pre .1 .1 .0) (pre .1 .1 .1 .0) (c .before .gap-energy .result) (c .before .gap-energy .ensures .1),
     )
 
 mul-w : tie.Need-mul-w
