@@ -11,18 +11,19 @@ use lib.Dec.{eqb}
 use borrow.Author.Tests.{leb-false, eqb-true, eqb-false}
 use Rattle.base.specs.Bytes.{byteAt, pairAt}
 use Rattle.base.specs.Lists.{padded}
-use Rattle.base.proofs.Arrays.{getD-padded, getD-held, getD-upTo, length-upTo}
+use Rattle.base.proofs.Arrays.{getD-held, getD-upTo, length-upTo}
 use Rattle.base.proofs.Cases.{cond-cases}
 use Rattle.base.proofs.Every.{Every, every-at}
 use Rattle.base.proofs.Records.{first-each}
 use Rattle.device.specs.Row.{Sound}
+use Rattle.device.proofs.Rules.{first-sound}
 use Rattle.schedule.specs.declared.Recorder.{Recorder}
 use Rattle.schedule.specs.Quantities.{noJob, noDevice, Valid}
 use Rattle.request.specs.declared.Request.{Request}
 use Rattle.request.specs.declared.Section.the-variants.{DeviceRecords}
 use Rattle.tables.specs.Records.{deviceAt}
 use Rattle.tables.specs.Layout.{taskCount, tasksPlace, jobsPlace}
-use Rattle.request.specs.Format.{Reading, refused, accepted, deviceOf, deviceTable, recordTable, recordFault, horizonOf, jobsOf, countOf, faultOf, horizonIn, devicesIn, jobsIn, emptyJob, recorderIn, readOf, handedOn}
+use Rattle.request.specs.Format.{Reading, refused, accepted, deviceOf, deviceTable, recordTable, recordFault, horizonOf, jobsOf, countOf, faultOf, horizonIn, devicesIn, jobsIn, emptyDevice, emptyJob, recorderIn, readOf, handedOn}
 use Rattle.request.proofs.Checked.{record-clear}
 use Rattle.request.proofs.Faultless.{Faultless, faultless, length-jobs, jobs-end}
 use Rattle.request.proofs.Fitting.{Fits, listed-fit, unfolded-fit}
@@ -36,17 +37,13 @@ unfolding recordTable deviceTable
 device-sound s at e =
     let d = deviceAt s at in
     let f = record-clear s DeviceRecords at (tt, (tt, (tt, tt))) e in
-    record {
-      moves = pos-of-ne-zero (eqb-false (d .t) 0 (f .0));
-      sleeps-cheaper = leb-false (d .p0) (d .ps) (f .1 .0);
-      works-dearer = leb-false (d .pw) (d .p0) (f .1 .1 .0);
-    }
+    first-sound (d .t) (d .pw) (d .ps) (d .p0) (pos-of-ne-zero (eqb-false (d .t) 0 (f .0))) (leb-false (d .p0) (d .ps) (f .1 .0)) (leb-false (d .pw) (d .ps) (f .1 .1 .0))
 
 module _ (s : List ℕ) (ok : Faultless s) where
-  devices-sound : (k : ℕ) → k < length (devicesIn s) → Sound (getD (padded 8 noDevice (devicesIn s)) k noDevice)
+  devices-sound : (k : ℕ) → k < length (devicesIn s) → Sound (getD (padded 8 emptyDevice (devicesIn s)) k noDevice)
   devices-sound k l =
       let b : k < byteAt s 2 = rw length-upTo at l in
-      rw (getD-padded, getD-upTo _ _ _ _ b) (device-sound s (3 + k * 7) (first-each (recordFault s DeviceRecords) 7 (byteAt s 2) 3 k b (ok .device-records)))
+      rw (getD-held 8 emptyDevice (devicesIn s) k noDevice l, getD-upTo _ _ _ _ b) (device-sound s (3 + k * 7) (first-each (recordFault s DeviceRecords) 7 (byteAt s 2) 3 k b (ok .device-records)))
 
   -- Each period divides a horizon that tasks give.
   periods-divide : eqb (taskCount s) 0 ≡ false → (i : ℕ) → i < taskCount s → pairAt s (tasksPlace s + 1 + i * 5) ∣ horizonIn s

@@ -14,7 +14,6 @@ use Rattle.schedule.specs.declared.Job.{Job}
 use Rattle.schedule.specs.declared.Jobs.{Jobs}
 use Rattle.schedule.specs.declared.Devices.{Devices}
 use Rattle.schedule.specs.declared.Recorder.{Recorder}
-use Rattle.schedule.specs.Quantities.{noDevice}
 use Rattle.tables.specs.declared.DeviceRecord.{DeviceRecord}
 use Rattle.tables.specs.declared.TaskRecord.{TaskRecord}
 use Rattle.tables.specs.declared.JobRecord.{JobRecord}
@@ -39,8 +38,9 @@ bit set k = eqb (set / 2 ^ k % 2) 1
 abbrev pub setOf : ℕ → List Bool
 setOf set = upTo (bit set) 8
 
+-- The device of a record (rule 3): both moves have the same time and power, and there is one sleep level.
 abbrev pub deviceOf : DeviceRecord → Device
-deviceOf d = record { t = d .t; pw = d .pw; ps = d .ps; p0 = d .p0 }
+deviceOf d = record { shut = d .t; wake = d .t; pw = d .pw; pd = d .p0; pu = d .p0; levels = 1; powers = d .ps ∷ 0 ∷ 0 ∷ 0 ∷ [] }
 
 abbrev pub listedJob : JobRecord → Job
 listedJob j = record { release = j .release; deadline = j .deadline; run = j .run; uses = setOf (j .set) }
@@ -51,7 +51,7 @@ unfoldable pub deviceTable : DeviceRecord → List Refusal
 deviceTable d =
     (eqb (d .t) 0 ⇒ 4)
     ∷ (leb (d .p0) (d .ps) ⇒ 5)
-    ∷ (leb (d .pw) (d .p0) ⇒ 5)
+    ∷ (leb (d .pw) (d .ps) ⇒ 5)
     ∷ []
 
 -- A device set names a device that a file with n devices lacks: it has a bit from n on.
@@ -185,11 +185,14 @@ abbrev pub jobsIn : List ℕ → List Job
 jobsIn s = jobsOf s (taskCount s) (tasksPlace s + 1) (jobsPlace s)
 
 -- A list of devices and one of jobs in their arrays. The places that hold none are all 0.
+abbrev pub emptyDevice : Device
+emptyDevice = record { shut = 0; wake = 0; pw = 0; pd = 0; pu = 0; levels = 0; powers = replicate 4 0 }
+
 abbrev pub emptyJob : Job
 emptyJob = record { release = 0; deadline = 0; run = 0; uses = replicate 8 false }
 
 abbrev pub devicesHeld : List Device → Devices
-devicesHeld l = record { count = length l; list = padded 8 noDevice l }
+devicesHeld l = record { count = length l; list = padded 8 emptyDevice l }
 
 abbrev pub jobsHeld : List Job → Jobs
 jobsHeld l = record { count = length l; list = padded 16 emptyJob l }

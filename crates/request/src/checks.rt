@@ -18,7 +18,7 @@ fn device_check(d: DeviceRecord) -> u8
     if d.p0 <= d.ps {
         return 5;
     }
-    if d.pw <= d.p0 {
+    if d.pw <= d.ps {
         return 5;
     }
     0

@@ -17,10 +17,13 @@ fn no_devices() -> Devices
     ensures { λ r. ⌜ r ≡ devicesHeld [] ⌝ }
 {
     let none = Device {
-        t: 0,
+        shut: 0,
+        wake: 0,
         pw: 0,
-        ps: 0,
-        p0: 0,
+        pd: 0,
+        pu: 0,
+        levels: 0,
+        powers: [0; 4],
     };
     Devices {
         count: 0,

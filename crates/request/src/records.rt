@@ -26,14 +26,18 @@ pub(crate) fn set_of(set: u8) -> [bool; 8]
     uses
 }
 
+// Both moves have the same time and power, and there is one sleep level (rule 3).
 pub(crate) fn device_of(d: DeviceRecord) -> Device
     ensures { λ r. ⌜ r ≡ deviceOf d ⌝ }
 {
     Device {
-        t: d.t,
+        shut: d.t,
+        wake: d.t,
         pw: d.pw,
-        ps: d.ps,
-        p0: d.p0,
+        pd: d.p0,
+        pu: d.p0,
+        levels: 1,
+        powers: [d.ps, 0, 0, 0],
     }
 }
 

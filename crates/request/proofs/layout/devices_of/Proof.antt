@@ -6,15 +6,14 @@ use Prim.Native.Nat.{ℕ, _≤_, _+_, _-_, _*_}
 use native.Mathlib.Omega.{arith}
 use Rattle.base.specs.Lists.{upTo, padded}
 use Rattle.base.proofs.Arrays.{upTo-fill, length-upTo}
-use Rattle.schedule.specs.Quantities.{noDevice}
 use Rattle.tables.specs.Records.{deviceAt}
-use Rattle.request.specs.Format.{deviceOf}
+use Rattle.request.specs.Format.{deviceOf, emptyDevice}
 use Rattle.request.proofs.layout.devices_of.Statement.{statement}
 use Rattle.request.proofs.layout.devices_of.Tie as tie
 
 abbrev Inv-loop : tie.InvT-loop
 Inv-loop s n devices₀ k₀ devices k =
-    (k ≤ n) × (devices ≡ record { count = 0; list = padded 8 noDevice (upTo (λ i. deviceOf (deviceAt s (3 + i * 7))) k) })
+    (k ≤ n) × (devices ≡ record { count = 0; list = padded 8 emptyDevice (upTo (λ i. deviceOf (deviceAt s (3 + i * 7))) k) })
 
 abbrev μ-loop : tie.MeasureT-loop
 μ-loop s n devices₀ k₀ devices k = n - k
@@ -54,7 +53,7 @@ loop-again : tie.Need-loop-again Inv-loop μ-loop
 loop-again c =
     let l = c .before .before .before .loop in
     let s = c .before .before .before .before .before .before .args .s .now in
-    (omega arith, rw (c .device-of .ensures, c .before .device-at .ensures, l .inv .1, upTo-fill 8 noDevice (λ (i : ℕ). deviceOf (deviceAt s (3 + i * 7))) (l .k) (omega arith)))
+    (omega arith, rw (c .device-of .ensures, c .before .device-at .ensures, l .inv .1, upTo-fill 8 emptyDevice (λ (i : ℕ). deviceOf (deviceAt s (3 + i * 7))) (l .k) (omega arith)))
 
 returns : tie.Need-returns Inv-loop μ-loop
 returns c =
