@@ -8,6 +8,7 @@ use crate::{damage, faults, listing, valid};
 #[derive(Clone, Copy, Debug, PartialEq, Eq, PartialOrd, Ord)]
 pub enum Kind {
     Jobs,
+    Dear,
     Tasks,
     Tight,
     OverBudget,
@@ -27,6 +28,7 @@ impl Kind {
     pub fn name(self) -> &'static str {
         match self {
             Kind::Jobs => "valid job lists",
+            Kind::Dear => "devices dear to move",
             Kind::Tasks => "valid task lists",
             Kind::Tight => "tight windows, aimed at 19",
             Kind::OverBudget => "loose jobs, aimed at 20",
@@ -53,8 +55,9 @@ pub struct Case {
 
 /// The kinds in turn, so that any hundred cases have all of them. A case over the budget costs a
 /// million vertices on both sides, so there is only one.
-const ROUND: [(Kind, u64); 14] = [
-    (Kind::Jobs, 22),
+const ROUND: [(Kind, u64); 15] = [
+    (Kind::Jobs, 14),
+    (Kind::Dear, 8),
     (Kind::Tasks, 10),
     (Kind::Tight, 8),
     (Kind::OverBudget, 1),
@@ -83,8 +86,12 @@ fn kind_of(number: u64) -> Kind {
 
 /// The case of a number: the same for the same seed, whatever was drawn before.
 pub fn draw(seed: u64, number: u64) -> Case {
+    draw_of(kind_of(number), seed, number)
+}
+
+/// Of one kind only.
+pub fn draw_of(kind: Kind, seed: u64, number: u64) -> Case {
     let mut random = Random::new(seed, number);
-    let kind = kind_of(number);
     let file = loop {
         let file = file_of(&mut random, kind);
         if kind == Kind::OverBudget || read(&file).map_or(true, |request| is_small(&request)) {
@@ -98,6 +105,7 @@ pub fn draw(seed: u64, number: u64) -> Case {
 fn file_of(random: &mut Random, kind: Kind) -> Vec<u8> {
     match kind {
         Kind::Jobs => valid::job_list(random).bytes(),
+        Kind::Dear => valid::dear_list(random).bytes(),
         Kind::Tasks => accepted_tasks(random).bytes(),
         Kind::Tight => tight(random).bytes(),
         Kind::OverBudget => over_budget(random).bytes(),
@@ -252,7 +260,13 @@ mod tests {
     /// or by one that stands before it in the file.
     #[test]
     fn kinds_are_what_they_are_called() {
-        let valid = [Kind::Jobs, Kind::Tasks, Kind::Tight, Kind::NearLimits];
+        let valid = [
+            Kind::Jobs,
+            Kind::Dear,
+            Kind::Tasks,
+            Kind::Tight,
+            Kind::NearLimits,
+        ];
         for number in 0..300 {
             let case = draw(11, number);
             let read = read(&case.file);

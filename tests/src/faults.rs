@@ -75,13 +75,14 @@ fn a_job<'a>(random: &mut Random, tables: &'a mut Tables) -> &'a mut JobRecord {
     &mut tables.jobs[place]
 }
 
-/// Equal neighbours are the nearest faults; the order turned round is the farthest.
+/// Moving or working at the power of sleep is the nearest fault; below it, the farthest.
 fn bad_powers(random: &mut Random, tables: &mut Tables) {
-    let choice = random.within(1, 3);
+    let choice = random.within(1, 4);
     let device = a_device(random, tables);
     match choice {
         1 => device.moving = device.sleeping,
-        2 => device.moving = device.working,
+        2 => device.working = device.sleeping,
+        3 => std::mem::swap(&mut device.moving, &mut device.sleeping),
         _ => std::mem::swap(&mut device.working, &mut device.sleeping),
     }
 }

@@ -1,11 +1,12 @@
-//! The oracle itself, held to the figures P1 to P12 (crates/figures) and to a few worked out by hand
-//! or taken from the two papers that docs/RULES.md names.
+//! The oracle itself, held to the figures P1 to P12 and E1 to E6 (crates/figures) and to a few worked
+//! out by hand or taken from the two papers that docs/RULES.md names.
 
 use crate::expect::{search, text, Outcome, BUDGET};
 use crate::listing::{energy, uses};
-use crate::request::{read, Request};
-use crate::rows::{least_row, Energies};
-use crate::tables::{device_a, job, task, JobRecord, Tables, TaskRecord};
+use crate::request::{read, Device, Request};
+use crate::rows::{least_row, Energies, Use};
+use crate::tables::{device_a, job, task, DeviceRecord, JobRecord, Tables, TaskRecord};
+use crate::visit::visit_by;
 
 fn listed(horizon: u16, devices: usize, jobs: Vec<JobRecord>) -> Vec<u8> {
     Tables {
@@ -187,4 +188,78 @@ fn x4_table_2_of_the_io_paper() {
     ];
     let (outcome, _, energy) = planned(&listed(45, 5, jobs));
     assert_eq!((energy, outcome.count), (497, 660));
+}
+
+/// A device of T 1, Pw 5 and Ps 1, alone.
+fn alone(horizon: u16, moving: u16) -> Vec<u8> {
+    Tables {
+        horizon,
+        devices: vec![DeviceRecord {
+            moving,
+            ..device_a()
+        }],
+        ..Tables::default()
+    }
+    .bytes()
+}
+
+/// On equal cost, 20 in the first and 10 in the third, the device works.
+#[test]
+fn e1_to_e3_moving_costs_more_than_work_or_as_much() {
+    assert_eq!(row(&alone(4, 9), &[]), ("WWWW".to_string(), 20));
+    assert_eq!(row(&alone(5, 9), &[]), ("DSSSU".to_string(), 21));
+    assert_eq!(row(&alone(2, 5), &[]), ("WW".to_string(), 10));
+}
+
+#[test]
+fn e4_and_e5_moving_or_working_at_the_power_of_sleep() {
+    assert_eq!(read(&alone(5, 1)), Err(5));
+    let idle = DeviceRecord {
+        working: 1,
+        moving: 5,
+        ..device_a()
+    };
+    let tables = Tables {
+        horizon: 5,
+        devices: vec![idle],
+        ..Tables::default()
+    };
+    assert_eq!(read(&tables.bytes()), Err(5));
+}
+
+/// Each gap of at least 2T ticks slept, whatever that costs: the least energy only while moving costs
+/// less than work.
+fn slept_from_2t(device: &Device, uses: &[Use], length: u32) -> u64 {
+    let moves = 2 * device.transition;
+    let gap = |ticks: u32| match ticks.checked_sub(moves) {
+        None => ticks * device.working,
+        Some(asleep) => moves * device.moving + asleep * device.sleeping,
+    };
+    let (mut energy, mut at) = (0, 0);
+    for &(from, to) in uses.iter().chain(&[(length, length)]) {
+        energy += gap(from - at) + (to - from) * device.working;
+        at = to;
+    }
+    energy.into()
+}
+
+/// Two devices, one of which is dear to move. With start 1 everything works, at 60. With start 2 device A
+/// sleeps before it, at 56; but a floor that charges the other for sleeping too comes to 64.
+#[test]
+fn e6_a_floor_that_sleeps_from_2t_loses_the_best() {
+    let dear = DeviceRecord {
+        moving: 9,
+        ..device_a()
+    };
+    let file = Tables {
+        horizon: 6,
+        devices: vec![dear, device_a()],
+        tasks: Vec::new(),
+        jobs: vec![job(1, 5, 2, 0b11), job(4, 6, 2, 0b11)],
+    }
+    .bytes();
+    let (outcome, starts, energy) = planned(&file);
+    assert_eq!((starts, energy, outcome.count), (vec![2, 4], 56, 7));
+    let wrong = visit_by(&read(&file).unwrap(), u64::MAX, slept_from_2t);
+    assert_eq!((wrong.best, wrong.count), (Some(60), 6));
 }

@@ -1,7 +1,7 @@
-//! Cases that are not left to chance: the figures P1 to P12 as files, and counts that meet the budget
-//! exactly or pass it by one.
+//! Cases that are not left to chance: the figures P1 to P12 and E1 to E6 as files, and counts that meet
+//! the budget exactly or pass it by one.
 
-use crate::tables::{device_a, job, task, JobRecord, Tables, TaskRecord};
+use crate::tables::{device_a, job, task, DeviceRecord, JobRecord, Tables, TaskRecord};
 
 pub struct Fixed {
     pub name: &'static str,
@@ -57,6 +57,37 @@ fn figures() -> Vec<(&'static str, Vec<u8>)> {
     ]
 }
 
+/// Device A with other powers, alone or beside A.
+fn dear_moves() -> Vec<(&'static str, Vec<u8>)> {
+    let device = |working, moving| DeviceRecord {
+        working,
+        moving,
+        ..device_a()
+    };
+    let alone = |horizon, working, moving| {
+        Tables {
+            horizon,
+            devices: vec![device(working, moving)],
+            ..Tables::default()
+        }
+        .bytes()
+    };
+    let beside = Tables {
+        horizon: 6,
+        devices: vec![device(5, 9), device_a()],
+        tasks: Vec::new(),
+        jobs: vec![job(1, 5, 2, 0b11), job(4, 6, 2, 0b11)],
+    };
+    vec![
+        ("E1", alone(4, 5, 9)),
+        ("E2", alone(5, 5, 9)),
+        ("E3", alone(2, 5, 5)),
+        ("E4", alone(5, 5, 1)),
+        ("E5", alone(5, 1, 5)),
+        ("E6", beside.bytes()),
+    ]
+}
+
 /// A device that no job uses is worth its sleep in the floor and more in any plan, so no floor ever
 /// cuts. Two jobs of one tick with m and n starts, k of them shared, then give 1 vertex for the
 /// root, m + n for one job placed, m n - k for both: (m + 1)(n + 1) - k in all.
@@ -103,6 +134,7 @@ fn eight_tasks() -> Vec<u8> {
 
 pub fn all() -> Vec<Fixed> {
     let mut all = figures();
+    all.extend(dear_moves());
     all.extend(budget_edges());
     all.push(("eight tasks", eight_tasks()));
     all.into_iter()

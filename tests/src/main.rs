@@ -172,6 +172,9 @@ fn work(arguments: &Arguments, next: &AtomicU64, findings: &Mutex<Findings>) {
         findings
             .tally
             .add(case.kind, outcome.number, case.pieces.len());
+        if let Some((request, schedule)) = &outcome.plan {
+            findings.tally.rows.add(request, &schedule.starts);
+        }
         findings.mismatches.extend(mismatch);
         if findings.mismatches.len() >= MOST_MISMATCHES {
             return;

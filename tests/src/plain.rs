@@ -26,11 +26,11 @@ struct Device {
 impl Device {
     /// The least energy of a stretch without use between two that work.
     fn gap(&self, ticks: u32) -> u32 {
-        let moves = 2 * self.transition;
+        let (moves, worked) = (2 * self.transition, ticks * self.working);
         if ticks < moves {
-            ticks * self.working
+            worked
         } else {
-            moves * self.moving + (ticks - moves) * self.sleeping
+            worked.min(moves * self.moving + (ticks - moves) * self.sleeping)
         }
     }
 }

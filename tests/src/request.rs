@@ -132,7 +132,7 @@ fn read_device(cursor: &mut Cursor) -> Result<Device, Refusal> {
     if device.transition == 0 {
         return Err(4);
     }
-    if !(device.sleeping < device.moving && device.moving < device.working) {
+    if !(device.sleeping < device.moving && device.sleeping < device.working) {
         return Err(5);
     }
     Ok(device)

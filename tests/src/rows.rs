@@ -1,69 +1,125 @@
-//! The legal row of least energy, by dynamic programming over the rules of a legal row (31 to 35).
+//! The row given (rule 37), by dynamic programming over the rules of a legal row (31 to 35).
 //!
-//! The program under test fills gaps by a rule about their length. This file must not know that
-//! rule: it only steps from tick to tick through every state that the rules allow, and keeps the
-//! least energy with which each state can be reached.
+//! The program under test fills gaps by a rule about their length and their cost. This file must not
+//! know that rule: it only steps from tick to tick through every state that the rules allow, and keeps
+//! the least energy with which each state can be reached, and of the ways that cost as little the
+//! fewest ticks in which the device moves.
 
 use crate::request::Device;
+use std::cmp::Ordering;
 use std::collections::HashMap;
 
 /// The ticks from the first number up to, not including, the second.
 pub type Use = (u32, u32);
 
-/// The least energy of a state that no legal row reaches. Adding to it saturates, so it stays.
-const IMPOSSIBLE: u64 = u64::MAX;
+/// The ways to a state that have the least energy: what they cost, and the fewest and the most ticks in
+/// which one of them moves.
+#[derive(Clone, Copy)]
+struct Ways {
+    energy: u64,
+    fewest: u64,
+    most: u64,
+}
 
-/// For each state after some tick, the least energy of the ticks so far. `down[n]` and `up[n]` are
-/// moves with n ticks left.
+impl Ways {
+    /// No legal row comes to the state. Adding to this energy saturates, so it stays.
+    const NONE: Ways = Ways {
+        energy: u64::MAX,
+        fewest: 0,
+        most: 0,
+    };
+
+    const BEGIN: Ways = Ways {
+        energy: 0,
+        fewest: 0,
+        most: 0,
+    };
+
+    /// Both kinds of ways lead here.
+    fn or(self, other: Ways) -> Ways {
+        match self.energy.cmp(&other.energy) {
+            Ordering::Less => self,
+            Ordering::Greater => other,
+            Ordering::Equal => Ways {
+                energy: self.energy,
+                fewest: self.fewest.min(other.fewest),
+                most: self.most.max(other.most),
+            },
+        }
+    }
+
+    /// A tick more, in which the device stays where it is.
+    fn stays(self, power: u32) -> Ways {
+        Ways {
+            energy: self.energy.saturating_add(u64::from(power)),
+            ..self
+        }
+    }
+
+    /// A tick more, in which it goes down or comes up.
+    fn moves(self, power: u32) -> Ways {
+        let after = self.stays(power);
+        Ways {
+            fewest: after.fewest + 1,
+            most: after.most + 1,
+            ..after
+        }
+    }
+
+    /// What rows are compared by: the energy, then the ticks of moving.
+    fn rank(self) -> (u64, u64) {
+        (self.energy, self.fewest)
+    }
+}
+
+/// For each state after some tick the ways there. `down[n]` and `up[n]` are moves with n ticks left.
 struct Column {
-    working: u64,
-    down: Vec<u64>,
-    asleep: u64,
-    up: Vec<u64>,
+    working: Ways,
+    down: Vec<Ways>,
+    asleep: Ways,
+    up: Vec<Ways>,
 }
 
 impl Column {
     fn impossible(device: &Device) -> Column {
         let ticks = device.transition as usize;
         Column {
-            working: IMPOSSIBLE,
-            down: vec![IMPOSSIBLE; ticks],
-            asleep: IMPOSSIBLE,
-            up: vec![IMPOSSIBLE; ticks],
+            working: Ways::NONE,
+            down: vec![Ways::NONE; ticks],
+            asleep: Ways::NONE,
+            up: vec![Ways::NONE; ticks],
         }
     }
 
     /// The device works just before tick 0.
     fn before_the_row(device: &Device) -> Column {
         Column {
-            working: 0,
+            working: Ways::BEGIN,
             ..Column::impossible(device)
         }
     }
 
     /// The device works just after the last tick: the row ends in W or with a whole block of U.
-    fn at_the_end(&self) -> u64 {
-        self.working.min(self.up[0])
+    fn at_the_end(&self) -> Ways {
+        self.working.or(self.up[0])
     }
 
     /// One tick on. A used tick can only be W.
     fn step(&self, device: &Device, used: bool) -> Column {
         let mut next = Column::impossible(device);
-        let working = u64::from(device.working);
-        next.working = self.working.min(self.up[0]).saturating_add(working);
+        next.working = self.working.or(self.up[0]).stays(device.working);
         if used {
             return next;
         }
-        let (moving, sleeping) = (u64::from(device.moving), u64::from(device.sleeping));
-        let down = self.down[0].min(self.asleep);
+        let down = self.down[0].or(self.asleep);
         let first = device.transition as usize - 1;
         for left in 0..first {
-            next.down[left] = self.down[left + 1].saturating_add(moving);
-            next.up[left] = self.up[left + 1].saturating_add(moving);
+            next.down[left] = self.down[left + 1].moves(device.moving);
+            next.up[left] = self.up[left + 1].moves(device.moving);
         }
-        next.down[first] = self.working.saturating_add(moving);
-        next.up[first] = down.saturating_add(moving);
-        next.asleep = down.saturating_add(sleeping);
+        next.down[first] = self.working.moves(device.moving);
+        next.up[first] = down.moves(device.moving);
+        next.asleep = down.stays(device.sleeping);
         next
     }
 }
@@ -74,13 +130,23 @@ fn used_ticks(uses: &[Use], length: u32) -> Vec<bool> {
         .collect()
 }
 
-/// The least energy of a legal row of the given length.
-pub fn least_energy(device: &Device, uses: &[Use], length: u32) -> u64 {
+fn ways(device: &Device, uses: &[Use], length: u32) -> Ways {
     let mut column = Column::before_the_row(device);
     for used in used_ticks(uses, length) {
         column = column.step(device, used);
     }
     column.at_the_end()
+}
+
+/// The least energy of a legal row of the given length.
+pub fn least_energy(device: &Device, uses: &[Use], length: u32) -> u64 {
+    ways(device, uses, length).energy
+}
+
+/// Whether the tie decides: a legal row that costs as little as the one given moves in more ticks.
+pub fn is_tied(device: &Device, uses: &[Use], length: u32) -> bool {
+    let ways = ways(device, uses, length);
+    ways.fewest < ways.most
 }
 
 /// Where a device stands after a tick, the moves with their ticks left.
@@ -102,7 +168,7 @@ impl State {
         }
     }
 
-    /// The state one tick earlier on the cheapest way here.
+    /// The state one tick earlier on the best way here.
     fn before(self, device: &Device, earlier: &Column) -> State {
         let first = device.transition as usize - 1;
         let down = (State::Down(0), earlier.down[0]);
@@ -111,15 +177,15 @@ impl State {
             State::Down(left) if left == first => State::Working,
             State::Down(left) => State::Down(left + 1),
             State::Up(left) if left < first => State::Up(left + 1),
-            State::Asleep | State::Up(_) => cheaper(down, (State::Asleep, earlier.asleep)),
+            State::Asleep | State::Up(_) => better(down, (State::Asleep, earlier.asleep)),
         }
     }
 }
 
-/// Both ways at one price would be two rows of least energy, which rule 37 rules out.
-fn cheaper(one: (State, u64), other: (State, u64)) -> State {
-    assert_ne!(one.1, other.1, "two rows of least energy");
-    if one.1 < other.1 {
+/// Two ways of one rank would be two rows that could be given, which rule 37 rules out.
+fn better(one: (State, Ways), other: (State, Ways)) -> State {
+    assert_ne!(one.1.rank(), other.1.rank(), "two rows to be given");
+    if one.1.rank() < other.1.rank() {
         one.0
     } else {
         other.0
@@ -127,13 +193,13 @@ fn cheaper(one: (State, u64), other: (State, u64)) -> State {
 }
 
 fn end_state(column: &Column) -> State {
-    cheaper(
+    better(
         (State::Working, column.working),
         (State::Up(0), column.up[0]),
     )
 }
 
-/// The only row of least energy, as its letters.
+/// The row given, as its letters.
 pub fn least_row(device: &Device, uses: &[Use], length: u32) -> String {
     let mut columns = vec![Column::before_the_row(device)];
     for used in used_ticks(uses, length) {
@@ -153,13 +219,22 @@ pub fn least_row(device: &Device, uses: &[Use], length: u32) -> String {
 /// one device all the time.
 pub struct Energies<'a> {
     devices: &'a [Device],
+    rule: Rule,
     known: Vec<HashMap<Vec<Use>, u64>>,
 }
 
+/// The energy of a device with these uses over so many ticks.
+pub type Rule = fn(&Device, &[Use], u32) -> u64;
+
 impl<'a> Energies<'a> {
     pub fn new(devices: &'a [Device]) -> Energies<'a> {
+        Energies::by(devices, least_energy)
+    }
+
+    pub fn by(devices: &'a [Device], rule: Rule) -> Energies<'a> {
         Energies {
             devices,
+            rule,
             known: vec![HashMap::new(); devices.len()],
         }
     }
@@ -170,7 +245,7 @@ impl<'a> Energies<'a> {
             return energy;
         }
         let length = uses[uses.len() - 1].1;
-        let energy = least_energy(&self.devices[device], uses, length);
+        let energy = (self.rule)(&self.devices[device], uses, length);
         self.known[device].insert(uses.to_vec(), energy);
         energy
     }
@@ -210,6 +285,10 @@ mod tests {
         row.iter().map(|letter| u64::from(power(letter))).sum()
     }
 
+    fn moves(row: &[u8]) -> usize {
+        row.iter().filter(|letter| b"DU".contains(letter)).count()
+    }
+
     /// Every word of four letters, one for each number below 4 to the length.
     fn words(length: u32) -> impl Iterator<Item = Vec<u8>> {
         let word = move |number: usize| -> Vec<u8> {
@@ -219,8 +298,8 @@ mod tests {
         (0..1 << (2 * length)).map(word)
     }
 
-    /// All legal rows of a length, written out, for one pattern of use.
-    fn check_pattern(device: &Device, pattern: u32, rows: &[Vec<u8>], length: u32) {
+    /// All legal rows of a length, written out, for one pattern of use. One if the tie decides.
+    fn check_pattern(device: &Device, pattern: u32, rows: &[Vec<u8>], length: u32) -> u64 {
         let used: Vec<bool> = (0..length).map(|tick| pattern >> tick & 1 == 1).collect();
         let uses: Vec<Use> = (0..length)
             .filter(|&tick| used[tick as usize])
@@ -229,17 +308,39 @@ mod tests {
         let legal = rows.iter().filter(|row| is_legal(row, device, &used));
         let least = legal.clone().map(|row| energy(row, device)).min().unwrap();
         let cheapest: Vec<&Vec<u8>> = legal.filter(|row| energy(row, device) == least).collect();
+        let fewest = cheapest.iter().map(|row| moves(row)).min().unwrap();
+        let (given, others): (Vec<&Vec<u8>>, Vec<&Vec<u8>>) =
+            cheapest.iter().partition(|row| moves(row) == fewest);
         assert_eq!(least_energy(device, &uses, length), least);
-        assert_eq!(cheapest, [least_row(device, &uses, length).as_bytes()]);
+        assert_eq!(given, [least_row(device, &uses, length).as_bytes()]);
+        assert_eq!(is_tied(device, &uses, length), !others.is_empty());
+        u64::from(!others.is_empty())
     }
 
     /// The steps from tick to tick, held to all rows that there are: the same least energy, and the
-    /// same row, which is the only one.
+    /// same row, which is the only one of those that moves least. Moving costs less than work, as much
+    /// and more; in 200 of 3,556 patterns the tie decides.
     #[test]
-    fn the_least_row_is_the_only_cheapest_of_all_legal_rows() {
+    fn the_row_given_is_the_only_one_of_least_energy_that_moves_least() {
+        let (mut patterns, mut ties) = (0, 0);
         for length in 1..=7 {
             let all: Vec<Vec<u8>> = words(length).collect();
-            for (transition, moving) in [(1, 3), (2, 2), (2, 4), (3, 3)] {
+            for (transition, moving) in [
+                (1, 3),
+                (1, 5),
+                (1, 6),
+                (1, 7),
+                (1, 9),
+                (1, 20),
+                (2, 2),
+                (2, 4),
+                (2, 5),
+                (2, 6),
+                (2, 7),
+                (3, 3),
+                (3, 5),
+                (3, 8),
+            ] {
                 let device = Device {
                     transition,
                     working: 5,
@@ -250,9 +351,11 @@ mod tests {
                 let legal = |row: &Vec<u8>| is_legal(row, &device, &unused);
                 let rows: Vec<Vec<u8>> = all.iter().filter(|row| legal(row)).cloned().collect();
                 for pattern in 0..1 << length {
-                    check_pattern(&device, pattern, &rows, length);
+                    ties += check_pattern(&device, pattern, &rows, length);
+                    patterns += 1;
                 }
             }
         }
+        assert_eq!((ties, patterns), (200, 3_556));
     }
 }

@@ -1,17 +1,69 @@
 //! What the run has met, and where the program and the oracle part.
 
 use crate::cases::Kind;
+use crate::listing::uses;
+use crate::request::Request;
+use crate::rows::is_tied;
+use std::cmp::Ordering;
 use std::collections::BTreeMap;
 use std::fmt::Write;
 
 /// The refusals that a search on a file can give. 0 is added to them below.
 const REFUSALS: [u8; 15] = [1, 2, 3, 4, 5, 6, 7, 8, 9, 10, 11, 12, 13, 19, 20];
 
+const MOVING: [(Ordering, &str); 3] = [
+    (Ordering::Less, "less than work"),
+    (Ordering::Equal, "as much"),
+    (Ordering::Greater, "more"),
+];
+
 #[derive(Default)]
 pub struct Tally {
     kinds: BTreeMap<Kind, u64>,
     outcomes: BTreeMap<u8, u64>,
     in_pieces: u64,
+    pub rows: Rows,
+}
+
+/// The rows that were met.
+#[derive(Default)]
+pub struct Rows {
+    /// By whether moving costs less than work, as much, or more.
+    moving: BTreeMap<Ordering, u64>,
+    /// Those of them in which the tie decides.
+    ties: u64,
+}
+
+impl Rows {
+    pub fn add(&mut self, request: &Request, starts: &[u32]) {
+        for (number, device) in request.devices.iter().enumerate() {
+            let uses = uses(request, starts, number);
+            let moving = device.moving.cmp(&device.working);
+            *self.moving.entry(moving).or_default() += 1;
+            self.ties += u64::from(is_tied(device, &uses, request.horizon));
+        }
+    }
+
+    pub fn never_met(&self) -> Vec<String> {
+        let is_missed = |(moving, _): &&(Ordering, &str)| !self.moving.contains_key(moving);
+        let missed = MOVING.iter().filter(is_missed);
+        let mut missed: Vec<String> = missed
+            .map(|(_, name)| format!("moving costs {name}"))
+            .collect();
+        if self.ties == 0 {
+            missed.push("a tie".to_string());
+        }
+        missed
+    }
+
+    pub fn report(&self) -> String {
+        let mut text = String::from("rows where moving costs:\n");
+        for (moving, name) in MOVING {
+            let count = self.moving.get(&moving).copied().unwrap_or_default();
+            text += &format!("{count:7}  {name}\n");
+        }
+        text + &format!("rows in which the tie decides: {}\n", self.ties)
+    }
 }
 
 impl Tally {
@@ -21,12 +73,15 @@ impl Tally {
         self.in_pieces += u64::from(pieces > 1);
     }
 
-    /// Numbers that no case has met. A run that misses one has not tested it.
-    pub fn never_met(&self) -> Vec<u8> {
+    /// Numbers, kinds of devices and ties that no case has met. A run that misses one has not tested
+    /// it.
+    pub fn never_met(&self) -> Vec<String> {
         let mut numbers = vec![0];
         numbers.extend(REFUSALS);
         numbers.retain(|number| !self.outcomes.contains_key(number));
-        numbers
+        let mut missed: Vec<String> = numbers.iter().map(u8::to_string).collect();
+        missed.extend(self.rows.never_met());
+        missed
     }
 
     pub fn report(&self) -> String {
@@ -39,7 +94,8 @@ impl Tally {
             let said = if *number == 0 { "a plan" } else { "refused" };
             text += &format!("{count:7}  {number:2} {said}\n");
         }
-        text + &format!("random cases fed in pieces: {}\n", self.in_pieces)
+        text += &format!("random cases fed in pieces: {}\n", self.in_pieces);
+        text + &self.rows.report()
     }
 }
 
@@ -82,15 +138,36 @@ fn hex(file: &[u8]) -> String {
 #[cfg(test)]
 mod tests {
     use super::*;
+    use crate::request::Device;
+
+    /// A device that is not used, for 2 ticks: slept at 3, worked through at 5 and at 9, and at 5 both
+    /// cost 10.
+    fn alone(moving: u32) -> Request {
+        let device = Device {
+            transition: 1,
+            working: 5,
+            sleeping: 1,
+            moving,
+        };
+        Request {
+            horizon: 2,
+            devices: vec![device],
+            jobs: Vec::new(),
+        }
+    }
 
     #[test]
-    fn a_number_that_was_not_met_is_missed() {
+    fn what_was_not_met_is_missed() {
         let mut tally = Tally::default();
         for number in (0..=13).chain([20]) {
             tally.add(Kind::Jobs, number, 1);
         }
-        assert_eq!(tally.never_met(), [19]);
+        for moving in [3, 9] {
+            tally.rows.add(&alone(moving), &[]);
+        }
+        assert_eq!(tally.never_met(), ["19", "moving costs as much", "a tie"]);
         tally.add(Kind::Tight, 19, 2);
+        tally.rows.add(&alone(5), &[]);
         assert!(tally.never_met().is_empty());
     }
 

@@ -4,23 +4,50 @@ use crate::random::Random;
 use crate::tables::{job, task, DeviceRecord, JobRecord, Tables};
 
 /// Small powers make equal energies likely, so that "the first of the least" decides often. Large
-/// ones reach the ends of the 16 bits.
+/// ones reach the ends of the 16 bits. Moving costs less than work, as much, or more.
 pub fn device(random: &mut Random) -> DeviceRecord {
-    let (sleeping, moving, working) = match random.within(1, 6) {
+    let transition = transition(random);
+    let small = random.u16(0, 3);
+    let (sleeping, moving, working) = match random.within(1, 12) {
         1 => (random.u16(0, 60_000), random.u16(60_001, 65_534), 65_535),
         2 => (random.pick(&[0, 65_533]), 65_534, 65_535),
-        _ => {
-            let sleeping = random.u16(0, 3);
-            let moving = sleeping + random.u16(1, 4);
-            (sleeping, moving, moving + random.u16(1, 5))
+        3 => (random.u16(0, 60_000), 65_535, random.u16(60_001, 65_535)),
+        4..=7 => {
+            let moving = small + random.u16(1, 4);
+            (small, moving, moving + random.u16(1, 5))
         }
+        8 | 9 => dear(random, small),
+        _ => tied(random, transition, small),
     };
     DeviceRecord {
-        transition: transition(random),
+        transition,
         working,
         sleeping,
         moving,
     }
+}
+
+/// Moving costs as much as work, or more.
+fn dear(random: &mut Random, sleeping: u16) -> (u16, u16, u16) {
+    let working = sleeping + random.u16(1, 8);
+    (sleeping, working + random.u16(0, 9), working)
+}
+
+/// The powers of a device for which some gap costs the same slept and worked through: over the power of
+/// sleep, moving in two transitions comes to as much as work in the whole gap.
+fn tied(random: &mut Random, transition: u8, sleeping: u16) -> (u16, u16, u16) {
+    let moves = 2 * u16::from(transition);
+    let gap = moves + random.u16(0, 4);
+    let common = (1..=moves)
+        .filter(|n| moves % n == 0 && gap % n == 0)
+        .max()
+        .unwrap_or(1);
+    let times = random.u16(1, 3);
+    (
+        sleeping,
+        sleeping + times * (gap / common),
+        sleeping + times * (moves / common),
+    )
 }
 
 /// Mostly short against the gaps, sometimes longer than any gap can be.
@@ -73,6 +100,40 @@ pub fn job_list(random: &mut Random) -> Tables {
         tables.jobs.push(job);
     }
     tables
+}
+
+/// A job list with devices that are dear to move, so that a gap that has room may be worked through. Most
+/// of them have a gap that costs the same either way.
+pub fn dear_list(random: &mut Random) -> Tables {
+    let mut tables = Tables {
+        horizon: random.u16(4, 14),
+        devices: (0..random.within(1, 3))
+            .map(|_| dear_device(random))
+            .collect(),
+        ..Tables::default()
+    };
+    for _ in 0..random.within(0, 4) {
+        let job = any_job(random, &tables, 2);
+        tables.jobs.push(job);
+    }
+    tables
+}
+
+/// Its moves are short, so that gaps have room for them.
+fn dear_device(random: &mut Random) -> DeviceRecord {
+    let transition = random.pick(&[1, 1, 1, 2, 2, 3]);
+    let sleeping = random.u16(0, 3);
+    let (sleeping, moving, working) = if random.one_in(4) {
+        dear(random, sleeping)
+    } else {
+        tied(random, transition, sleeping)
+    };
+    DeviceRecord {
+        transition,
+        working,
+        sleeping,
+        moving,
+    }
 }
 
 /// Periodic tasks. The short periods divide each other often enough to stay under 17 jobs.
@@ -219,7 +280,7 @@ pub fn many_devices(random: &mut Random) -> Tables {
 /// The most energy that a plan can have: everything works throughout.
 pub fn most_energy(random: &mut Random) -> Tables {
     let mut greedy = device(random);
-    (greedy.working, greedy.moving) = (65_535, 65_534);
+    (greedy.working, greedy.moving) = (65_535, random.pick(&[65_534, 65_535]));
     greedy.sleeping = random.u16(0, 65_533);
     Tables {
         horizon: 4096,

@@ -4,7 +4,7 @@
 //! everything else about it is worked out from that sequence when it is asked for.
 
 use crate::request::{Job, Request};
-use crate::rows::{Energies, Use};
+use crate::rows::{least_energy, Energies, Rule, Use};
 
 /// What a whole visit, or one that was stopped, has found.
 pub struct Visit {
@@ -16,10 +16,16 @@ pub struct Visit {
 
 /// Visits from the root on, and stops at once when `limit` vertices have been counted.
 pub fn visit(request: &Request, limit: u64) -> Visit {
+    visit_by(request, limit, least_energy)
+}
+
+/// The same, but that the floor takes another rule's energy for the least one.
+pub(crate) fn visit_by(request: &Request, limit: u64, floor: Rule) -> Visit {
     let mut visitor = Visitor {
         request,
         limit,
         energies: Energies::new(&request.devices),
+        floors: Energies::by(&request.devices, floor),
         placed: Vec::new(),
         found: Visit {
             count: 0,
@@ -34,6 +40,7 @@ struct Visitor<'a> {
     request: &'a Request,
     limit: u64,
     energies: Energies<'a>,
+    floors: Energies<'a>,
     /// The vertex: (job, start) in running order.
     placed: Vec<(usize, u32)>,
     found: Visit,
@@ -150,7 +157,7 @@ impl Visitor<'_> {
             .sum();
         let others = self.request.horizon - end - to_come;
         let powers = &self.request.devices[device];
-        self.energies.least(device, &uses)
+        self.floors.least(device, &uses)
             + u64::from(powers.working) * u64::from(to_come)
             + u64::from(powers.sleeping) * u64::from(others)
     }

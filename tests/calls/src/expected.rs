@@ -115,7 +115,7 @@ fn success(request: &Request, energy: u64, count: u64) -> Answer {
 }
 
 /// The start times of bytes, two each.
-fn pairs(bytes: &[u8]) -> Vec<u32> {
+pub fn pairs(bytes: &[u8]) -> Vec<u32> {
     let pair = |pair: &[u8]| u32::from(u16::from_be_bytes([pair[0], pair[1]]));
     bytes.chunks_exact(2).map(pair).collect()
 }

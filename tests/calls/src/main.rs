@@ -2,6 +2,7 @@
 //! lengths, and compares the number and every byte of every buffer with the oracle.
 
 mod catalogue;
+mod dear;
 mod expected;
 mod figures;
 mod library;
@@ -10,9 +11,10 @@ mod possible;
 mod tails;
 mod writing;
 
-use expected::{Buffers, Outcome, Searched, RESULT};
+use expected::{pairs, Buffers, Outcome, Searched, RESULT};
 use outside::cases::{draw, Kind};
 use outside::random::Random;
+use outside::tally::Rows;
 use std::collections::BTreeMap;
 use std::process::ExitCode;
 
@@ -30,6 +32,7 @@ struct Tester {
     random: Random,
     calls: u64,
     met: BTreeMap<(&'static str, u8), u64>,
+    rows: Rows,
     failure: Option<String>,
 }
 
@@ -136,6 +139,9 @@ impl Tester {
         let starts = self.starts(searched);
         let mut after = self.buffers(size);
         let expected = searched.rows(&starts, &after);
+        if let (0, Ok(request)) = (expected.number, &searched.read) {
+            self.rows.add(request, &pairs(&starts));
+        }
         let number = library::rows(&searched.file, &starts, &mut after.lent, &mut after.result);
         let got = outcome(number, after);
         self.compare("floe_rows", &searched.file, expected, got);
@@ -192,6 +198,7 @@ fn test() -> Result<String, String> {
         random: Random::new(SEED, STREAM),
         calls: 0,
         met: BTreeMap::new(),
+        rows: Rows::default(),
         failure: None,
     };
     for number in 0..FILES {
@@ -204,6 +211,7 @@ fn test() -> Result<String, String> {
             return Err(failure);
         }
     }
+    dear::test(&mut tester)?;
     writing::test(&mut tester)?;
     catalogue::test(&mut tester)?;
     if let Some(failure) = tester.failure {
@@ -221,6 +229,7 @@ fn test() -> Result<String, String> {
     for ((name, number), count) in &tester.met {
         println!("{count:7}  {name} {number}");
     }
+    print!("{}", tester.rows.report());
     let is_met = |number: &u8| tester.met.keys().any(|(_, met)| met == number);
     let missed: Vec<u8> = NUMBERS
         .chain([255])
