@@ -8,6 +8,7 @@ use Prim.Native.Nat.{ℕ}
 use native.Mathlib.Omega.{arith}
 use Rattle.base.specs.Lists.{upTo, padded, remove}
 use Rattle.base.specs.Refusals.{firstOf}
+use Rattle.device.specs.Row.{trip}
 use Rattle.schedule.specs.Judging.{windowFault, clashes}
 use Rattle.schedule.specs.Listing.{used, laid, soonest, ordered}
 use Rattle.schedule.specs.Visiting.{written, starts, choices, late, cutA, planEnergy, better, lastEnd, deviceFloor, floor, cutB, complete, examine, visit, visited}
@@ -44,5 +45,5 @@ all-say [] e = tt
 all-say (c ∷ cs) e = (says (c .file) (c .figure) (e .0), all-say cs (e .1))
 
 pub figures-hold : Hold table
-unfolding readOf faultOf taskSection jobSection jobRecords countOf mixed recordFault recordTable deviceTable taskTable jobTable lacks firstOf horizonOf lcmFrom gcdOf euclid jobsOf unfolded releasedAt recorderIn upTo padded remove used laid soonest ordered written starts choices late cutA planEnergy better lastEnd deviceFloor floor cutB complete examine visit visited windowFault clashes outcome checked margined all feasible judged rowed found ended searched
-figures-hold = all-say table (refl, (refl, (refl, (refl, (refl, (refl, (refl, (refl, (refl, (refl, (refl, (refl, (refl, (refl, (refl, (refl, (refl, (refl, (refl, (refl, (refl, ((refl, inr (refl, inl (inl (omega arith)))), ((refl, refl, refl, refl), (refl, (refl, (refl, (refl, (refl, (refl, (refl, tt))))))))))))))))))))))))))))))
+unfolding readOf faultOf taskSection jobSection jobRecords countOf mixed recordFault recordTable deviceTable taskTable jobTable lacks firstOf horizonOf lcmFrom gcdOf euclid jobsOf unfolded releasedAt recorderIn upTo padded remove trip used laid soonest ordered written starts choices late cutA planEnergy better lastEnd deviceFloor floor cutB complete examine visit visited windowFault clashes outcome checked margined all feasible judged rowed found ended searched
+figures-hold = all-say table (refl, (refl, (refl, (refl, (refl, (refl, (refl, (refl, (refl, (refl, (refl, (refl, (refl, (refl, (refl, (refl, (refl, (refl, (refl, (refl, (refl, ((refl, inr (refl, inl (inl (omega arith)))), ((refl, refl, refl, refl), (refl, (refl, (refl, (refl, (refl, (refl, (refl, (refl, (refl, (refl, (refl, (refl, (refl, (refl, tt)))))))))))))))))))))))))))))))))))))

@@ -1,5 +1,6 @@
--- The figures to reproduce, P1 to P12, and three more, X1 to X3 (X2 is P9's count, 95): one table of cases, and one statement over it. A case is an
--- operation's complete outcome on a file, and says what that operation promises; so it says that the file is read, or by which number it is refused.
+-- The figures to reproduce, P1 to P12, three more, X1 to X3 (X2 is P9's count, 95), and E1 to E6, of devices that are dear to move: one table of cases, and
+-- one statement over it. A case is an operation's complete outcome on a file, and says what that operation promises; so it says that the file is read, or by
+-- which number it is refused.
 -- proofs/Hold: the table holds.
 -- Assumes nothing.
 use mathlib.Core.Path.{_≡_}
@@ -8,7 +9,7 @@ use Prim.Native.Nat.{ℕ}
 use lib.IntN.{ℤ, pos, negsuc}
 use lib.ListN.{replicate}
 use Rattle.base.specs.Lists.{upTo}
-use Rattle.device.specs.Row.{Letter, W, D, S, U, byteOf}
+use Rattle.device.specs.Row.{Letter, at, W, D, U, byteOf}
 use Rattle.schedule.specs.Quantities.{jobs, release, deadline}
 use Rattle.schedule.specs.Listing.{Earlier}
 use Rattle.request.specs.Format.{recorderIn}
@@ -21,9 +22,13 @@ use Rattle.planner.specs.Promises.{success, refusal, refusalAfter, Reads, Check
 abbrev two : ℕ → List ℕ
 two n = 0 ∷ n ∷ []
 
--- Device A: T 1, Pw 5, Ps 1, P0 3.
+-- A device (Pw, Ps, P0) with T 1.
+abbrev deviceFile : ℕ → ℕ → ℕ → List ℕ
+deviceFile pw ps p0 = 1 ∷ two pw ++ two ps ++ two p0
+
+-- Device A.
 abbrev A : List ℕ
-A = 1 ∷ 0 ∷ 5 ∷ 0 ∷ 1 ∷ 0 ∷ 3 ∷ []
+A = deviceFile 5 1 3
 
 -- A job (a, d, c) with its device set.
 abbrev jobFile : ℕ → ℕ → ℕ → ℕ → List ℕ
@@ -72,6 +77,10 @@ X1 = two 7 ++ 1 ∷ A ++ 0 ∷ 3 ∷ jobFile 2 5 2 0 ++ jobFile 4 7 2 1 ++ jobFi
 abbrev X3 : List ℕ
 X3 = two 0 ++ 2 ∷ A ++ A ++ 2 ∷ two 4 ++ two 1 ++ 1 ∷ two 5 ++ two 3 ++ 2 ∷ 0 ∷ []
 
+-- A device that is dear to move, and device A: in the gap before start 2 only A sleeps. With start 1 both work throughout.
+abbrev E6 : List ℕ
+E6 = two 6 ++ 2 ∷ deviceFile 5 1 9 ++ A ++ 0 ∷ 2 ∷ jobFile 1 5 2 3 ++ jobFile 4 6 2 3
+
 -- ---- what a file has
 
 pub data Figure : Type 0 where
@@ -95,6 +104,10 @@ abbrev _has_ : List ℕ → Figure → Case
 f has g = record { file = f; figure = g }
 
 -- ---- the table: what is lent holds nines, and has a place more than is needed
+
+-- Asleep, at the one level.
+abbrev S : Letter
+S = at 1
 
 abbrev letters : List Letter → List ℕ
 letters l = map byteOf l
@@ -134,6 +147,15 @@ table =
     ∷ P12′ has check (refusal 12)
     ∷ X1 has search 1000 (replicate 4 9) (success 7 23 14) (2 ∷ 5 ∷ 0 ∷ 9 ∷ [])
     ∷ X3 has search 1000000 (replicate 10 9) (success 20 136 3144) (3 ∷ 0 ∷ 4 ∷ 5 ∷ 8 ∷ 10 ∷ 15 ∷ 17 ∷ 16 ∷ 9 ∷ [])
+    -- E1 and E3: on equal cost it works. E2: slept. E4 and E5: moving, or work, at the power of sleep
+    ∷ (two 4 ++ 1 ∷ deviceFile 5 1 9 ++ idle) has rows [] (replicate 5 9) (success 4 20 0) (letters (W ∷ W ∷ W ∷ W ∷ []) ++ 9 ∷ [])
+    ∷ (two 5 ++ 1 ∷ deviceFile 5 1 9 ++ idle) has rows [] (replicate 6 9) (success 5 21 0) (letters (D ∷ S ∷ S ∷ S ∷ U ∷ []) ++ 9 ∷ [])
+    ∷ (two 2 ++ 1 ∷ deviceFile 5 1 5 ++ idle) has rows [] (replicate 3 9) (success 2 10 0) (letters (W ∷ W ∷ []) ++ 9 ∷ [])
+    ∷ (two 5 ++ 1 ∷ deviceFile 5 1 1 ++ idle) has check (refusal 5)
+    ∷ (two 5 ++ 1 ∷ deviceFile 1 1 5 ++ idle) has check (refusal 5)
+    -- E6: a floor that took every gap of 2T ticks for slept would stand at 64 with start 2, and stay with 60
+    ∷ E6 has search 1000 (replicate 3 9) (success 6 56 7) (2 ∷ 4 ∷ 9 ∷ [])
+    ∷ E6 has verdict (1 ∷ 4 ∷ []) (success 6 60 0)
     ∷ []
 
 -- ---- the statement
