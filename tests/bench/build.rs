@@ -11,7 +11,8 @@ fn main() {
     let here = env::var("CARGO_MANIFEST_DIR").expect("cargo names the folder of the manifest");
     let folder = Path::new(&here).join("../../target/lib");
     println!("cargo:rustc-link-search=native={}", folder.display());
-    for name in ["floebucket", "doors"] {
+    let before = env::var_os("CARGO_FEATURE_BEFORE").map(|_| "before");
+    for name in ["floebucket", "doors"].into_iter().chain(before) {
         let library = folder.join(format!("lib{name}.a"));
         assert!(
             library.exists(),

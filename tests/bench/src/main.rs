@@ -2,8 +2,8 @@
 //! the proved search, and prints vertices per second of each and the proved one's ratio to each plain one.
 //! Then how long it takes to say whether there is any plan, beside the search for the cheapest.
 //!
-//! `./bench` at the top builds the proved search and runs all; `cargo run --release` here runs the
-//! plain searches alone.
+//! `./bench` at the top builds the proved search and runs all; `./bench COMMIT` races that commit's
+//! proved search as well; `cargo run --release` here runs the plain searches alone.
 
 #[cfg(feature = "proved")]
 mod proved;
@@ -59,6 +59,8 @@ fn racers() -> Vec<Racer> {
         racer("shaped", |file, budget| {
             plain::shaped::search(file, budget).into()
         }),
+        #[cfg(feature = "before")]
+        racer("before", proved::before),
         #[cfg(feature = "proved")]
         racer("proved", proved::search),
     ]
@@ -89,7 +91,7 @@ fn millions(vertices: u64, time: Duration) -> f64 {
 }
 
 /// One line: vertices, then millions of them per second for each racer, then the ratio of the proved
-/// search's speed to that of each plain one.
+/// search's speed to that of each other one.
 fn line(name: &str, vertices: u64, times: &[Duration], racers: &[Racer]) -> String {
     let mut line = format!("{name:30} {vertices:>11} vertices");
     for (racer, time) in racers.iter().zip(times) {
@@ -97,8 +99,8 @@ fn line(name: &str, vertices: u64, times: &[Duration], racers: &[Racer]) -> Stri
         line += &format!("  {} {speed:6.1} M/s", racer.name);
     }
     let race: Vec<_> = racers.iter().zip(times).collect();
-    if let [plain @ .., (Racer { name: "proved", .. }, proved)] = &race[..] {
-        for (racer, time) in plain {
+    if let [others @ .., (Racer { name: "proved", .. }, proved)] = &race[..] {
+        for (racer, time) in others {
             let ratio = time.as_secs_f64() / proved.as_secs_f64();
             line += &format!("  proved/{} {ratio:.2}", racer.name);
         }

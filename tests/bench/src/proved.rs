@@ -7,12 +7,23 @@ use crate::Outcome;
 const STARTS: usize = 32;
 const RESULT: usize = 11;
 
-/// As both are declared: the file, the budget, the start times and the result buffer.
+/// As all are declared: the file, the budget, the start times and the result buffer.
 type Call =
     unsafe extern "C" fn(*const u8, usize, u32, *mut u8, usize, *mut u8, usize) -> u8;
 
 extern "C" {
     fn floe_search(
+        file: *const u8,
+        file_len: usize,
+        budget: u32,
+        starts: *mut u8,
+        starts_len: usize,
+        result: *mut u8,
+        result_len: usize,
+    ) -> u8;
+
+    #[cfg(feature = "before")]
+    fn before_search(
         file: *const u8,
         file_len: usize,
         budget: u32,
@@ -35,6 +46,12 @@ extern "C" {
 
 pub fn search(file: &[u8], budget: u32) -> Outcome {
     called(floe_search, file, budget)
+}
+
+/// The search of an earlier commit.
+#[cfg(feature = "before")]
+pub fn before(file: &[u8], budget: u32) -> Outcome {
+    called(before_search, file, budget)
 }
 
 pub fn possible(file: &[u8], budget: u32) -> Outcome {
