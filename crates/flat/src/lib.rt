@@ -9,6 +9,7 @@ ghost use Rattle.device.specs.Row.{Sound, deep};
 ghost use Rattle.schedule.specs.Quantities.{Valid, device, jobs, release, deadline, run, uses};
 ghost use Rattle.flat.specs.Flat.{recorderOf, jobNumber, deviceNumber, numberOf};
 
+pub mod costs; // costs.rt: what each gap costs
 pub mod numbers; // numbers.rt: sums past sixteen bits
 
 pub type Flat = [u16; 320];

@@ -17,7 +17,7 @@ use Rattle.vertex.specs.Vertices.{Vertex, unplaced, ahead, paidStep, end
 use Rattle.vertex.specs.Layout.{placedOf, vertexOf, nextFloor}
 use Rattle.vertex.specs.Sums.{Holds, Fitting}
 use Rattle.vertex.proofs.Adding.{rest-less, rest-none, ahead-few}
-use Rattle.vertex.proofs.Charging.{end-now, paid-now}
+use Rattle.vertex.proofs.Charging.{product-fits, gap-cheap, end-now, paid-now}
 use Rattle.vertex.proofs.Reading.{row-at, row-long, end-cell, placed-long}
 
 -- ---- one device: the job's own ticks change sides
@@ -46,22 +46,13 @@ module _ (R : Recorder) (ok : Valid R) (l : List ℕ) (j s : ℕ) (held : Holds 
   tick-is = held .ticks k b ∙ rest-less R (placedOf l) j job-in (fit .free) (fit .known) (ticks R k)
 
   -- What the code's step asks,
-  pub may-floor : (k < 8) × (Sound (device R k) × ((getD l (8 + k) 0 ≤ device R k .pw * getD l k 0) × ((getD l k 0 ≤ s) × ((s + getD l (16 + k) 0 ≤ R .horizon) × (R .horizon ≤ 4096)))))
+  pub may-floor : (getD l (8 + k) 0 ≤ device R k .pw * getD l k 0) × ((getD l k 0 ≤ s) × (s + getD l (16 + k) 0 ≤ R .horizon))
   unfolding vertexOf
   may-floor = (
-    few-device,
+    rw (← row-at 8 8 l k few-device, ← end-cell l k few-device) (held .settled .cheap k b),
     (
-      ok .sound k b,
-      (
-        rw (← row-at 8 8 l k few-device, ← end-cell l k few-device) (held .settled .cheap k b),
-        (
-          rw (← end-cell l k few-device) (held .settled .ended k b),
-          (
-            omega (arith, held .ticks k b, ahead-few R (placedOf l) k, rest-less R (placedOf l) j job-in (fit .free) (fit .known) (run R), fit .fits),
-            ok .few-ticks,
-          ),
-        ),
-      ),
+      rw (← end-cell l k few-device) (held .settled .ended k b),
+      omega (arith, held .ticks k b, ahead-few R (placedOf l) k, rest-less R (placedOf l) j job-in (fit .free) (fit .known) (run R), fit .fits),
     ),
   )
 
@@ -85,14 +76,23 @@ module _ (R : Recorder) (ok : Valid R) (l : List ℕ) (t : ℕ) (held : Holds R 
   near : k < 8
   near = omega (arith, b, ok .few-devices)
 
-  pub may-close : Sound (device R k) × ((getD l (8 + k) 0 ≤ device R k .pw * getD l k 0) × ((getD l k 0 ≤ R .horizon) × (R .horizon ≤ 4096)))
+  may-close : (getD l (8 + k) 0 ≤ device R k .pw * getD l k 0) × (getD l k 0 ≤ R .horizon)
   unfolding vertexOf
   may-close =
-      (ok .sound k b, (rw (← row-at 8 8 l k near, ← end-cell l k near) (held .settled .cheap k b), (rw (← end-cell l k near) (omega (arith, held .settled .ended k b, held .settled .within)), ok .few-ticks)))
+      (rw (← row-at 8 8 l k near, ← end-cell l k near) (held .settled .cheap k b), rw (← end-cell l k near) (omega (arith, held .settled .ended k b, held .settled .within)))
 
-  pub close-step : closeOf (device R k) (R .horizon) (getD l (8 + k) 0) (getD l k 0) ≡ closeAt R (vertexOf l t) k
-  unfolding vertexOf
+  pub ended-within : getD l k 0 ≤ R .horizon
+  ended-within = may-close .1
+
+  -- What device k costs over the whole round, and that this is no more than work throughout.
+  pub close-step : getD l (8 + k) 0 + gapCost (device R k) (R .horizon - getD l k 0) ≡ closeAt R (vertexOf l t) k
+  unfolding vertexOf closeOf
   close-step = rw (row-at 8 8 l k near, end-cell l k near)
+
+  pub close-most : device R k .pw < 65536 → getD l (8 + k) 0 + gapCost (device R k) (R .horizon - getD l k 0) ≤ 268431360
+  close-most few =
+      let most = gap-cheap (device R k) (getD l (8 + k) 0) (getD l k 0) (R .horizon) (may-close .0) (may-close .1) in
+      omega (arith, product-fits (device R k .pw) (R .horizon) few (ok .few-ticks))
 
 -- The energy of a complete vertex is at least its floor: cut B may be tested before it is known whether a job is left.
 floor-least : (d : Device) → Sound d → (h b e : ℕ) → floorOf d h b e 0 ≤ closeOf d h b e

@@ -11,7 +11,7 @@ use Rattle.base.specs.Loops.{each}
 use Rattle.base.proofs.Turns.{each-more}
 use Rattle.base.proofs.Stores.{stored-at, stored-kept}
 use Rattle.device.specs.declared.Device.{Device}
-use Rattle.device.specs.Row.{Sound, gapCost}
+use Rattle.device.specs.Row.{gapCost}
 use Rattle.schedule.specs.declared.Recorder.{Recorder}
 use Rattle.schedule.specs.Quantities.{Valid, run, uses, device}
 use Rattle.schedule.specs.Visiting.{ticks}
@@ -69,8 +69,8 @@ module _ (d : Device) (k s c : ℕ) (h : k < 8) (l : List ℕ) (m : length l ≡
   unfolding put
   put-placed = placed-other two (16 + k) _ (omega arith) ∙ placed-other one k (s + c) (omega arith) ∙ placed-other l (8 + k) _ (omega arith)
 
-pub put-as : (d d′ : Device) (k s c c′ : ℕ) (l a : List ℕ) → d ≡ d′ → c ≡ c′ → a ≡ put d k s c l → a ≡ put d′ k s c′ l
-put-as d d′ k s c c′ l a e f h = h ∙ ap (λ (x : Device). put x k s c l) e ∙ ap (λ (x : ℕ). put d′ k s x l) f
+pub put-as : (d : Device) (k s c c′ : ℕ) (l a : List ℕ) → c ≡ c′ → a ≡ put d k s c l → a ≡ put d k s c′ l
+put-as d k s c c′ l a e h = h ∙ ap (λ (x : ℕ). put d k s x l) e
 
 -- ---- the devices in turn
 
@@ -190,10 +190,10 @@ module _ (R : Recorder) (ok : Valid R) (l : List ℕ) (j s : ℕ) (held : Holds 
         omega (arith, e)
 
     -- What charging device k asks.
-    pub may-charge : uses R k j ≡ true → Sound (device R k) × ((k < 8) × ((getD w (8 + k) 0 ≤ device R k .pw * getD w k 0) × ((getD w k 0 ≤ s) × ((s + run R j ≤ 4096) × (run R j ≤ getD w (16 + k) 0)))))
+    pub may-charge : uses R k j ≡ true → (getD w (8 + k) 0 ≤ device R k .pw * getD w k 0) × ((getD w k 0 ≤ s) × ((s + run R j ≤ R .horizon) × (run R j ≤ getD w (16 + k) 0)))
     unfolding vertexOf
     may-charge u =
-        (ok .sound k b, (few-device, (rw (paid-was, end-was) (held .settled .cheap k b), (rw end-was (held .settled .ended k b), (omega (arith, fit .fits, ok .few-ticks), tick-was u)))))
+        (rw (paid-was, end-was) (held .settled .cheap k b), (rw end-was (held .settled .ended k b), (omega (arith, fit .fits), tick-was u)))
 
   module _ (w : List ℕ) (p : Put R j s base (R .devices .count) w) where
     placed-now : placedOf w ≡ set (placedOf l) j true

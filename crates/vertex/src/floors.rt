@@ -1,21 +1,21 @@
 // The floor of a child (rule 46) by its parent's numbers, before the child is made; and the energy of a complete vertex.
 use crate::Cells;
 use base::JobNumber;
-use device::Device;
 use flat::Flat;
+use flat::costs::Costs;
+use flat::costs::gap_cost;
 use flat::deep_power;
 use flat::device_count;
-use flat::device_of;
 use flat::horizon_of;
 use flat::is_used;
 use flat::numbers::wide;
 use flat::work_power;
 ghost use mathlib.Core.Path.{_≡_};
 ghost use Prim.Native.Nat.{_+_, _-_, _*_, _<_, _≤_};
-ghost use Rattle.device.specs.Row.{Sound};
-ghost use Rattle.schedule.specs.Quantities.{Valid, device};
+ghost use Rattle.schedule.specs.Quantities.{device};
 ghost use Rattle.flat.specs.Flat.{recorderOf};
-ghost use Rattle.vertex.specs.Vertices.{placeAt, closeOf, closed, floor};
+ghost use Rattle.flat.specs.Costs.{Ready};
+ghost use Rattle.vertex.specs.Vertices.{placeAt, closed, floor};
 ghost use Rattle.vertex.specs.Layout.{vertexOf, nextFloor};
 ghost use Rattle.vertex.specs.Sums.{Holds, Fitting};
 
@@ -29,9 +29,10 @@ fn device_floor(work: u16, deep: u16, h: u32, paid: u32, end: u32, ahead: u32) -
     paid + (wide(work) * ahead + wide(deep) * idle)
 }
 
-// The same for device k once a job is placed at s, if it uses the device: its ticks are among those to come. Only a gap wants all of the device's figures.
+// The same for device k once a job is placed at s, if it uses the device: its ticks are among those to come.
 fn next_floor(
     r: &Flat,
+    costs: &Costs,
     k: usize,
     used: bool,
     h: u32,
@@ -40,21 +41,21 @@ fn next_floor(
     ahead: u32,
     s: u32,
 ) -> u32
-    requires { ⌜ (k < 8) × (Sound (device (recorderOf (now r)) k) × ((paid ≤ device (recorderOf (now r)) k .pw * end) × ((end ≤ s) × ((s + ahead ≤ h) × (h ≤ 4096))))) ⌝ }
+    requires { ⌜ Ready (recorderOf (now r)) (now costs) × ((k < recorderOf (now r) .devices .count) × ((paid ≤ device (recorderOf (now r)) k .pw * end) × ((end ≤ s) × ((s + ahead ≤ h) × (h ≤ recorderOf (now r) .horizon))))) ⌝ }
     ensures { λ x. ⌜ (x ≡ nextFloor used (device (recorderOf (now (r .entry))) k) h paid end ahead s) × (x ≤ 268431360) ⌝ }
 {
     let work = work_power(r, k);
     let deep = deep_power(r, k);
     if used {
-        let gap = device::gap_energy(device_of(r, k), (s - end) as u16);
+        let gap = gap_cost(costs, k, s - end);
         return device_floor(work, deep, h, paid + gap, s, ahead);
     }
     device_floor(work, deep, h, paid, end, ahead)
 }
 
 // The floor of the child that places job j at s.
-pub fn floor_of(r: &Flat, v: &Cells, j: JobNumber, s: u32) -> u32
-    requires { ⌜ Valid (recorderOf (now r)) × (Holds (recorderOf (now r)) (now v) s × Fitting (recorderOf (now r)) (now v) (j .0) s) ⌝ }
+pub fn floor_of(r: &Flat, costs: &Costs, v: &Cells, j: JobNumber, s: u32) -> u32
+    requires { ⌜ Ready (recorderOf (now r)) (now costs) × (Holds (recorderOf (now r)) (now v) s × Fitting (recorderOf (now r)) (now v) (j .0) s) ⌝ }
     ensures { λ x. ⌜ x ≡ floor (recorderOf (now (r .entry))) (placeAt (recorderOf (now (r .entry))) (vertexOf (now (v .entry)) s) (j .0) s) ⌝ }
 {
     let h = wide(horizon_of(r));
@@ -63,23 +64,15 @@ pub fn floor_of(r: &Flat, v: &Cells, j: JobNumber, s: u32) -> u32
     let mut k = 0;
     while k < m {
         let used = is_used(r, k, j.0);
-        sum += next_floor(r, k, used, h, v[8 + k], v[k], v[16 + k], s);
+        sum += next_floor(r, costs, k, used, h, v[8 + k], v[k], v[16 + k], s);
         k += 1;
     }
     sum
 }
 
-// What device d costs over the whole round, where no job is left.
-fn device_close(d: Device, h: u32, paid: u32, end: u32) -> u32
-    requires { ⌜ Sound d × ((paid ≤ d .pw * end) × ((end ≤ h) × (h ≤ 4096))) ⌝ }
-    ensures { λ x. ⌜ (x ≡ closeOf d h paid end) × (x ≤ 268431360) ⌝ }
-{
-    paid + device::gap_energy(d, (h - end) as u16)
-}
-
 // The energy of a complete vertex.
-pub fn energy_of(r: &Flat, v: &Cells) -> u32
-    requires { ⌜ Valid (recorderOf (now r)) × Holds (recorderOf (now r)) (now v) (recorderOf (now r) .horizon) ⌝ }
+pub fn energy_of(r: &Flat, costs: &Costs, v: &Cells) -> u32
+    requires { ⌜ Ready (recorderOf (now r)) (now costs) × Holds (recorderOf (now r)) (now v) (recorderOf (now r) .horizon) ⌝ }
     ensures { λ x. ⌜ x ≡ closed (recorderOf (now (r .entry))) (vertexOf (now (v .entry)) (recorderOf (now (r .entry)) .horizon)) ⌝ }
 {
     let h = wide(horizon_of(r));
@@ -87,8 +80,8 @@ pub fn energy_of(r: &Flat, v: &Cells) -> u32
     let mut sum: u32 = 0;
     let mut k = 0;
     while k < m {
-        let d = device_of(r, k);
-        sum += device_close(d, h, v[8 + k], v[k]);
+        let gap = gap_cost(costs, k, h - v[k]);
+        sum += v[8 + k] + gap;
         k += 1;
     }
     sum

@@ -1,23 +1,24 @@
 // A job placed: its ticks go from those to come to those that its devices have paid for. And the root, where no job is placed.
 use crate::Cells;
 use base::JobNumber;
-use device::Device;
 use flat::Flat;
+use flat::costs::Costs;
+use flat::costs::gap_cost;
 use flat::device_count;
-use flat::device_of;
 use flat::is_used;
 use flat::job_count;
 use flat::numbers::wide;
 use flat::run_of;
+use flat::work_power;
 ghost use mathlib.Core.Path.{_≡_};
 ghost use mathlib.Core.Bool.{cond};
 ghost use Prim.Native.Nat.{_+_, _*_, _<_, _≤_};
 ghost use lib.ListN.{getD};
 ghost use Rattle.base.specs.Sums.{sum};
-ghost use Rattle.device.specs.Row.{Sound};
-ghost use Rattle.schedule.specs.Quantities.{Valid, jobs, run};
+ghost use Rattle.schedule.specs.Quantities.{Valid, device, jobs, run};
 ghost use Rattle.schedule.specs.Visiting.{ticks};
 ghost use Rattle.flat.specs.Flat.{recorderOf};
+ghost use Rattle.flat.specs.Costs.{Ready};
 ghost use Rattle.vertex.specs.Vertices.{placeAt};
 ghost use Rattle.vertex.specs.Layout.{vertexOf, put, marked, rootCells};
 ghost use Rattle.vertex.specs.Sums.{Holds, Fitting};
@@ -31,23 +32,23 @@ pub fn mark(w: &mut Cells, j: JobNumber, s: u32)
     w[40 + j.0] = 0;
 }
 
-// A job that starts at s and runs for c ticks, charged to device k, which is d.
-fn charge(w: &mut Cells, d: Device, k: usize, s: u32, c: u32)
-    requires { ⌜ Sound d × ((k < 8) × ((getD (now w) (8 + k) 0 ≤ d .pw * getD (now w) k 0) × ((getD (now w) k 0 ≤ s) × ((s + c ≤ 4096) × (c ≤ getD (now w) (16 + k) 0))))) ⌝ }
-    ensures { λ _. ⌜ now (w .exit) ≡ put d k s c (now (w .entry)) ⌝ }
+// A job that starts at s and runs for c ticks, charged to device k.
+fn charge(r: &Flat, costs: &Costs, w: &mut Cells, k: usize, s: u32, c: u32)
+    requires { ⌜ Ready (recorderOf (now r)) (now costs) × ((k < recorderOf (now r) .devices .count) × ((getD (now w) (8 + k) 0 ≤ device (recorderOf (now r)) k .pw * getD (now w) k 0) × ((getD (now w) k 0 ≤ s) × ((s + c ≤ recorderOf (now r) .horizon) × (c ≤ getD (now w) (16 + k) 0))))) ⌝ }
+    ensures { λ _. ⌜ now (w .exit) ≡ put (device (recorderOf (now (r .entry))) k) k s c (now (w .entry)) ⌝ }
 {
     let end = w[k];
     let paid = w[8 + k];
     let ahead = w[16 + k];
-    let gap = device::gap_energy(d, (s - end) as u16);
-    w[8 + k] = paid + (gap + wide(d.pw) * c);
+    let gap = gap_cost(costs, k, s - end);
+    w[8 + k] = paid + (gap + wide(work_power(r, k)) * c);
     w[k] = s + c;
     w[16 + k] = ahead - c;
 }
 
 // Places job j at s.
-pub fn place(r: &Flat, w: &mut Cells, j: JobNumber, s: u32)
-    requires { ⌜ Valid (recorderOf (now r)) × (Holds (recorderOf (now r)) (now w) s × Fitting (recorderOf (now r)) (now w) (j .0) s) ⌝ }
+pub fn place(r: &Flat, costs: &Costs, w: &mut Cells, j: JobNumber, s: u32)
+    requires { ⌜ Ready (recorderOf (now r)) (now costs) × (Holds (recorderOf (now r)) (now w) s × Fitting (recorderOf (now r)) (now w) (j .0) s) ⌝ }
     ensures made { λ _. ⌜ vertexOf (now (w .exit)) (s + run (recorderOf (now (r .entry))) (j .0)) ≡ placeAt (recorderOf (now (r .entry))) (vertexOf (now (w .entry)) s) (j .0) s ⌝ }
     ensures held { λ _. ⌜ Holds (recorderOf (now (r .entry))) (now (w .exit)) (s + run (recorderOf (now (r .entry))) (j .0)) ⌝ }
 {
@@ -57,8 +58,7 @@ pub fn place(r: &Flat, w: &mut Cells, j: JobNumber, s: u32)
     let mut k = 0;
     while k < m {
         if is_used(r, k, j.0) {
-            let d = device_of(r, k);
-            charge(w, d, k, s, c);
+            charge(r, costs, w, k, s, c);
         }
         k += 1;
     }

@@ -2,6 +2,8 @@
 // no cut drops it.
 use base::JobNumber;
 use flat::Flat;
+use flat::costs::Costs;
+use flat::costs::lay_costs;
 use flat::deadline_of;
 use flat::flat_of;
 use flat::horizon_of;
@@ -26,6 +28,7 @@ ghost use lib.ListN.{getD, set, length};
 ghost use Rattle.base.specs.Loops.{each};
 ghost use Rattle.schedule.specs.Quantities.{Valid, jobs};
 ghost use Rattle.flat.specs.Flat.{recorderOf};
+ghost use Rattle.flat.specs.Costs.{Ready};
 ghost use Rattle.vertex.specs.Vertices.{flagged, placeAt};
 ghost use Rattle.vertex.specs.Layout.{placedOf, vertexOf};
 ghost use Rattle.vertex.specs.Sums.{due, dueFor, Holds, Stored, Offered};
@@ -49,6 +52,7 @@ pub struct Found {
 // The child of v that places job j at s, and all below it; left and load are the child's. Answers whether the budget is used up.
 fn visit(
     r: &Flat,
+    costs: &Costs,
     v: &Cells,
     tally: &mut Tally,
     budget: u32,
@@ -58,7 +62,7 @@ fn visit(
     j: JobNumber,
     s: u32,
 ) -> bool
-    requires { ⌜ Valid (recorderOf (now r)) × (Holds (recorderOf (now r)) (now v) s × (Offered (recorderOf (now r)) (now v) left load limit (j .0) s × Within budget (now tally))) ⌝ }
+    requires { ⌜ Ready (recorderOf (now r)) (now costs) × (Holds (recorderOf (now r)) (now v) s × (Offered (recorderOf (now r)) (now v) left load limit (j .0) s × Within budget (now tally))) ⌝ }
     ensures { λ x. ⌜ (ran budget x (now (tally .exit)) ≡ capped budget (visitOf (recorderOf (now (r .entry))) left (placeAt (recorderOf (now (r .entry))) (vertexOf (now (v .entry)) s) (j .0) s) (tallyOf (now (tally .entry))))) × (length (now (tally .exit)) ≡ 19) ⌝ }
 {
     if tally[0] == budget {
@@ -69,17 +73,18 @@ fn visit(
     if limit < time {
         return false;
     }
-    if is_beaten(r, v, tally, j, s) {
+    if is_beaten(r, costs, v, tally, j, s) {
         return false;
     }
     let mut w = *v;
-    place(r, &mut w, j, s);
-    enter(r, &w, tally, budget, left, time, load)
+    place(r, costs, &mut w, j, s);
+    enter(r, costs, &w, tally, budget, left, time, load)
 }
 
 // A vertex that no cut has dropped: it is complete, or its children are examined.
 fn enter(
     r: &Flat,
+    costs: &Costs,
     v: &Cells,
     tally: &mut Tally,
     budget: u32,
@@ -87,20 +92,21 @@ fn enter(
     time: u32,
     load: u32,
 ) -> bool
-    requires { ⌜ Valid (recorderOf (now r)) × (Holds (recorderOf (now r)) (now v) time × (Stored (recorderOf (now r)) (now v) time left load × Within budget (now tally))) ⌝ }
+    requires { ⌜ Ready (recorderOf (now r)) (now costs) × (Holds (recorderOf (now r)) (now v) time × (Stored (recorderOf (now r)) (now v) time left load × Within budget (now tally))) ⌝ }
     ensures { λ x. ⌜ (ran budget x (now (tally .exit)) ≡ capped budget (below (recorderOf (now (r .entry))) left (vertexOf (now (v .entry)) time) (tallyOf (now (tally .entry))))) × (length (now (tally .exit)) ≡ 19) ⌝ }
 {
     if left == 0 {
-        let e = energy_of(r, v);
+        let e = energy_of(r, costs, v);
         offer_best(v, tally, e);
         return false;
     }
-    choices(r, v, tally, budget, left, time, load)
+    choices(r, costs, v, tally, budget, left, time, load)
 }
 
 // Each unplaced job in turn.
 fn choices(
     r: &Flat,
+    costs: &Costs,
     v: &Cells,
     tally: &mut Tally,
     budget: u32,
@@ -108,7 +114,7 @@ fn choices(
     time: u32,
     load: u32,
 ) -> bool
-    requires { ⌜ Valid (recorderOf (now r)) × (Holds (recorderOf (now r)) (now v) time × (Stored (recorderOf (now r)) (now v) time left load × Within budget (now tally))) ⌝ }
+    requires { ⌜ Ready (recorderOf (now r)) (now costs) × (Holds (recorderOf (now r)) (now v) time × (Stored (recorderOf (now r)) (now v) time left load × Within budget (now tally))) ⌝ }
     ensures { λ x. ⌜ (ran budget x (now (tally .exit)) ≡ capped budget (each (tryJob (recorderOf (now (r .entry))) (visitOf (recorderOf (now (r .entry))) (left - 1)) (vertexOf (now (v .entry)) time)) (jobs (recorderOf (now (r .entry)))) (tallyOf (now (tally .entry))))) × (length (now (tally .exit)) ≡ 19) ⌝ }
 {
     let n = job_count(r);
@@ -116,7 +122,18 @@ fn choices(
     let mut j: usize = 0;
     while j < n {
         if v[40 + j] == 1 {
-            if tries(r, v, tally, budget, left, time, load, dues, JobNumber(j)) {
+            if tries(
+                r,
+                costs,
+                v,
+                tally,
+                budget,
+                left,
+                time,
+                load,
+                dues,
+                JobNumber(j),
+            ) {
                 return true;
             }
         }
@@ -128,6 +145,7 @@ fn choices(
 // Each start of the unplaced job j in turn.
 fn tries(
     r: &Flat,
+    costs: &Costs,
     v: &Cells,
     tally: &mut Tally,
     budget: u32,
@@ -137,7 +155,7 @@ fn tries(
     dues: Dues,
     j: JobNumber,
 ) -> bool
-    requires { ⌜ Valid (recorderOf (now r)) × (Holds (recorderOf (now r)) (now v) time × (Stored (recorderOf (now r)) (now v) time left load × ((j .0 < jobs (recorderOf (now r))) × ((flagged (placedOf (now v)) (j .0) ≡ false) × ((due (recorderOf (now r)) (set (placedOf (now v)) (j .0) true) ≡ dueFor dues (j .0)) × Within budget (now tally)))))) ⌝ }
+    requires { ⌜ Ready (recorderOf (now r)) (now costs) × (Holds (recorderOf (now r)) (now v) time × (Stored (recorderOf (now r)) (now v) time left load × ((j .0 < jobs (recorderOf (now r))) × ((flagged (placedOf (now v)) (j .0) ≡ false) × ((due (recorderOf (now r)) (set (placedOf (now v)) (j .0) true) ≡ dueFor dues (j .0)) × Within budget (now tally)))))) ⌝ }
     ensures { λ x. ⌜ (ran budget x (now (tally .exit)) ≡ capped budget (each (tryStart (recorderOf (now (r .entry))) (visitOf (recorderOf (now (r .entry))) (left - 1)) (vertexOf (now (v .entry)) time) (j .0)) (span (recorderOf (now (r .entry))) (vertexOf (now (v .entry)) time) (j .0)) (tallyOf (now (tally .entry))))) × (length (now (tally .exit)) ≡ 19) ⌝ }
 {
     let c = wide(run_of(r, j.0));
@@ -146,7 +164,7 @@ fn tries(
     let limit = limit_of(dues, wide(horizon_of(r)), rest, j);
     let mut s = later(time, wide(release_of(r, j.0)));
     while s + c <= d {
-        if visit(r, v, tally, budget, left - 1, rest, limit, j, s) {
+        if visit(r, costs, v, tally, budget, left - 1, rest, limit, j, s) {
             return true;
         }
         s += 1;
@@ -155,8 +173,8 @@ fn tries(
 }
 
 // The root and all below it.
-fn root_visit(r: &Flat, tally: &mut Tally, budget: u32) -> bool
-    requires { ⌜ Valid (recorderOf (now r)) × ((length (now tally) ≡ 19) × (tallyOf (now tally) ≡ bare 0)) ⌝ }
+fn root_visit(r: &Flat, costs: &Costs, tally: &mut Tally, budget: u32) -> bool
+    requires { ⌜ Ready (recorderOf (now r)) (now costs) × ((length (now tally) ≡ 19) × (tallyOf (now tally) ≡ bare 0)) ⌝ }
     ensures { λ x. ⌜ ran budget x (now (tally .exit)) ≡ capped budget (searched (recorderOf (now (r .entry)))) ⌝ }
 {
     if budget == 0 {
@@ -169,7 +187,7 @@ fn root_visit(r: &Flat, tally: &mut Tally, budget: u32) -> bool
     }
     let v = root_of(r);
     let left = job_count(r);
-    enter(r, &v, tally, budget, left, 0, load)
+    enter(r, costs, &v, tally, budget, left, 0, load)
 }
 
 // Writes the first n starts of the best into the lent list.
@@ -200,8 +218,10 @@ pub fn search(r: Recorder, budget: u32, out: &mut [u16]) -> Found
         };
     }
     let flat = flat_of(r);
+    let mut costs = [0u32; 32776];
+    lay_costs(&flat, &mut costs);
     let mut tally = [0u32; 19];
-    if root_visit(&flat, &mut tally, budget) {
+    if root_visit(&flat, &costs, &mut tally, budget) {
         return Found {
             number: 20,
             energy: 0,

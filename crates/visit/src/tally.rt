@@ -1,13 +1,14 @@
 // The lent tally: the vertices counted and the best so far; and cut B, which holds a child's floor against that best.
 use base::JobNumber;
 use flat::Flat;
+use flat::costs::Costs;
 use vertex::Cells;
 use vertex::floors::floor_of;
 ghost use mathlib.Core.Path.{_≡_};
 ghost use Prim.Native.Nat.{_+_, _^_, _<_};
 ghost use lib.ListN.{length};
-ghost use Rattle.schedule.specs.Quantities.{Valid};
 ghost use Rattle.flat.specs.Flat.{recorderOf};
+ghost use Rattle.flat.specs.Costs.{Ready};
 ghost use Rattle.vertex.specs.Vertices.{floor, placeAt};
 ghost use Rattle.vertex.specs.Layout.{vertexOf};
 ghost use Rattle.vertex.specs.Sums.{Holds, Fitting};
@@ -53,12 +54,12 @@ pub fn offer_best(v: &Cells, tally: &mut Tally, e: u32)
 }
 
 // Cut B (rule 45) of the child that places job j at s: its floor shows that nothing below it undercuts the best.
-pub fn is_beaten(r: &Flat, v: &Cells, tally: &Tally, j: JobNumber, s: u32) -> bool
-    requires { ⌜ Valid (recorderOf (now r)) × (Holds (recorderOf (now r)) (now v) s × Fitting (recorderOf (now r)) (now v) (j .0) s) ⌝ }
+pub fn is_beaten(r: &Flat, costs: &Costs, v: &Cells, tally: &Tally, j: JobNumber, s: u32) -> bool
+    requires { ⌜ Ready (recorderOf (now r)) (now costs) × (Holds (recorderOf (now r)) (now v) s × Fitting (recorderOf (now r)) (now v) (j .0) s) ⌝ }
     ensures { λ x. ⌜ x ≡ cutB (tallyOf (now (tally .entry)) .best) (floor (recorderOf (now (r .entry))) (placeAt (recorderOf (now (r .entry))) (vertexOf (now (v .entry)) s) (j .0) s)) ⌝ }
 {
     if tally[1] == 1 {
-        tally[2] <= floor_of(r, v, j, s)
+        tally[2] <= floor_of(r, costs, v, j, s)
     } else {
         false
     }

@@ -49,41 +49,41 @@ use Rattle.flat.proofs.numbers.wide.Reads as wide-reads
 use Rattle.visit.proofs.+choices+enter+tries+visit.{statement}
 use Rattle.visit.proofs.+choices+enter+tries+visit.Tie.{close}
 
-abbrev μ-choices : Measures 3 choices-kinds.ps ℕ
-μ-choices κs a = 4 * (a .1 .1 .1 .1 .0) + 1
+abbrev μ-choices : Measures 4 choices-kinds.ps ℕ
+μ-choices κs a = 4 * (a .1 .1 .1 .1 .1 .0) + 1
 
-abbrev μ-enter : Measures 3 enter-kinds.ps ℕ
-μ-enter κs a = 4 * (a .1 .1 .1 .1 .0) + 2
+abbrev μ-enter : Measures 4 enter-kinds.ps ℕ
+μ-enter κs a = 4 * (a .1 .1 .1 .1 .1 .0) + 2
 
-abbrev μ-tries : Measures 3 tries-kinds.ps ℕ
-μ-tries κs a = 4 * (a .1 .1 .1 .1 .0)
+abbrev μ-tries : Measures 4 tries-kinds.ps ℕ
+μ-tries κs a = 4 * (a .1 .1 .1 .1 .1 .0)
 
-abbrev μ-visit : Measures 3 visit-kinds.ps ℕ
-μ-visit κs a = 4 * (a .1 .1 .1 .1 .0) + 3
+abbrev μ-visit : Measures 4 visit-kinds.ps ℕ
+μ-visit κs a = 4 * (a .1 .1 .1 .1 .1 .0) + 3
 
-abbrev choices-at : ℕ → In 3 choices-kinds.ps
-choices-at t = and 3 choices-kinds.ps (is 3 choices-kinds.ps μ-choices t) choices.Pre
+abbrev choices-at : ℕ → In 4 choices-kinds.ps
+choices-at t = and 4 choices-kinds.ps (is 4 choices-kinds.ps μ-choices t) choices.Pre
 
-abbrev choices-below : ℕ → In 3 choices-kinds.ps
-choices-below t = and 3 choices-kinds.ps (falls 3 choices-kinds.ps _<_ μ-choices t) choices.Pre
+abbrev choices-below : ℕ → In 4 choices-kinds.ps
+choices-below t = and 4 choices-kinds.ps (falls 4 choices-kinds.ps _<_ μ-choices t) choices.Pre
 
-abbrev enter-at : ℕ → In 3 enter-kinds.ps
-enter-at t = and 3 enter-kinds.ps (is 3 enter-kinds.ps μ-enter t) enter.Pre
+abbrev enter-at : ℕ → In 4 enter-kinds.ps
+enter-at t = and 4 enter-kinds.ps (is 4 enter-kinds.ps μ-enter t) enter.Pre
 
-abbrev enter-below : ℕ → In 3 enter-kinds.ps
-enter-below t = and 3 enter-kinds.ps (falls 3 enter-kinds.ps _<_ μ-enter t) enter.Pre
+abbrev enter-below : ℕ → In 4 enter-kinds.ps
+enter-below t = and 4 enter-kinds.ps (falls 4 enter-kinds.ps _<_ μ-enter t) enter.Pre
 
-abbrev tries-at : ℕ → In 3 tries-kinds.ps
-tries-at t = and 3 tries-kinds.ps (is 3 tries-kinds.ps μ-tries t) tries.Pre
+abbrev tries-at : ℕ → In 4 tries-kinds.ps
+tries-at t = and 4 tries-kinds.ps (is 4 tries-kinds.ps μ-tries t) tries.Pre
 
-abbrev tries-below : ℕ → In 3 tries-kinds.ps
-tries-below t = and 3 tries-kinds.ps (falls 3 tries-kinds.ps _<_ μ-tries t) tries.Pre
+abbrev tries-below : ℕ → In 4 tries-kinds.ps
+tries-below t = and 4 tries-kinds.ps (falls 4 tries-kinds.ps _<_ μ-tries t) tries.Pre
 
-abbrev visit-at : ℕ → In 3 visit-kinds.ps
-visit-at t = and 3 visit-kinds.ps (is 3 visit-kinds.ps μ-visit t) visit.Pre
+abbrev visit-at : ℕ → In 4 visit-kinds.ps
+visit-at t = and 4 visit-kinds.ps (is 4 visit-kinds.ps μ-visit t) visit.Pre
 
-abbrev visit-below : ℕ → In 3 visit-kinds.ps
-visit-below t = and 3 visit-kinds.ps (falls 3 visit-kinds.ps _<_ μ-visit t) visit.Pre
+abbrev visit-below : ℕ → In 4 visit-kinds.ps
+visit-below t = and 4 visit-kinds.ps (falls 4 visit-kinds.ps _<_ μ-visit t) visit.Pre
 
 abbrev choices-calls : ℕ → choices-lts.Claims
 choices-calls t = (job-count-reads.Asked, job-count-reads.Learnt, dues-of-reads.Asked, dues-of-reads.Learnt, tries-below t, tries.Post)
@@ -100,19 +100,19 @@ visit-calls t = (count-one-reads.Asked, count-one-reads.Learnt, run-of-reads.Ask
 -- ---- choices
 
 abbrev choices-Inv-loop : choices-lts.InvT-loop
-choices-Inv-loop r v tally₀ budget left time load n dues j₀ tally j = (j ≤ n) × (n ≤ 16) × (tallyOf tally ≡ each (tryJob (recorderOf r) (visitOf (recorderOf r) (left - 1)) (vertexOf v time)) j (tallyOf tally₀)) × Within budget tally
+choices-Inv-loop r costs v tally₀ budget left time load n dues j₀ tally j = (j ≤ n) × (n ≤ 16) × (tallyOf tally ≡ each (tryJob (recorderOf r) (visitOf (recorderOf r) (left - 1)) (vertexOf v time)) j (tallyOf tally₀)) × Within budget tally
 
 abbrev choices-μ-loop : choices-lts.MeasureT-loop
-choices-μ-loop r v tally₀ budget left time load n dues j₀ tally j = n - j
+choices-μ-loop r costs v tally₀ budget left time load n dues j₀ tally j = n - j
 
 choices-job-count-requires : (t : ℕ) → choices-lts.Need-job-count-requires (choices-calls t) (choices-at t) choices.Post choices-Inv-loop choices-μ-loop
 choices-job-count-requires t c κs = search needs
 
 choices-dues-of-requires : (t : ℕ) → choices-lts.Need-dues-of-requires (choices-calls t) (choices-at t) choices.Post choices-Inv-loop choices-μ-loop
-choices-dues-of-requires t c κs = c .before .pre .1 .0
+choices-dues-of-requires t c κs = c .before .pre .1 .0 .valid
 
 choices-loop-holds : (t : ℕ) → choices-lts.Need-loop-holds (choices-calls t) (choices-at t) choices.Post choices-Inv-loop choices-μ-loop
-choices-loop-holds t c = (omega arith, omega (arith, c .before .job-count .ensures, c .before .before .pre .1 .0 .few-jobs), each-start _ _ _ refl, c .before .before .pre .1 .1 .1 .1)
+choices-loop-holds t c = (omega arith, omega (arith, c .before .job-count .ensures, c .before .before .pre .1 .0 .valid .few-jobs), each-start _ _ _ refl, c .before .before .pre .1 .1 .1 .1)
 
 choices-add-if1 : (t : ℕ) → choices-lts.Need-add-if1 (choices-calls t) (choices-at t) choices.Post choices-Inv-loop choices-μ-loop
 choices-add-if1 t c = omega arith
@@ -172,19 +172,19 @@ enter-returns-2 t c = (enter-on _ _ _ _ (c .before .before .if1 .left) _ _ _ (c 
 -- ---- tries
 
 abbrev tries-Inv-loop : tries-lts.InvT-loop
-tries-Inv-loop r v tally₀ budget left time load j c d rest limit s₀ tally s = (s₀ ≤ s) × (tallyOf tally ≡ each (tryStart (recorderOf r) (visitOf (recorderOf r) (left - 1)) (vertexOf v time) (j .0)) (s - s₀) (tallyOf tally₀)) × Within budget tally × (s - s₀ ≤ (d + 1) - (c + s₀))
+tries-Inv-loop r costs v tally₀ budget left time load j c d rest limit s₀ tally s = (s₀ ≤ s) × (tallyOf tally ≡ each (tryStart (recorderOf r) (visitOf (recorderOf r) (left - 1)) (vertexOf v time) (j .0)) (s - s₀) (tallyOf tally₀)) × Within budget tally × (s - s₀ ≤ (d + 1) - (c + s₀))
 
 abbrev tries-μ-loop : tries-lts.MeasureT-loop
-tries-μ-loop r v tally₀ budget left time load j c d rest limit s₀ tally s = (d + 1) - s
+tries-μ-loop r costs v tally₀ budget left time load j c d rest limit s₀ tally s = (d + 1) - s
 
 tries-run-of-requires : (t : ℕ) → tries-lts.Need-run-of-requires (tries-calls t) (tries-at t) tries.Post tries-Inv-loop tries-μ-loop
-tries-run-of-requires t c κs = omega (arith, c .pre .1 .1 .1 .1 .0, c .pre .1 .0 .few-jobs)
+tries-run-of-requires t c κs = omega (arith, c .pre .1 .1 .1 .1 .0, c .pre .1 .0 .valid .few-jobs)
 
 tries-wide-requires : (t : ℕ) → tries-lts.Need-wide-requires (tries-calls t) (tries-at t) tries.Post tries-Inv-loop tries-μ-loop
 tries-wide-requires t c κs = search needs
 
 tries-deadline-of-requires : (t : ℕ) → tries-lts.Need-deadline-of-requires (tries-calls t) (tries-at t) tries.Post tries-Inv-loop tries-μ-loop
-tries-deadline-of-requires t c κs = omega (arith, c .before .before .pre .1 .1 .1 .1 .0, c .before .before .pre .1 .0 .few-jobs)
+tries-deadline-of-requires t c κs = omega (arith, c .before .before .pre .1 .1 .1 .1 .0, c .before .before .pre .1 .0 .valid .few-jobs)
 
 tries-wide-requires-2 : (t : ℕ) → tries-lts.Need-wide-requires-2 (tries-calls t) (tries-at t) tries.Post tries-Inv-loop tries-μ-loop
 tries-wide-requires-2 t c κs = search needs
@@ -192,7 +192,7 @@ tries-wide-requires-2 t c κs = search needs
 tries-sub-rest : (t : ℕ) → tries-lts.Need-sub-rest (tries-calls t) (tries-at t) tries.Post tries-Inv-loop tries-μ-loop
 tries-sub-rest t c =
     let start = c .before .before .before .before in
-    omega (arith, run-in _ (start .pre .1 .0) _ _ _ _ (start .pre .1 .1 .1 .0) _ (start .pre .1 .1 .1 .1 .0) (start .pre .1 .1 .1 .1 .1 .0), (c .before .before .wide .ensures .0 ∙ c .before .before .before .run-of .ensures))
+    omega (arith, run-in _ (start .pre .1 .0 .valid) _ _ _ _ (start .pre .1 .1 .1 .0) _ (start .pre .1 .1 .1 .1 .0) (start .pre .1 .1 .1 .1 .1 .0), (c .before .before .wide .ensures .0 ∙ c .before .before .before .run-of .ensures))
 
 tries-horizon-of-requires : (t : ℕ) → tries-lts.Need-horizon-of-requires (tries-calls t) (tries-at t) tries.Post tries-Inv-loop tries-μ-loop
 tries-horizon-of-requires t c κs = search needs
@@ -204,7 +204,7 @@ tries-limit-of-requires : (t : ℕ) → tries-lts.Need-limit-of-requires (tries-
 tries-limit-of-requires t c κs = omega (arith, c .before .before .before .before .before .before .pre .1 .1 .1 .0 .fits, (c .wide3 .ensures .0 ∙ c .before .horizon-of .ensures))
 
 tries-release-of-requires : (t : ℕ) → tries-lts.Need-release-of-requires (tries-calls t) (tries-at t) tries.Post tries-Inv-loop tries-μ-loop
-tries-release-of-requires t c κs = omega (arith, c .before .before .before .before .before .before .before .pre .1 .1 .1 .1 .0, c .before .before .before .before .before .before .before .pre .1 .0 .few-jobs)
+tries-release-of-requires t c κs = omega (arith, c .before .before .before .before .before .before .before .pre .1 .1 .1 .1 .0, c .before .before .before .before .before .before .before .pre .1 .0 .valid .few-jobs)
 
 tries-wide-requires-4 : (t : ℕ) → tries-lts.Need-wide-requires-4 (tries-calls t) (tries-at t) tries.Post tries-Inv-loop tries-μ-loop
 tries-wide-requires-4 t c κs = search needs
@@ -216,21 +216,21 @@ tries-loop-holds : (t : ℕ) → tries-lts.Need-loop-holds (tries-calls t) (trie
 tries-loop-holds t c = (omega arith, each-start _ _ _ (omega arith), c .before .before .before .before .before .before .before .before .before .before .pre .1 .1 .1 .1 .1 .1 .1, omega arith)
 
 tries-add-loop : (t : ℕ) → tries-lts.Need-add-loop (tries-calls t) (tries-at t) tries.Post tries-Inv-loop tries-μ-loop
-tries-add-loop t c = omega (arith, c .before .before .before .before .before .before .before .before .before .wide .ensures .1, c .before .before .before .before .before .before .before .wide2 .ensures .1, c .before .before .wide4 .ensures .1, c .before .later .ensures, c .before .before .before .before .before .before .before .before .before .before .before .pre .1 .1 .1 .0 .fits, c .before .before .before .before .before .before .before .before .before .before .before .pre .1 .0 .few-ticks)
+tries-add-loop t c = omega (arith, c .before .before .before .before .before .before .before .before .before .wide .ensures .1, c .before .before .before .before .before .before .before .wide2 .ensures .1, c .before .before .wide4 .ensures .1, c .before .later .ensures, c .before .before .before .before .before .before .before .before .before .before .before .pre .1 .1 .1 .0 .fits, c .before .before .before .before .before .before .before .before .before .before .before .pre .1 .0 .valid .few-ticks)
 
 tries-sub-visit : (t : ℕ) → tries-lts.Need-sub-visit (tries-calls t) (tries-at t) tries.Post tries-Inv-loop tries-μ-loop
 tries-sub-visit t c =
     let start = c .before .before .before .before .before .before .before .before .before .before .before .before .before in
-    omega (arith, some-left _ (start .pre .1 .0) _ _ _ _ (start .pre .1 .1 .1 .0) _ (start .pre .1 .1 .1 .1 .0) (start .pre .1 .1 .1 .1 .1 .0))
+    omega (arith, some-left _ (start .pre .1 .0 .valid) _ _ _ _ (start .pre .1 .1 .1 .0) _ (start .pre .1 .1 .1 .1 .0) (start .pre .1 .1 .1 .1 .1 .0))
 
 tries-visit-requires : (t : ℕ) → tries-lts.Need-visit-requires (tries-calls t) (tries-at t) tries.Post tries-Inv-loop tries-μ-loop
 tries-visit-requires t c κs =
     let start = c .before .before .before .before .before .before .before .before .before .before .before .before .before in
     let l = c .before .before .loop in
-    let some = some-left _ (start .pre .1 .0) _ _ _ _ (start .pre .1 .1 .1 .0) _ (start .pre .1 .1 .1 .1 .0) (start .pre .1 .1 .1 .1 .1 .0) in
+    let some = some-left _ (start .pre .1 .0 .valid) _ _ _ _ (start .pre .1 .1 .1 .0) _ (start .pre .1 .1 .1 .1 .0) (start .pre .1 .1 .1 .1 .1 .0) in
     let due-by = c .before .before .before .before .before .before .before .before .before .wide2 .ensures .0 ∙ c .before .before .before .before .before .before .before .before .before .before .deadline-of .ensures in
-    let ends = start .pre .1 .0 .ends _ (start .pre .1 .1 .1 .1 .0) in
-    (omega arith, (start .pre .1 .0, (holds-later _ _ _ _ (start .pre .1 .1 .0) (omega (arith, c .before .before .before .later .ensures, l .inv .0)) (omega (arith, c .before .loop-test .taken)), (child-offered _ (start .pre .1 .0) _ _ _ _ (start .pre .1 .1 .1 .0) _ (start .pre .1 .1 .1 .1 .0) (start .pre .1 .1 .1 .1 .1 .0) _ (start .pre .1 .1 .1 .1 .1 .1 .0) _ _ _ _ _ (c .before .before .before .before .before .before .before .before .before .before .before .wide .ensures .0 ∙ c .before .before .before .before .before .before .before .before .before .before .before .before .run-of .ensures) refl (c .before .before .before .before .before .before .before .wide3 .ensures .0 ∙ c .before .before .before .before .before .before .before .before .horizon-of .ensures) (c .before .before .before .before .before .before .limit-of .ensures) (omega (arith, c .before .loop-test .taken)), l .inv .2))))
+    let ends = start .pre .1 .0 .valid .ends _ (start .pre .1 .1 .1 .1 .0) in
+    (omega arith, (start .pre .1 .0, (holds-later _ _ _ _ (start .pre .1 .1 .0) (omega (arith, c .before .before .before .later .ensures, l .inv .0)) (omega (arith, c .before .loop-test .taken)), (child-offered _ (start .pre .1 .0 .valid) _ _ _ _ (start .pre .1 .1 .1 .0) _ (start .pre .1 .1 .1 .1 .0) (start .pre .1 .1 .1 .1 .1 .0) _ (start .pre .1 .1 .1 .1 .1 .1 .0) _ _ _ _ _ (c .before .before .before .before .before .before .before .before .before .before .before .wide .ensures .0 ∙ c .before .before .before .before .before .before .before .before .before .before .before .before .run-of .ensures) refl (c .before .before .before .before .before .before .before .wide3 .ensures .0 ∙ c .before .before .before .before .before .before .before .before .horizon-of .ensures) (c .before .before .before .before .before .before .limit-of .ensures) (omega (arith, c .before .loop-test .taken)), l .inv .2))))
 
 tries-returns : (t : ℕ) → tries-lts.Need-returns (tries-calls t) (tries-at t) tries.Post tries-Inv-loop tries-μ-loop
 tries-returns t c =
@@ -267,7 +267,7 @@ visit-element-copy-out-if1 t c = search needs
 visit-returns : (t : ℕ) → visit-lts.Need-returns (visit-calls t) (visit-at t) visit.Post
 visit-returns t c =
     let start = c .before .before in
-    (visit-over _ (start .pre .1 .0) _ _ _ _ _ _ (start .pre .1 .1 .1 .0) _ _ _ refl (sym (count-is _) ∙ c .if1 .taken) _, start .pre .1 .1 .1 .1 .long)
+    (visit-over _ (start .pre .1 .0 .valid) _ _ _ _ _ _ (start .pre .1 .1 .1 .0) _ _ _ refl (sym (count-is _) ∙ c .if1 .taken) _, start .pre .1 .1 .1 .1 .long)
 
 visit-count-one-requires : (t : ℕ) → visit-lts.Need-count-one-requires (visit-calls t) (visit-at t) visit.Post
 visit-count-one-requires t c κs =
@@ -277,7 +277,7 @@ visit-count-one-requires t c κs =
 visit-run-of-requires : (t : ℕ) → visit-lts.Need-run-of-requires (visit-calls t) (visit-at t) visit.Post
 visit-run-of-requires t c κs =
     let start = c .before .before .before .before in
-    few _ (start .pre .1 .0) _ _ _ _ _ _ (start .pre .1 .1 .1 .0)
+    few _ (start .pre .1 .0 .valid) _ _ _ _ _ _ (start .pre .1 .1 .1 .0)
 
 visit-wide-requires : (t : ℕ) → visit-lts.Need-wide-requires (visit-calls t) (visit-at t) visit.Post
 visit-wide-requires t c κs = search needs
@@ -285,33 +285,33 @@ visit-wide-requires t c κs = search needs
 visit-add-time : (t : ℕ) → visit-lts.Need-add-time (visit-calls t) (visit-at t) visit.Post
 visit-add-time t c =
     let start = c .before .before .before .before .before .before in
-    omega (arith, c .wide .ensures .1, start .pre .1 .1 .1 .0 .within, start .pre .1 .0 .few-ticks)
+    omega (arith, c .wide .ensures .1, start .pre .1 .1 .1 .0 .within, start .pre .1 .0 .valid .few-ticks)
 
 visit-returns-2 : (t : ℕ) → visit-lts.Need-returns-2 (visit-calls t) (visit-at t) visit.Post
 visit-returns-2 t c =
     let start = c .before .before .before .before .before .before .before in
     let et = ap (λ (z : ℕ). start .args .s + z) (c .before .wide .ensures .0 ∙ c .before .before .run-of .ensures) in
     let room : tallyOf (start .args .tally .now) .count < start .args .budget = omega (arith, count-is (start .args .tally .now), start .pre .1 .1 .1 .1 .count, c .before .before .before .before .before .if1 .left) in
-    (visit-late _ (start .pre .1 .0) _ _ _ _ _ _ (start .pre .1 .1 .1 .0) _ _ _ et _ (c .before .before .before .count-one .ensures .0) room (c .if2 .taken), c .before .before .before .count-one .ensures .1)
+    (visit-late _ (start .pre .1 .0 .valid) _ _ _ _ _ _ (start .pre .1 .1 .1 .0) _ _ _ et _ (c .before .before .before .count-one .ensures .0) room (c .if2 .taken), c .before .before .before .count-one .ensures .1)
 
 visit-is-beaten-requires : (t : ℕ) → visit-lts.Need-is-beaten-requires (visit-calls t) (visit-at t) visit.Post
 visit-is-beaten-requires t c κs =
     let start = c .before .before .before .before .before .before .before .before in
     let et = ap (λ (z : ℕ). start .args .s + z) (c .before .before .wide .ensures .0 ∙ c .before .before .before .run-of .ensures) in
-    (start .pre .1 .0, (start .pre .1 .1 .0, fitting _ (start .pre .1 .0) _ _ _ _ _ _ (start .pre .1 .1 .1 .0) (omega (arith, c .before .if2 .left, et))))
+    (start .pre .1 .0, (start .pre .1 .1 .0, fitting _ (start .pre .1 .0 .valid) _ _ _ _ _ _ (start .pre .1 .1 .1 .0) (omega (arith, c .before .if2 .left, et))))
 
 visit-returns-3 : (t : ℕ) → visit-lts.Need-returns-3 (visit-calls t) (visit-at t) visit.Post
 visit-returns-3 t c =
     let start = c .before .before .before .before .before .before .before .before .before .before in
     let et = ap (λ (z : ℕ). start .args .s + z) (c .before .before .before .before .wide .ensures .0 ∙ c .before .before .before .before .before .run-of .ensures) in
     let room : tallyOf (start .args .tally .now) .count < start .args .budget = omega (arith, count-is (start .args .tally .now), start .pre .1 .1 .1 .1 .count, c .before .before .before .before .before .before .before .before .if1 .left) in
-    (visit-beaten _ (start .pre .1 .0) _ _ _ _ _ _ (start .pre .1 .1 .1 .0) _ _ _ et _ (c .before .before .before .before .before .before .count-one .ensures .0) room (c .before .before .before .if2 .left) _ (c .before .is-beaten .ensures) (c .if3 .taken), c .before .before .before .before .before .before .count-one .ensures .1)
+    (visit-beaten _ (start .pre .1 .0 .valid) _ _ _ _ _ _ (start .pre .1 .1 .1 .0) _ _ _ et _ (c .before .before .before .before .before .before .count-one .ensures .0) room (c .before .before .before .if2 .left) _ (c .before .is-beaten .ensures) (c .if3 .taken), c .before .before .before .before .before .before .count-one .ensures .1)
 
 visit-place-requires : (t : ℕ) → visit-lts.Need-place-requires (visit-calls t) (visit-at t) visit.Post
 visit-place-requires t c κs =
     let start = c .before .before .before .before .before .before .before .before .before .before .before .before in
     let et = ap (λ (z : ℕ). start .args .s + z) (c .before .before .before .before .before .before .wide .ensures .0 ∙ c .before .before .before .before .before .before .before .run-of .ensures) in
-    (start .pre .1 .0, (start .pre .1 .1 .0, fitting _ (start .pre .1 .0) _ _ _ _ _ _ (start .pre .1 .1 .1 .0) (omega (arith, c .before .before .before .before .before .if2 .left, et))))
+    (start .pre .1 .0, (start .pre .1 .1 .0, fitting _ (start .pre .1 .0 .valid) _ _ _ _ _ _ (start .pre .1 .1 .1 .0) (omega (arith, c .before .before .before .before .before .if2 .left, et))))
 
 visit-enter-requires : (t : ℕ) → visit-lts.Need-enter-requires (visit-calls t) (visit-at t) visit.Post
 visit-enter-requires t c κs =
@@ -319,14 +319,14 @@ visit-enter-requires t c κs =
     let et = ap (λ (z : ℕ). start .args .s + z) (c .before .before .before .before .before .before .before .before .before .wide .ensures .0 ∙ c .before .before .before .before .before .before .before .before .before .before .run-of .ensures) in
     let made = c .before .before .place .ensures in
     let counted = c .before .before .before .before .before .before .before .before .before .before .before .count-one .ensures in
-    (omega arith, (start .pre .1 .0, (subst (Holds _ _) (sym et) (made .1), (enters-stored _ (start .pre .1 .0) _ _ _ _ _ _ (start .pre .1 .1 .1 .0) _ et (c .before .before .before .before .before .before .before .before .if2 .left) _ (made .0), record { long = counted .1; count = omega (arith, ap (λ (z : Tally). z .count) (counted .0), count-is (start .args .tally .now), start .pre .1 .1 .1 .1 .count, c .before .before .before .before .before .before .before .before .before .before .before .before .before .if1 .left) }))))
+    (omega arith, (start .pre .1 .0, (subst (Holds _ _) (sym et) (made .1), (enters-stored _ (start .pre .1 .0 .valid) _ _ _ _ _ _ (start .pre .1 .1 .1 .0) _ et (c .before .before .before .before .before .before .before .before .if2 .left) _ (made .0), record { long = counted .1; count = omega (arith, ap (λ (z : Tally). z .count) (counted .0), count-is (start .args .tally .now), start .pre .1 .1 .1 .1 .count, c .before .before .before .before .before .before .before .before .before .before .before .before .before .if1 .left) }))))
 
 visit-returns-4 : (t : ℕ) → visit-lts.Need-returns-4 (visit-calls t) (visit-at t) visit.Post
 visit-returns-4 t c =
     let start = c .before .before .before .before .before .before .before .before .before .before .before .before .before .before .before .before in
     let et = ap (λ (z : ℕ). start .args .s + z) (c .before .before .before .before .before .before .before .before .before .before .wide .ensures .0 ∙ c .before .before .before .before .before .before .before .before .before .before .before .run-of .ensures) in
     let room : tallyOf (start .args .tally .now) .count < start .args .budget = omega (arith, count-is (start .args .tally .now), start .pre .1 .1 .1 .1 .count, c .before .before .before .before .before .before .before .before .before .before .before .before .before .before .if1 .left) in
-    (visit-enters _ (start .pre .1 .0) _ _ _ _ _ _ (start .pre .1 .1 .1 .0) _ _ _ et _ (c .before .before .before .before .before .before .before .before .before .before .before .before .count-one .ensures .0) room (c .before .before .before .before .before .before .before .before .before .if2 .left) _ (c .before .before .before .before .before .before .before .is-beaten .ensures) (c .before .before .before .before .before .before .if3 .left) _ (c .before .before .before .place .ensures .0) _ (c .enter .ensures .0), c .enter .ensures .1)
+    (visit-enters _ (start .pre .1 .0 .valid) _ _ _ _ _ _ (start .pre .1 .1 .1 .0) _ _ _ et _ (c .before .before .before .before .before .before .before .before .before .before .before .before .count-one .ensures .0) room (c .before .before .before .before .before .before .before .before .before .if2 .left) _ (c .before .before .before .before .before .before .before .is-beaten .ensures) (c .before .before .before .before .before .before .if3 .left) _ (c .before .before .before .place .ensures .0) _ (c .enter .ensures .0), c .enter .ensures .1)
 
 pub +choices+enter+tries+visit-spec : {M : Type 1} → statement M
 +choices+enter+tries+visit-spec = close μ-choices μ-enter μ-tries μ-visit

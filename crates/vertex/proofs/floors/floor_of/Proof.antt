@@ -15,10 +15,10 @@ use Rattle.vertex.proofs.floors.floor_of.Statement.{statement}
 use Rattle.vertex.proofs.floors.floor_of.Tie as tie
 
 abbrev Inv-loop : tie.InvT-loop
-Inv-loop r v j s h m made₀ k₀ made k = (k ≤ m) × (m ≤ 8) × (made ≡ sum k (floorAt (recorderOf r) (placeAt (recorderOf r) (vertexOf v s) (j .0) s))) × (made ≤ 268431360 * k)
+Inv-loop r costs v j s h m made₀ k₀ made k = (k ≤ m) × (m ≤ 8) × (made ≡ sum k (floorAt (recorderOf r) (placeAt (recorderOf r) (vertexOf v s) (j .0) s))) × (made ≤ 268431360 * k)
 
 abbrev μ-loop : tie.MeasureT-loop
-μ-loop r v j s h m made₀ k₀ made k = m - k
+μ-loop r costs v j s h m made₀ k₀ made k = m - k
 
 horizon-of-requires : tie.Need-horizon-of-requires Inv-loop μ-loop
 horizon-of-requires c κs = search needs
@@ -30,10 +30,10 @@ device-count-requires : tie.Need-device-count-requires Inv-loop μ-loop
 device-count-requires c κs = search needs
 
 loop-holds : tie.Need-loop-holds Inv-loop μ-loop
-loop-holds c = (omega arith, omega (arith, c .device-count .ensures, c .before .before .before .pre .0 .few-devices), refl, omega arith)
+loop-holds c = (omega arith, omega (arith, c .device-count .ensures, c .before .before .before .pre .0 .valid .few-devices), refl, omega arith)
 
 is-used-requires : tie.Need-is-used-requires Inv-loop μ-loop
-is-used-requires c κs = (omega arith, omega (arith, c .before .before .before .before .before .pre .1 .1 .known, c .before .before .before .before .before .pre .0 .few-jobs))
+is-used-requires c κs = (omega arith, omega (arith, c .before .before .before .before .before .pre .1 .1 .known, c .before .before .before .before .before .pre .0 .valid .few-jobs))
 
 add-next-floor : tie.Need-add-next-floor Inv-loop μ-loop
 add-next-floor c = omega arith
@@ -63,8 +63,9 @@ next-floor-requires : tie.Need-next-floor-requires Inv-loop μ-loop
 next-floor-requires c κs =
     let l = c .before .before .before .before .before in
     let start = l .before .before .before .before in
-    rw (l .before .before .wide .ensures .0, l .before .before .before .horizon-of .ensures)
-    (may-floor _ (start .pre .0) _ _ _ (start .pre .1 .0) (start .pre .1 .1) (l .loop .k) (omega (arith, c .before .before .before .before .loop-test .taken, l .before .device-count .ensures)))
+    let few : l .loop .k < recorderOf (start .args .r .now) .devices .count = omega (arith, c .before .before .before .before .loop-test .taken, l .before .device-count .ensures) in
+    let may = may-floor (recorderOf (start .args .r .now)) (start .pre .0 .valid) _ _ _ (start .pre .1 .0) (start .pre .1 .1) (l .loop .k) few in
+    rw (l .before .before .wide .ensures .0, l .before .before .before .horizon-of .ensures) (start .pre .0, (few, (may .0, (may .1 .0, (may .1 .1, omega arith)))))
 
 -- The sum with the device at hand.
 more :
@@ -91,7 +92,7 @@ loop-again c =
     let R = recorderOf (start .args .r .now) in
     let child = placeAt R (vertexOf (start .args .v .now) (start .args .s)) (start .args .j .0) (start .args .s) in
     let few : l .k < R .devices .count = omega (arith, c .before .before .before .before .before .loop-test .taken, at .before .device-count .ensures) in
-    let here : c .next-floor .result ≡ floorAt R child (l .k) = rw (c .before .before .before .before .is-used .ensures, at .before .before .wide .ensures .0, at .before .before .before .horizon-of .ensures) at (c .next-floor .ensures .0) ∙ floor-step R (start .pre .0) _ _ _ (start .pre .1 .0) (start .pre .1 .1) (l .k) few in
+    let here : c .next-floor .result ≡ floorAt R child (l .k) = rw (c .before .before .before .before .is-used .ensures, at .before .before .wide .ensures .0, at .before .before .before .horizon-of .ensures) at (c .next-floor .ensures .0) ∙ floor-step R (start .pre .0 .valid) _ _ _ (start .pre .1 .0) (start .pre .1 .1) (l .k) few in
     (omega arith, l .inv .1, omega (arith, here, l .inv .2, sum-more (l .k) (floorAt R child)), more c .0)
 
 returns : tie.Need-returns Inv-loop μ-loop

@@ -1,9 +1,13 @@
 -- `vertex::placing::charge` meets its contract.
 -- Assumes nothing.
-use Prim.Native.Nat.{_+_, _*_, _<_}
+use mathlib.Core.Path.{_≡_, _∙_}
+use Prim.Native.Nat.{ℕ, _+_, _-_, _*_, _<_, _≤_}
 use native.Mathlib.Omega.{arith}
 use lib.ListN.{getD}
-use Rattle.vertex.proofs.Charging.{closing-fits, product-fits}
+use Rattle.device.specs.Row.{gapCost}
+use Rattle.schedule.specs.Quantities.{device}
+use Rattle.flat.specs.Flat.{recorderOf}
+use Rattle.vertex.proofs.Charging.{product-fits, gap-cheap}
 use Rattle.vertex.specs.Layout.{put}
 use borrow.Author.Needs.{needs}
 use Rattle.vertex.proofs.placing.charge.Statement.{statement}
@@ -33,29 +37,44 @@ mul-ahead c = search needs
 element-copy-out-ahead : tie.Need-element-copy-out-ahead
 element-copy-out-ahead c = search needs
 
-sub-gap-energy : tie.Need-sub-gap-energy
-sub-gap-energy c = search needs
+sub-gap-cost : tie.Need-sub-gap-cost
+sub-gap-cost c = search needs
 
-cast-gap-energy : tie.Need-cast-gap-energy
-cast-gap-energy c = search needs
+gap-cost-requires : tie.Need-gap-cost-requires
+gap-cost-requires c κs =
+    let s = c .before .before .before in
+    (omega (arith, s .pre .0 .valid .few-devices), omega (arith, s .pre .1, s .pre .0 .valid .few-ticks))
 
-gap-energy-requires : tie.Need-gap-energy-requires
-gap-energy-requires c κs = search needs
+work-power-requires : tie.Need-work-power-requires
+work-power-requires c κs =
+    let s = c .before .before .before .before in
+    omega (arith, s .pre .0 .valid .few-devices)
 
 wide-requires : tie.Need-wide-requires
 wide-requires c κs = search needs
 
+-- The gap's number is its cost.
+gap-is : (c : tie.After-gap-cost) → let s = c .before .before .before .before in
+    c .gap-cost .result ≡ gapCost (device (recorderOf (s .args .r .now)) (s .args .k)) (s .args .s - getD (s .args .w .now) (s .args .k) 0)
+gap-is c =
+    let s = c .before .before .before .before in
+    c .gap-cost .ensures ∙ s .pre .0 .costs (s .args .k) (s .args .s - getD (s .args .w .now) (s .args .k) 0) (s .pre .1 .0) (omega (arith, s .pre .1))
+
 -- The cost with the gap before the job, and with the job's own ticks.
 most :
-    (c : tie.After-wide) → let a = c .before .before .before .before .before .args in
-    getD (a .w .now) (8 + a .k) 0 + (c .before .gap-energy .result + c .wide .result * a .c) < 4294967296
+    (c : tie.After-wide) → let a = c .before .before .before .before .before .before .args in
+    getD (a .w .now) (8 + a .k) 0 + (c .before .before .gap-cost .result + c .wide .result * a .c) < 4294967296
 most c =
-    let a = c .before .before .before .before .before .args in
-    let pre = c .before .before .before .before .before .pre in
+    let s = c .before .before .before .before .before .before in
+    let a = s .args in
+    let d = device (recorderOf (a .r .now)) (a .k) in
+    let ticks : a .s ≤ 4096 = omega (arith, s .pre .1, s .pre .0 .valid .few-ticks) in
     omega (
       arith,
-      product-fits (c .wide .result) (a .c) (omega arith) (omega arith),
-      closing-fits (a .d .pw) (getD (a .w .now) (8 + a .k) 0) (getD (a .w .now) (a .k) 0) (a .s) (omega arith) (pre .1 .1 .0) (pre .1 .1 .1 .0) (c .before .gap-energy .result) (c .before .gap-energy .ensures .1),
+      product-fits (c .wide .result) (a .c) (omega arith) (omega (arith, s .pre .1, s .pre .0 .valid .few-ticks)),
+      gap-is (c .before .before),
+      gap-cheap d (getD (a .w .now) (8 + a .k) 0) (getD (a .w .now) (a .k) 0) (a .s) (s .pre .1 .1 .0) (s .pre .1 .1 .1 .0),
+      product-fits (d .pw) (a .s) (s .pre .0 .narrow (a .k) (s .pre .1 .0)) ticks,
     )
 
 mul-w : tie.Need-mul-w
@@ -99,7 +118,7 @@ element-write-w-3 c = search needs
 
 returns : tie.Need-returns
 unfolding put
-returns c = rw (c .before .gap-energy .ensures .0, c .wide .ensures .0)
+returns c = rw (gap-is (c .before .before), c .wide .ensures .0, c .before .work-power .ensures)
 
 pub charge-spec : {M : Type 1} → statement M
 charge-spec =
@@ -113,9 +132,9 @@ charge-spec =
     add-ahead
     mul-ahead
     element-copy-out-ahead
-    sub-gap-energy
-    cast-gap-energy
-    gap-energy-requires
+    sub-gap-cost
+    gap-cost-requires
+    work-power-requires
     wide-requires
     mul-w
     add-w

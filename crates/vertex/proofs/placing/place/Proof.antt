@@ -3,7 +3,7 @@
 use mathlib.Core.Path.{_≡_, sym, _∙_, subst}
 use mathlib.Core.Logic.{⊎-elim}
 use mathlib.Core.List.{List}
-use Prim.Native.Nat.{ℕ, _≤_, _-_}
+use Prim.Native.Nat.{ℕ, _≤_, _<_, _-_}
 use native.Mathlib.Omega.{arith}
 use borrow.Author.Needs.{needs}
 use Rattle.flat.specs.Flat.{recorderOf}
@@ -13,13 +13,13 @@ use Rattle.vertex.proofs.placing.place.Statement.{statement}
 use Rattle.vertex.proofs.placing.place.Tie as tie
 
 abbrev Inv-loop : tie.InvT-loop
-Inv-loop r w₀ j s c m k₀ w k = (k ≤ m) × (m ≤ 8) × Put (recorderOf r) (j .0) s w₀ k w
+Inv-loop r costs w₀ j s c m k₀ w k = (k ≤ m) × (m ≤ 8) × Put (recorderOf r) (j .0) s w₀ k w
 
 abbrev μ-loop : tie.MeasureT-loop
-μ-loop r w₀ j s c m k₀ w k = m - k
+μ-loop r costs w₀ j s c m k₀ w k = m - k
 
 run-of-requires : tie.Need-run-of-requires Inv-loop μ-loop
-run-of-requires c κs = omega (arith, c .pre .1 .1 .known, c .pre .0 .few-jobs)
+run-of-requires c κs = omega (arith, c .pre .1 .1 .known, c .pre .0 .valid .few-jobs)
 
 wide-requires : tie.Need-wide-requires Inv-loop μ-loop
 wide-requires c κs = search needs
@@ -28,24 +28,23 @@ device-count-requires : tie.Need-device-count-requires Inv-loop μ-loop
 device-count-requires c κs = search needs
 
 mark-requires : tie.Need-mark-requires Inv-loop μ-loop
-mark-requires c κs = few-job _ (c .before .before .before .before .pre .0) _ _ _ (c .before .before .before .before .pre .1 .0) (c .before .before .before .before .pre .1 .1)
+mark-requires c κs = few-job _ (c .before .before .before .before .pre .0 .valid) _ _ _ (c .before .before .before .before .pre .1 .0) (c .before .before .before .before .pre .1 .1)
 
 loop-holds : tie.Need-loop-holds Inv-loop μ-loop
-loop-holds c = (omega arith, omega (arith, c .before .before .device-count .ensures, c .before .before .before .before .before .pre .0 .few-devices), put-none _ _ _ _ (rw (c .mark .ensures) (base-long _ (c .before .before .before .before .before .pre .0) _ _ _ (c .before .before .before .before .before .pre .1 .0) (c .before .before .before .before .before .pre .1 .1))))
+loop-holds c = (omega arith, omega (arith, c .before .before .device-count .ensures, c .before .before .before .before .before .pre .0 .valid .few-devices), put-none _ _ _ _ (rw (c .mark .ensures) (base-long _ (c .before .before .before .before .before .pre .0 .valid) _ _ _ (c .before .before .before .before .before .pre .1 .0) (c .before .before .before .before .before .pre .1 .1))))
 
 is-used-requires : tie.Need-is-used-requires Inv-loop μ-loop
-is-used-requires c κs = (omega arith, few-job _ (c .before .before .before .before .before .before .before .pre .0) _ _ _ (c .before .before .before .before .before .before .before .pre .1 .0) (c .before .before .before .before .before .before .before .pre .1 .1))
-
-device-of-requires : tie.Need-device-of-requires Inv-loop μ-loop
-device-of-requires c κs = omega arith
+is-used-requires c κs = (omega arith, few-job _ (c .before .before .before .before .before .before .before .pre .0 .valid) _ _ _ (c .before .before .before .before .before .before .before .pre .1 .0) (c .before .before .before .before .before .before .before .pre .1 .1))
 
 charge-requires : tie.Need-charge-requires Inv-loop μ-loop
 charge-requires c κs =
-    let start = c .before .before .before .before .before .before .before .before .before .before .before in
+    let l = c .before .before .before .before in
+    let start = l .before .before .before .before .before .before in
     let R = recorderOf (start .args .r .now) in
-    let l = c .before .before .before .before .before .loop in
-    let made : Put R (start .args .j .0) (start .args .s) (marked (start .args .j .0) (start .args .s) (start .args .w .now)) (l .k) (l .w) = subst (λ (b : List ℕ). Put R (start .args .j .0) (start .args .s) b (l .k) (l .w)) (c .before .before .before .before .before .before .mark .ensures) (l .inv .2) in
-    rw (c .before .device-of .ensures, c .before .before .before .before .before .before .before .before .before .wide .ensures .0, c .before .before .before .before .before .before .before .before .before .before .run-of .ensures) (may-charge R (start .pre .0) _ _ _ (start .pre .1 .0) (start .pre .1 .1) _ _ (omega (arith, c .before .before .before .before .loop-test .taken, c .before .before .before .before .before .before .before .before .device-count .ensures)) made (sym (c .before .before .before .is-used .ensures) ∙ c .before .before .if1 .taken))
+    let made : Put R (start .args .j .0) (start .args .s) (marked (start .args .j .0) (start .args .s) (start .args .w .now)) (l .loop .k) (l .loop .w) = subst (λ (b : List ℕ). Put R (start .args .j .0) (start .args .s) b (l .loop .k) (l .loop .w)) (l .before .mark .ensures) (l .loop .inv .2) in
+    let few : l .loop .k < R .devices .count = omega (arith, c .before .before .before .loop-test .taken, l .before .before .before .device-count .ensures) in
+    rw (l .before .before .before .before .wide .ensures .0, l .before .before .before .before .before .run-of .ensures)
+    (start .pre .0, (few, may-charge R (start .pre .0 .valid) _ _ _ (start .pre .1 .0) (start .pre .1 .1) _ _ few made (sym (c .before .before .is-used .ensures) ∙ c .before .if1 .taken)))
 
 add-k : tie.Need-add-k Inv-loop μ-loop
 add-k c = omega arith
@@ -54,7 +53,7 @@ loop-less : tie.Need-loop-less Inv-loop μ-loop
 loop-less c = omega arith
 
 loop-again : tie.Need-loop-again Inv-loop μ-loop
-loop-again c = ⊎-elim (λ x. (omega arith, c .before .before .before .loop .inv .1, subst (Put _ _ _ _ _) (sym (x .4 ∙ put-as _ _ _ _ _ _ _ _ (x .1 .ensures) (c .before .before .before .before .before .before .before .wide .ensures .0 ∙ c .before .before .before .before .before .before .before .before .run-of .ensures) (x .3 .ensures))) (put-used _ _ _ _ _ _ (omega arith) (c .before .before .before .loop .inv .2) (sym (c .before .is-used .ensures) ∙ x .0 .taken)))) (λ x. (omega arith, c .before .before .before .loop .inv .1, subst (Put _ _ _ _ _) (sym (x .1)) (put-unused _ _ _ _ _ _ (omega arith) (c .before .before .before .loop .inv .2) (sym (c .before .is-used .ensures) ∙ x .0 .left)))) (c .if1 .came)
+loop-again c = ⊎-elim (λ x. (omega arith, c .before .before .before .loop .inv .1, subst (Put _ _ _ _ _) (sym (x .3 ∙ put-as _ _ _ _ _ _ _ (c .before .before .before .before .before .before .before .wide .ensures .0 ∙ c .before .before .before .before .before .before .before .before .run-of .ensures) (x .2 .ensures))) (put-used _ _ _ _ _ _ (omega arith) (c .before .before .before .loop .inv .2) (sym (c .before .is-used .ensures) ∙ x .0 .taken)))) (λ x. (omega arith, c .before .before .before .loop .inv .1, subst (Put _ _ _ _ _) (sym (x .1)) (put-unused _ _ _ _ _ _ (omega arith) (c .before .before .before .loop .inv .2) (sym (c .before .is-used .ensures) ∙ x .0 .left)))) (c .if1 .came)
 
 returns : tie.Need-returns Inv-loop μ-loop
 returns c =
@@ -63,7 +62,7 @@ returns c =
     let l = c .before .loop in
     let all : l .k ≡ R .devices .count = omega (arith, c .before .before .before .before .device-count .ensures) in
     let made : Put R (start .args .j .0) (start .args .s) (marked (start .args .j .0) (start .args .s) (start .args .w .now)) (R .devices .count) (l .w) = subst (λ (n : ℕ). Put R (start .args .j .0) (start .args .s) (marked (start .args .j .0) (start .args .s) (start .args .w .now)) n (l .w)) all (subst (λ (b : List ℕ). Put R (start .args .j .0) (start .args .s) b (l .k) (l .w)) (c .before .before .mark .ensures) (l .inv .2)) in
-    (child-made R (start .pre .0) _ _ _ (start .pre .1 .0) (start .pre .1 .1) _ made, child-held R (start .pre .0) _ _ _ (start .pre .1 .0) (start .pre .1 .1) _ made)
+    (child-made R (start .pre .0 .valid) _ _ _ (start .pre .1 .0) (start .pre .1 .1) _ made, child-held R (start .pre .0 .valid) _ _ _ (start .pre .1 .0) (start .pre .1 .1) _ made)
 
 pub place-spec : {M : Type 1} → statement M
 place-spec =
@@ -77,7 +76,6 @@ place-spec =
     mark-requires
     loop-holds
     is-used-requires
-    device-of-requires
     charge-requires
     add-k
     loop-less
