@@ -28,7 +28,7 @@ extern "C" {
 uint8_t floe_check(const uint8_t *file, size_t file_len, uint8_t *result, size_t result_len);
 
 /* The plan of least energy: its start times by job number, two bytes each, if the budget covers the vertices of the search. `starts` has at least two bytes
- * for each job; what follows the last job's stays as it was. */
+ * for each job; what follows the last job's stays as it was. The search keeps 129 KiB on the stack. */
 uint8_t floe_search(const uint8_t *file, size_t file_len, uint32_t budget, uint8_t *starts, size_t starts_len, uint8_t *result, size_t result_len);
 
 /* For start times that are feasible, two bytes each and exactly one for each job: the row of every device, one letter a tick (W working, D going down,
