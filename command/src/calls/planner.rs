@@ -1,0 +1,397 @@
+//! The operations of the proved library, with Rust's types: include/floebucket.h and include/doors.h
+//! declare them.
+//!
+//! Every buffer that is lent here has room for the largest answer, so that 15 does not occur.
+
+use crate::tables::Tables;
+
+mod c {
+    extern "C" {
+        pub fn floe_check(f: *const u8, f_len: usize, r: *mut u8, r_len: usize) -> u8;
+        pub fn floe_search(
+            f: *const u8,
+            f_len: usize,
+            budget: u32,
+            s: *mut u8,
+            s_len: usize,
+            r: *mut u8,
+            r_len: usize,
+        ) -> u8;
+        pub fn floe_rows(
+            f: *const u8,
+            f_len: usize,
+            s: *const u8,
+            s_len: usize,
+            o: *mut u8,
+            o_len: usize,
+            r: *mut u8,
+            r_len: usize,
+        ) -> u8;
+        pub fn door_verdict(
+            f: *const u8,
+            f_len: usize,
+            s: *const u8,
+            s_len: usize,
+            r: *mut u8,
+            r_len: usize,
+        ) -> u8;
+        pub fn door_margins(
+            f: *const u8,
+            f_len: usize,
+            s: *const u8,
+            s_len: usize,
+            o: *mut u8,
+            o_len: usize,
+            r: *mut u8,
+            r_len: usize,
+        ) -> u8;
+        pub fn door_write(
+            t: *const u8,
+            t_len: usize,
+            o: *mut u8,
+            o_len: usize,
+            r: *mut u8,
+            r_len: usize,
+        ) -> u8;
+        pub fn door_tables(
+            f: *const u8,
+            f_len: usize,
+            o: *mut u8,
+            o_len: usize,
+            r: *mut u8,
+            r_len: usize,
+        ) -> u8;
+        pub fn door_build(
+            c: *const u8,
+            c_len: usize,
+            w: *const u8,
+            w_len: usize,
+            t: *const u8,
+            t_len: usize,
+            o: *mut u8,
+            o_len: usize,
+            r: *mut u8,
+            r_len: usize,
+        ) -> u8;
+        pub fn door_possible(
+            f: *const u8,
+            f_len: usize,
+            budget: u32,
+            s: *mut u8,
+            s_len: usize,
+            r: *mut u8,
+            r_len: usize,
+        ) -> u8;
+        pub fn door_mend(
+            f: *const u8,
+            f_len: usize,
+            s: *const u8,
+            s_len: usize,
+            o: *mut u8,
+            o_len: usize,
+            m: *mut u8,
+            m_len: usize,
+            r: *mut u8,
+            r_len: usize,
+        ) -> u8;
+    }
+}
+
+const RESULT: usize = 11;
+
+/// The most jobs, devices and ticks that a request has, and more bytes than any file or table.
+const JOBS: usize = 16;
+const DEVICES: usize = 8;
+const TICKS: usize = 4096;
+const BYTES: usize = 1024;
+
+/// The number of a refusal, with the job that it names and its count; what does not apply is 0.
+#[derive(Clone, Copy, Debug, PartialEq, Eq)]
+pub struct Refused {
+    pub number: u8,
+    pub job: usize,
+    pub count: u32,
+}
+
+type Answered<T> = Result<T, Refused>;
+
+/// What an operation gives besides its number.
+struct Success {
+    horizon: usize,
+    energy: u32,
+    count: u32,
+}
+
+fn answer(number: u8, result: &[u8; RESULT]) -> Answered<Success> {
+    let [job, h1, h0, e3, e2, e1, e0, c3, c2, c1, c0] = *result;
+    let count = u32::from_be_bytes([c3, c2, c1, c0]);
+    if number != 0 {
+        return Err(Refused {
+            number,
+            job: usize::from(job),
+            count,
+        });
+    }
+    Ok(Success {
+        horizon: usize::from(u16::from_be_bytes([h1, h0])),
+        energy: u32::from_be_bytes([e3, e2, e1, e0]),
+        count,
+    })
+}
+
+fn pairs(starts: &[u16]) -> Vec<u8> {
+    starts
+        .iter()
+        .flat_map(|start| start.to_be_bytes())
+        .collect()
+}
+
+fn numbers(bytes: &[u8]) -> impl Iterator<Item = u16> + '_ {
+    bytes
+        .chunks_exact(2)
+        .map(|pair| u16::from_be_bytes([pair[0], pair[1]]))
+}
+
+// SAFETY, of every call below: each pointer comes from a live slice and goes with that slice's own
+// length, no two of a call overlap, and the library keeps none of them.
+
+/// The horizon of a request that is accepted.
+pub fn check(file: &[u8]) -> Answered<usize> {
+    let mut result = [0; RESULT];
+    let number =
+        unsafe { c::floe_check(file.as_ptr(), file.len(), result.as_mut_ptr(), result.len()) };
+    Ok(answer(number, &result)?.horizon)
+}
+
+/// Start times by job number, and how many vertices were counted till they were certain.
+#[derive(Clone, Debug)]
+pub struct Found {
+    pub starts: Vec<u16>,
+    pub count: u32,
+}
+
+/// The plan of least energy.
+pub fn search(file: &[u8], budget: u32) -> Answered<Found> {
+    found(file, |starts, result| unsafe {
+        c::floe_search(
+            file.as_ptr(),
+            file.len(),
+            budget,
+            starts.as_mut_ptr(),
+            starts.len(),
+            result.as_mut_ptr(),
+            result.len(),
+        )
+    })
+}
+
+/// The first of all plans, whatever it costs.
+pub fn any_plan(file: &[u8], budget: u32) -> Answered<Found> {
+    found(file, |starts, result| unsafe {
+        c::door_possible(
+            file.as_ptr(),
+            file.len(),
+            budget,
+            starts.as_mut_ptr(),
+            starts.len(),
+            result.as_mut_ptr(),
+            result.len(),
+        )
+    })
+}
+
+fn found(file: &[u8], call: impl Fn(&mut [u8], &mut [u8]) -> u8) -> Answered<Found> {
+    let mut starts = [0; 2 * JOBS];
+    let mut result = [0; RESULT];
+    let number = call(&mut starts, &mut result);
+    let success = answer(number, &result)?;
+    Ok(Found {
+        starts: numbers(&starts).take(job_count(file)?).collect(),
+        count: success.count,
+    })
+}
+
+/// How many jobs a request has: as many as the start times that it takes.
+pub fn job_count(file: &[u8]) -> Answered<usize> {
+    let mut starts = Vec::new();
+    loop {
+        match margins(file, &starts) {
+            Ok(_) => return Ok(starts.len()),
+            Err(refused) if refused.number == 14 && starts.len() < JOBS => starts.push(0),
+            Err(refused) => return Err(refused),
+        }
+    }
+}
+
+/// The energy of start times that are feasible.
+pub fn verdict(file: &[u8], starts: &[u16]) -> Answered<u32> {
+    let starts = pairs(starts);
+    let mut result = [0; RESULT];
+    let number = unsafe {
+        c::door_verdict(
+            file.as_ptr(),
+            file.len(),
+            starts.as_ptr(),
+            starts.len(),
+            result.as_mut_ptr(),
+            result.len(),
+        )
+    };
+    Ok(answer(number, &result)?.energy)
+}
+
+/// The margin of each job, for any start times.
+pub fn margins(file: &[u8], starts: &[u16]) -> Answered<Vec<i32>> {
+    let bytes = pairs(starts);
+    let mut out = [0; 4 * JOBS];
+    let mut result = [0; RESULT];
+    let number = unsafe {
+        c::door_margins(
+            file.as_ptr(),
+            file.len(),
+            bytes.as_ptr(),
+            bytes.len(),
+            out.as_mut_ptr(),
+            out.len(),
+            result.as_mut_ptr(),
+            result.len(),
+        )
+    };
+    answer(number, &result)?;
+    let margin = |four: &[u8]| i32::from_be_bytes([four[0], four[1], four[2], four[3]]);
+    Ok(out.chunks_exact(4).map(margin).take(starts.len()).collect())
+}
+
+/// The row of every device for feasible start times, one letter a tick, and what they cost.
+#[derive(Clone, Debug)]
+pub struct Rows {
+    pub energy: u32,
+    pub rows: Vec<Vec<u8>>,
+}
+
+pub fn rows(file: &[u8], starts: &[u16]) -> Answered<Rows> {
+    let starts = pairs(starts);
+    let mut out = vec![0; DEVICES * TICKS];
+    let mut result = [0; RESULT];
+    let number = unsafe {
+        c::floe_rows(
+            file.as_ptr(),
+            file.len(),
+            starts.as_ptr(),
+            starts.len(),
+            out.as_mut_ptr(),
+            out.len(),
+            result.as_mut_ptr(),
+            result.len(),
+        )
+    };
+    let success = answer(number, &result)?;
+    let devices = tables(file)?.devices.count;
+    // An accepted request has a horizon of at least 1.
+    let rows = out.chunks(success.horizon.max(1)).take(devices);
+    Ok(Rows {
+        energy: success.energy,
+        rows: rows.map(<[u8]>::to_vec).collect(),
+    })
+}
+
+/// A job that was moved, with its given start and its new one.
+#[derive(Clone, Copy, Debug, PartialEq, Eq)]
+pub struct Move {
+    pub job: usize,
+    pub given: u16,
+    pub new: u16,
+}
+
+/// The start times mended, and which of them moved.
+pub fn mend(file: &[u8], starts: &[u16]) -> Answered<(Vec<u16>, Vec<Move>)> {
+    let given = pairs(starts);
+    let mut out = [0; 2 * JOBS];
+    let mut moved = [0; 6 * JOBS];
+    let mut result = [0; RESULT];
+    let number = unsafe {
+        c::door_mend(
+            file.as_ptr(),
+            file.len(),
+            given.as_ptr(),
+            given.len(),
+            out.as_mut_ptr(),
+            out.len(),
+            moved.as_mut_ptr(),
+            moved.len(),
+            result.as_mut_ptr(),
+            result.len(),
+        )
+    };
+    let success = answer(number, &result)?;
+    let listed: Vec<u16> = numbers(&moved).collect();
+    let moves = listed.chunks_exact(3).map(|three| Move {
+        job: usize::from(three[0]),
+        given: three[1],
+        new: three[2],
+    });
+    Ok((
+        numbers(&out).take(starts.len()).collect(),
+        moves.take(success.count as usize).collect(),
+    ))
+}
+
+/// The file that tables make.
+pub fn write(tables: &Tables) -> Answered<Vec<u8>> {
+    let tables = tables.bytes();
+    let mut out = [0; BYTES];
+    let mut result = [0; RESULT];
+    let number = unsafe {
+        c::door_write(
+            tables.as_ptr(),
+            tables.len(),
+            out.as_mut_ptr(),
+            out.len(),
+            result.as_mut_ptr(),
+            result.len(),
+        )
+    };
+    let written = answer(number, &result)?.count as usize;
+    Ok(out.iter().copied().take(written).collect())
+}
+
+/// The tables of a file.
+pub fn tables(file: &[u8]) -> Answered<Tables> {
+    let mut out = [0; BYTES];
+    let mut result = [0; RESULT];
+    let number = unsafe {
+        c::door_tables(
+            file.as_ptr(),
+            file.len(),
+            out.as_mut_ptr(),
+            out.len(),
+            result.as_mut_ptr(),
+            result.len(),
+        )
+    };
+    let length = answer(number, &result)?.count as usize;
+    Ok(Tables::of_bytes(out.get(..length).unwrap_or(&out)))
+}
+
+/// The file of the wanted parts, with the other sections as the tables have them.
+pub fn build(catalogue: &[u8], wanted: &[u8], tables: &Tables) -> Answered<Vec<u8>> {
+    let tables = tables.bytes();
+    let mut out = [0; BYTES];
+    let mut result = [0; RESULT];
+    let number = unsafe {
+        c::door_build(
+            catalogue.as_ptr(),
+            catalogue.len(),
+            wanted.as_ptr(),
+            wanted.len(),
+            tables.as_ptr(),
+            tables.len(),
+            out.as_mut_ptr(),
+            out.len(),
+            result.as_mut_ptr(),
+            result.len(),
+        )
+    };
+    let written = answer(number, &result)?.count as usize;
+    Ok(out.iter().copied().take(written).collect())
+}

@@ -1,0 +1,111 @@
+//! write, show and build.
+
+use crate::arguments::Arguments;
+use crate::calls::planner;
+use crate::failure::Failure;
+use crate::refusal;
+use crate::request::{malformed, Request};
+use crate::streams;
+use crate::tables::Tables;
+use crate::text::catalogue::{self, padded, Catalogue, NUMBER};
+use crate::text::reader::{self, Text};
+use crate::text::show::show as text_of;
+use std::ffi::OsStr;
+
+pub fn write(mut arguments: Arguments) -> Result<Vec<u8>, Failure> {
+    let path = arguments.next("REQUEST")?;
+    arguments.end()?;
+    let request = Request::open(&path)?;
+    request.tables()?;
+    Ok(request.file)
+}
+
+pub fn show(mut arguments: Arguments) -> Result<Vec<u8>, Failure> {
+    let path = arguments.next("REQUEST")?;
+    arguments.end()?;
+    let (horizon, tables) = Request::open(&path)?.tables()?;
+    Ok(text_of(&tables, horizon).into_bytes())
+}
+
+pub fn build(mut arguments: Arguments) -> Result<Vec<u8>, Failure> {
+    let path = arguments.next("CATALOGUE")?;
+    let others = arguments.next("REQUEST")?;
+    let names = arguments.rest();
+    let catalogue =
+        catalogue::read(&streams::read(&path)?).map_err(|fault| malformed(&path, &fault))?;
+    let text = without_devices(&others)?;
+    let wanted: Vec<Vec<u8>> = names.iter().map(|name| wanted(name)).collect();
+    built(&catalogue, &wanted, &names, &text)
+}
+
+/// The horizon, the tasks and the jobs. They may use devices that only the catalogue brings, so that
+/// they are taken as text and not from a file, which would be refused.
+fn without_devices(path: &OsStr) -> Result<Text, Failure> {
+    let text = reader::read(&streams::read(path)?).map_err(|fault| malformed(path, &fault))?;
+    match text.places.devices.first() {
+        None => Ok(text),
+        Some(line) => Err(Failure::Refused(format!(
+            "floe: {}: line {line}, column 1: a device, and the catalogue brings the devices",
+            streams::name(path)
+        ))),
+    }
+}
+
+/// A wanted part number as the library takes it. One that is longer than any part of a catalogue is
+/// handed on as eight bytes that no catalogue has either: the library says that it is lacking.
+fn wanted(name: &str) -> Vec<u8> {
+    padded(name).unwrap_or_else(|| vec![0; NUMBER])
+}
+
+fn built(
+    catalogue: &Catalogue,
+    wanted: &[Vec<u8>],
+    names: &[String],
+    text: &Text,
+) -> Result<Vec<u8>, Failure> {
+    let build = |parts: usize, wants: usize, tables: &Tables| {
+        let parts = catalogue.parts.iter().take(parts);
+        let wants = wanted.iter().take(wants);
+        let [parts, wants] = [
+            parts.flatten().copied().collect(),
+            wants.flatten().copied().collect(),
+        ]
+        .map(|bytes: Vec<u8>| bytes);
+        planner::build(&parts, &wants, tables)
+    };
+    let (parts, wants) = (catalogue.parts.len(), wanted.len());
+    let number = match build(parts, wants, &text.tables) {
+        Ok(file) => return Ok(file),
+        Err(refused) => refused.number,
+    };
+    // The place is that of the first part, or the first wanted one, with which the number comes.
+    let none = Tables::empty();
+    let comes = |parts, wants| build(parts, wants, &none).is_err_and(|said| said.number == number);
+    let faulty_part = (1..=parts).find(|&parts| comes(parts, 0));
+    let lacking = (1..=wants).find(|&wants| comes(parts, wants));
+    Err(match (number, faulty_part, lacking) {
+        (21 | 22, Some(count), _) => {
+            let line = catalogue.lines.get(count - 1).copied().unwrap_or(0);
+            refusal::at(number, format!("part {} (line {line})", count - 1))
+        }
+        (23, _, Some(count)) => {
+            let name = names.get(count - 1).map_or("", String::as_str);
+            refusal::at(number, format!("part {name}"))
+        }
+        _ => of_the_file(number, catalogue, wanted, text),
+    })
+}
+
+/// A refusal of the file that the parts make: its devices are the wanted parts, as far as there are
+/// records of them.
+fn of_the_file(number: u8, catalogue: &Catalogue, wanted: &[Vec<u8>], text: &Text) -> Failure {
+    let mut tables = text.tables.clone();
+    for name in wanted {
+        let part = catalogue.parts.iter().find(|part| part.starts_with(name));
+        let record = part.map_or(&[][..], |part| &part[NUMBER..]);
+        tables
+            .devices
+            .add(record.to_vec(), crate::tables::MOST_DEVICES);
+    }
+    refusal::of_file(number, &tables.laid_out(), Some(&text.places))
+}

@@ -1,0 +1,132 @@
+//! Where a file is at fault. No file is read a second time here: the place is where the shortest
+//! prefix ends for which the library no longer says that bytes are missing (1). What stands there
+//! follows from the counts.
+
+use crate::calls::planner;
+use crate::kinds::{self, Kind, JOB, TASK};
+use crate::text::reader::Places;
+
+#[derive(Clone, Copy, Debug, PartialEq, Eq)]
+pub enum Part {
+    Horizon,
+    DeviceCount,
+    Device(usize),
+    TaskCount,
+    Task(usize),
+    JobCount,
+    Job(usize),
+    /// What follows the last section.
+    Tail,
+}
+
+/// A part of a file: its bytes from the first up to, not including, the second. Counted from 0.
+#[derive(Clone, Copy, Debug, PartialEq, Eq)]
+pub struct Place {
+    pub part: Part,
+    pub from: usize,
+    pub to: usize,
+}
+
+/// The parts of a file one after the other, as its counts say. The last may end after the file.
+fn parts(file: &[u8]) -> Vec<Place> {
+    let kind = Kind::of_file(file);
+    let mut parts = Vec::new();
+    let mut at = kind.marker.len();
+    let mut add = |part, at: &mut usize, size: usize| {
+        let from = *at;
+        *at += size;
+        parts.push(Place {
+            part,
+            from,
+            to: *at,
+        });
+    };
+    add(Part::Horizon, &mut at, 2);
+    type Numbered = fn(usize) -> Part;
+    let sections: [(Part, Numbered, usize); 3] = [
+        (Part::DeviceCount, Part::Device, kinds::size(kind.device)),
+        (Part::TaskCount, Part::Task, kinds::size(&TASK)),
+        (Part::JobCount, Part::Job, kinds::size(&JOB)),
+    ];
+    for (count, numbered, size) in sections {
+        let records = file.get(at).copied().unwrap_or(0);
+        add(count, &mut at, 1);
+        for number in 0..usize::from(records) {
+            add(numbered(number), &mut at, size);
+        }
+    }
+    parts
+}
+
+/// What a count of a file says; 0 where the file ends before it.
+pub fn count(file: &[u8], part: Part) -> u32 {
+    let place = parts(file).into_iter().find(|place| place.part == part);
+    let byte = place.and_then(|place| file.get(place.from));
+    byte.map_or(0, |&byte| u32::from(byte))
+}
+
+/// The place of the first fault of a file that is not accepted.
+pub fn of_fault(file: &[u8]) -> Option<Place> {
+    let is_cut_short = |length: &usize| {
+        let prefix = planner::check(&file[..*length]);
+        prefix.is_err_and(|refused| refused.number == 1)
+    };
+    let Some(end) = (0..=file.len()).find(|length| !is_cut_short(length)) else {
+        return parts(file).into_iter().find(|place| place.to > file.len());
+    };
+    if planner::check(&file[..end]).is_ok() {
+        return Some(Place {
+            part: Part::Tail,
+            from: end,
+            to: file.len(),
+        });
+    }
+    parts(file).into_iter().find(|place| place.to == end)
+}
+
+impl Place {
+    fn name(&self) -> String {
+        match self.part {
+            Part::Horizon => "horizon".to_string(),
+            Part::DeviceCount => "device count".to_string(),
+            Part::Device(number) => format!("device {number}"),
+            Part::TaskCount => "task count".to_string(),
+            Part::Task(number) => format!("task {number}"),
+            Part::JobCount => "job count".to_string(),
+            Part::Job(number) => format!("job {number}"),
+            Part::Tail => "end".to_string(),
+        }
+    }
+
+    /// The line that brought the fault, where the file came as text. A count is at fault by the
+    /// first record too many; once the jobs are counted the horizon is judged too (rule 15).
+    fn line(&self, number: u8, places: &Places) -> Option<usize> {
+        let line = match self.part {
+            Part::Horizon => places.horizon.as_ref(),
+            Part::DeviceCount => places.devices.last(),
+            Part::Device(number) => places.devices.get(number),
+            Part::TaskCount => places.tasks.last(),
+            Part::Task(number) => places.tasks.get(number),
+            Part::JobCount => match number {
+                10 => places.horizon.as_ref(),
+                11 => places.horizon.as_ref().or(places.jobs.first()),
+                _ => places.jobs.last(),
+            },
+            Part::Job(number) => places.jobs.get(number),
+            Part::Tail => None,
+        };
+        line.copied()
+    }
+
+    /// As `job 4 (bytes 31 to 37)`, with the line in front where there is one.
+    pub fn describe(&self, number: u8, places: Option<&Places>) -> String {
+        let line = places.and_then(|places| self.line(number, places));
+        let line = line.map_or(String::new(), |line| format!("line {line}, "));
+        let bytes = if self.to == self.from + 1 {
+            format!("byte {}", self.from)
+        } else {
+            format!("bytes {} to {}", self.from, self.to - 1)
+        };
+        format!("{} ({line}{bytes})", self.name())
+    }
+}

@@ -1,0 +1,220 @@
+//! Refusals in words. The number is the library's; the words say what it means for the record at
+//! hand.
+
+use crate::calls::planner::{self, Refused};
+use crate::failure::Failure;
+use crate::jobs::Job;
+use crate::kinds::{members, value, Kind, JOB, TASK};
+use crate::place::{self, Part, Place};
+use crate::text::reader::Places;
+
+/// What each number says by itself (README.md lists them).
+fn meaning(number: u8) -> &'static str {
+    match number {
+        1 => "a byte that is called for is not there",
+        2 => "bytes follow the last section",
+        3 => "more than 8 devices",
+        4 => "a transition time of 0",
+        5 => "the powers asleep, moving and working do not rise",
+        6 => "more than 8 tasks",
+        7 => "a period outside 1 to 4096",
+        8 => "a running time outside 1 to the period",
+        9 => "a device set names a device that the request lacks",
+        10 => "the horizon is outside 1 to 4096",
+        11 => "tasks together with a horizon or with jobs",
+        12 => "more than 16 jobs",
+        13 => "a job that does not fit its window or the horizon",
+        14 => "not one start time for each job",
+        15 => "a lent output is too short",
+        16 => "a job starts before its release",
+        17 => "a job ends after its deadline",
+        18 => "two jobs overlap",
+        19 => "no schedule meets all deadlines",
+        20 => "the budget is smaller than the vertex count",
+        21 => "a part number is not digits and capital letters, or there are more than 64 parts",
+        22 => "a part number stands twice in the catalogue",
+        23 => "a wanted part that the catalogue lacks",
+        _ => "the library does not take this",
+    }
+}
+
+fn failure(number: u8, place: Option<String>, words: String) -> Failure {
+    let place = place.map_or(String::new(), |place| format!("{place}: "));
+    Failure::Refused(format!("refused {number}: {place}{words}"))
+}
+
+/// A refusal that has no place.
+pub fn plain(number: u8) -> Failure {
+    failure(number, None, meaning(number).to_string())
+}
+
+/// A refusal at a place that the caller names.
+pub fn at(number: u8, place: String) -> Failure {
+    failure(number, Some(place), meaning(number).to_string())
+}
+
+/// A file that is refused, with the place of its fault and, where it came as text, the line.
+pub fn of_file(number: u8, file: &[u8], places: Option<&Places>) -> Failure {
+    // The place is that of this number, or it is not told.
+    let is_same = planner::check(file).is_err_and(|refused| refused.number == number);
+    let place = place::of_fault(file).filter(|_| is_same);
+    match place {
+        Some(place) => failure(
+            number,
+            Some(place.describe(number, places)),
+            fault(number, file, &place).unwrap_or_else(|| meaning(number).to_string()),
+        ),
+        None => plain(number),
+    }
+}
+
+/// What is wrong with the record at a place, by its own numbers.
+fn fault(number: u8, file: &[u8], place: &Place) -> Option<String> {
+    let record = file.get(place.from..place.to.min(file.len()))?;
+    let kind = Kind::of_file(file);
+    let horizon = number_in(file, kind.marker.len(), 2);
+    let device_count = place::count(file, Part::DeviceCount);
+    let has_tasks = place::count(file, Part::TaskCount) > 0;
+    let task = |field| value(&TASK, record, field);
+    let job = |field| value(&JOB, record, field);
+    let count = number_in(record, 0, 1);
+    Some(match (number, place.part) {
+        (1, _) => {
+            let (there, all) = (record.len(), place.to - place.from);
+            format!(
+                "the file ends here, with {there} of {all} {}",
+                plural(all, "byte")
+            )
+        }
+        (2, Part::Tail) => {
+            let more = record.len();
+            format!("{more} {} after the last section", plural(more, "byte"))
+        }
+        (3, Part::DeviceCount) => format!("{count} devices, at most 8"),
+        (5, Part::Device(_)) => powers(kind, record)?,
+        (6, Part::TaskCount) => format!("{count} tasks, at most 8"),
+        (7, Part::Task(_)) => format!("period {} is outside 1 to 4096", task(0)),
+        (8, Part::Task(_)) if task(1) == 0 => "running time 0".to_string(),
+        (8, Part::Task(_)) => format!("running time {} > period {}", task(1), task(0)),
+        (9, Part::Task(_)) => missing_device(task(2), device_count)?,
+        (9, Part::Job(_)) => missing_device(job(3), device_count)?,
+        (10, Part::JobCount) if horizon > 0 => format!("horizon {horizon} is outside 1 to 4096"),
+        (10, Part::JobCount) if has_tasks => {
+            "the periods have no common multiple up to 4096".to_string()
+        }
+        (10, Part::JobCount) => "no horizon and no tasks".to_string(),
+        (11, Part::JobCount) if horizon > 0 => format!("tasks and a horizon, {horizon}"),
+        (11, Part::JobCount) => format!("tasks and {count} {}", plural(count as usize, "job")),
+        (12, Part::JobCount) if count > 0 => format!("{count} jobs, at most 16"),
+        (12, Part::JobCount) => "the tasks release more than 16 jobs".to_string(),
+        (13, Part::Job(_)) if job(2) == 0 => "running time 0".to_string(),
+        (13, Part::Job(_)) if job(0) + job(2) > job(1) => {
+            let (release, deadline, running) = (job(0), job(1), job(2));
+            format!("release {release} + running time {running} > deadline {deadline}")
+        }
+        (13, Part::Job(_)) => format!("deadline {} > horizon {horizon}", job(1)),
+        _ => return None,
+    })
+}
+
+fn number_in(bytes: &[u8], from: usize, length: usize) -> u32 {
+    let bytes = bytes.iter().skip(from).take(length);
+    bytes.fold(0, |number, &byte| number << 8 | u32::from(byte))
+}
+
+/// The first two powers that do not rise.
+fn powers(kind: &Kind, record: &[u8]) -> Option<String> {
+    let [asleep, moving, working] = [b'S', b'D', b'W'].map(|letter| kind.power(record, letter));
+    let (asleep, moving, working) = (asleep?, moving?, working?);
+    let pairs = [
+        (("asleep", asleep), ("moving", moving)),
+        (("asleep", asleep), ("working", working)),
+        (("moving", moving), ("working", working)),
+    ];
+    let ((low, less), (high, more)) = pairs.into_iter().find(|(low, high)| low.1 >= high.1)?;
+    let relation = if less == more { "=" } else { ">" };
+    Some(format!("power {low} {less} {relation} power {high} {more}"))
+}
+
+fn missing_device(set: u32, devices: u32) -> Option<String> {
+    let missing = members(set).find(|&device| device as u32 >= devices)?;
+    let noun = plural(devices as usize, "device");
+    Some(format!(
+        "names device {missing}, and the request has {devices} {noun}"
+    ))
+}
+
+pub fn plural(count: usize, noun: &str) -> String {
+    if count == 1 {
+        noun.to_string()
+    } else {
+        format!("{noun}s")
+    }
+}
+
+/// A refusal of start times for an accepted request.
+pub fn of_starts(refused: Refused, jobs: &[Job], starts: &[u16]) -> Failure {
+    let Refused { number, job, .. } = refused;
+    if number == 14 {
+        let (given, wanted) = (starts.len(), jobs.len());
+        let words = format!(
+            "{given} start {} for {wanted} {}",
+            plural(given, "time"),
+            plural(wanted, "job")
+        );
+        return failure(number, None, words);
+    }
+    let words = starts_fault(number, job, jobs, starts);
+    failure(
+        number,
+        Some(format!("job {job}")),
+        words.unwrap_or_else(|| meaning(number).to_string()),
+    )
+}
+
+fn starts_fault(number: u8, at: usize, jobs: &[Job], starts: &[u16]) -> Option<String> {
+    let (job, start) = (jobs.get(at)?, usize::from(*starts.get(at)?));
+    let Job {
+        release,
+        deadline,
+        running,
+        ..
+    } = job;
+    match number {
+        16 => Some(format!("start {start} < release {release}")),
+        17 if start + running > *deadline => Some(format!(
+            "start {start} + running time {running} > deadline {deadline}"
+        )),
+        17 => Some(format!(
+            "in the order of the given starts it cannot end by its deadline {deadline}"
+        )),
+        18 => {
+            let runs = |number: usize| -> Option<(usize, usize)> {
+                let start = usize::from(*starts.get(number)?);
+                Some((start, start + jobs.get(number)?.running))
+            };
+            let (from, to) = runs(at)?;
+            let meets = |other: &usize| {
+                *other != at && runs(*other).is_some_and(|(start, end)| start < to && from < end)
+            };
+            let other = (0..jobs.len()).find(meets)?;
+            let (other_from, other_to) = runs(other)?;
+            Some(format!(
+                "runs from {from} to {to} and overlaps job {other}, from {other_from} to {other_to}"
+            ))
+        }
+        _ => None,
+    }
+}
+
+/// 19 or 20, of a search.
+pub fn of_search(refused: Refused) -> Failure {
+    let Refused { number, count, .. } = refused;
+    let vertices = plural(count as usize, "vertex").replace("vertexs", "vertices");
+    let words = match number {
+        19 => format!("{}, as {count} {vertices} show", meaning(19)),
+        20 => format!("the search has more than {count} {vertices}, which is the budget"),
+        _ => meaning(number).to_string(),
+    };
+    failure(number, None, words)
+}

@@ -1,0 +1,15 @@
+//! The text form of a request: lines of words.
+//!
+//! ```text
+//! horizon 5          # the ticks of the round; left out where there are tasks
+//! device 1 5 1 3     # T Pw Ps P0
+//! task 4 1 0,1       # period, running time, devices
+//! job 0 5 2 -        # release, deadline, running time, devices; - for none
+//! ```
+//!
+//! Nothing is judged here but what has no place in a file: the library refuses the rest.
+
+pub mod catalogue;
+pub mod lines;
+pub mod reader;
+pub mod show;
