@@ -1,5 +1,6 @@
-//! The example files: hex text whose comment lines say what the program prints.
+//! The example files: requests as text, whose comment lines say what the program prints.
 
+use crate::tables::{job, task, DeviceRecord, Tables};
 use std::fs;
 use std::path::{Path, PathBuf};
 
@@ -15,16 +16,18 @@ pub fn folder() -> PathBuf {
     Path::new(env!("CARGO_MANIFEST_DIR")).join("../examples")
 }
 
-/// All examples, by name.
+/// All examples that say what the program prints, by name.
 pub fn all(folder: &Path) -> Result<Vec<Example>, String> {
     let said = |what: std::io::Error| format!("{}: {what}", folder.display());
     let mut examples = Vec::new();
     for entry in fs::read_dir(folder).map_err(said)? {
         let path = entry.map_err(said)?.path();
-        if path.extension().is_some_and(|extension| extension == "hex") {
+        if path.extension().is_some_and(|extension| extension == "txt") {
             let text = fs::read_to_string(&path).map_err(said)?;
-            let name = path.file_name().unwrap_or_default().to_string_lossy();
-            examples.push(parse(&name, &text)?);
+            if text.contains("\n#> ") {
+                let name = path.file_stem().unwrap_or_default().to_string_lossy();
+                examples.push(parse(&name, &text)?);
+            }
         }
     }
     examples.sort_by(|one, other| one.name.cmp(&other.name));
@@ -32,33 +35,66 @@ pub fn all(folder: &Path) -> Result<Vec<Example>, String> {
 }
 
 fn parse(name: &str, text: &str) -> Result<Example, String> {
-    let mut file = Vec::new();
+    let mut tables = Tables::default();
     let mut expected = String::new();
     for line in text.lines() {
         if let Some(printed) = line.strip_prefix("#> ") {
             expected += printed;
             expected.push('\n');
-        } else if !line.starts_with('#') {
-            for word in line.split_whitespace() {
-                file.push(byte(word).ok_or(format!("{name}: {word} is not a hex byte"))?);
-            }
         }
+        let words: Vec<&str> = line
+            .split('#')
+            .next()
+            .into_iter()
+            .flat_map(str::split_whitespace)
+            .collect();
+        add(&mut tables, &words).ok_or(format!("{name}: not a line of a request: {line}"))?;
     }
     Ok(Example {
         name: name.to_string(),
-        file,
+        file: tables.bytes(),
         expected,
     })
 }
 
-/// Two upper-case digits: `basenc --base16` takes no others.
-fn byte(word: &str) -> Option<u8> {
-    let upper = |digit: u8| digit.is_ascii_digit() || (b'A'..=b'F').contains(&digit);
-    if word.len() == 2 && word.bytes().all(upper) {
-        u8::from_str_radix(word, 16).ok()
-    } else {
-        None
+/// One line more of a request, if it is one. A number that does not fit its field is none.
+fn add(tables: &mut Tables, words: &[&str]) -> Option<()> {
+    let number = |word: &str| word.parse::<u16>().ok();
+    let byte = |word: &str| word.parse::<u8>().ok();
+    match *words {
+        [] => {}
+        ["horizon", ticks] => tables.horizon = number(ticks)?,
+        ["device", transition, working, sleeping, moving] => tables.devices.push(DeviceRecord {
+            transition: byte(transition)?,
+            working: number(working)?,
+            sleeping: number(sleeping)?,
+            moving: number(moving)?,
+        }),
+        ["task", period, running, devices] => {
+            let devices = set(devices)?;
+            tables
+                .tasks
+                .push(task(number(period)?, number(running)?, devices));
+        }
+        ["job", release, deadline, running, devices] => {
+            let devices = set(devices)?;
+            let [release, deadline, running] = [release, deadline, running].map(number);
+            tables
+                .jobs
+                .push(job(release?, deadline?, running?, devices));
+        }
+        _ => return None,
     }
+    Some(())
+}
+
+fn set(word: &str) -> Option<u8> {
+    if word == "-" {
+        return Some(0);
+    }
+    let bit = |device: &str| 1u8.checked_shl(device.parse().ok()?);
+    word.split(',')
+        .try_fold(0, |set, device| Some(set | bit(device)?))
 }
 
 #[cfg(test)]
@@ -72,7 +108,7 @@ mod tests {
         let examples = all(&folder()).unwrap();
         let names: Vec<&str> = examples.iter().map(|each| each.name.as_str()).collect();
         let wanted = ["budget", "none", "p3", "p9", "table2", "table3"];
-        assert_eq!(names, wanted.map(|name| format!("{name}.hex")));
+        assert_eq!(names, wanted);
         for example in &examples {
             let printed = text(&search(&example.file, BUDGET));
             assert_eq!(printed, example.expected, "{}", example.name);
@@ -80,10 +116,18 @@ mod tests {
     }
 
     #[test]
-    fn lower_case_and_odd_digits_are_not_hex_bytes() {
-        assert_eq!(byte("0A"), Some(10));
-        assert_eq!(byte("0a"), None);
-        assert_eq!(byte("A"), None);
-        assert_eq!(byte("+1"), None);
+    fn what_is_no_line_of_a_request_is_said() {
+        for line in [
+            "horizon",
+            "horizon 65536",
+            "device 256 5 1 3",
+            "job 0 5 2 8",
+        ] {
+            assert!(parse("wrong", line).is_err(), "{line}");
+        }
+        let file = parse("right", "horizon 5 # ticks\njob 0 5 2 -")
+            .unwrap()
+            .file;
+        assert_eq!(file, [0, 5, 0, 0, 1, 0, 0, 0, 5, 0, 2, 0]);
     }
 }

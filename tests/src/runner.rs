@@ -32,7 +32,8 @@ impl Feed<'_> {
 pub struct Printed {
     pub output: Vec<u8>,
     pub errors: Vec<u8>,
-    /// The signal that ended it, if one did.
+    /// The status that it ended with, or the signal that ended it.
+    pub status: Option<i32>,
     pub signal: Option<i32>,
 }
 
@@ -52,8 +53,8 @@ impl Printed {
     pub fn report(&self) -> String {
         let [output, errors] =
             [&self.output, &self.errors].map(|text| String::from_utf8_lossy(text));
-        let signal = self.signal;
-        format!("output {output:?}, errors {errors:?}, signal {signal:?}")
+        let (status, signal) = (self.status, self.signal);
+        format!("output {output:?}, errors {errors:?}, status {status:?}, signal {signal:?}")
     }
 }
 
@@ -81,6 +82,7 @@ pub fn run(command: &mut Command, feed: &Feed) -> Result<Printed, String> {
     Ok(Printed {
         output,
         errors,
+        status: status.code(),
         signal: status.signal(),
     })
 }
