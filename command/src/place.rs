@@ -58,11 +58,25 @@ fn parts(file: &[u8]) -> Vec<Place> {
     parts
 }
 
-/// What a count of a file says; 0 where the file ends before it.
-pub fn count(file: &[u8], part: Part) -> u32 {
+/// The number in a part of a file, as far as it is there.
+fn number(file: &[u8], part: Part) -> u32 {
     let place = parts(file).into_iter().find(|place| place.part == part);
-    let byte = place.and_then(|place| file.get(place.from));
-    byte.map_or(0, |&byte| u32::from(byte))
+    let bytes = place.and_then(|place| file.get(place.from..place.to.min(file.len())));
+    let bytes = bytes.unwrap_or(&[]).iter();
+    bytes.fold(0, |number, &byte| number << 8 | u32::from(byte))
+}
+
+/// The horizon field, and how many devices and tasks a file says that it has.
+pub fn horizon(file: &[u8]) -> u32 {
+    number(file, Part::Horizon)
+}
+
+pub fn device_count(file: &[u8]) -> u32 {
+    number(file, Part::DeviceCount)
+}
+
+pub fn task_count(file: &[u8]) -> u32 {
+    number(file, Part::TaskCount)
 }
 
 /// The place of the first fault of a file that is not accepted.
@@ -100,7 +114,7 @@ impl Place {
 
     /// The line that brought the fault, where the file came as text. A count is at fault by the
     /// first record too many; once the jobs are counted the horizon is judged too (rule 15).
-    fn line(&self, number: u8, places: &Places) -> Option<usize> {
+    fn line(&self, number: u8, file: &[u8], places: &Places) -> Option<usize> {
         let line = match self.part {
             Part::Horizon => places.horizon.as_ref(),
             Part::DeviceCount => places.devices.last(),
@@ -109,7 +123,8 @@ impl Place {
             Part::Task(number) => places.tasks.get(number),
             Part::JobCount => match number {
                 10 => places.horizon.as_ref(),
-                11 => places.horizon.as_ref().or(places.jobs.first()),
+                11 if horizon(file) == 0 => places.jobs.first(),
+                11 => places.horizon.as_ref(),
                 _ => places.jobs.last(),
             },
             Part::Job(number) => places.jobs.get(number),
@@ -119,8 +134,8 @@ impl Place {
     }
 
     /// As `job 4 (bytes 31 to 37)`, with the line in front where there is one.
-    pub fn describe(&self, number: u8, places: Option<&Places>) -> String {
-        let line = places.and_then(|places| self.line(number, places));
+    pub fn describe(&self, number: u8, file: &[u8], places: Option<&Places>) -> String {
+        let line = places.and_then(|places| self.line(number, file, places));
         let line = line.map_or(String::new(), |line| format!("line {line}, "));
         let bytes = if self.to == self.from + 1 {
             format!("byte {}", self.from)

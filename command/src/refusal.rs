@@ -61,7 +61,7 @@ pub fn of_file(number: u8, file: &[u8], places: Option<&Places>) -> Failure {
     match place {
         Some(place) => failure(
             number,
-            Some(place.describe(number, places)),
+            Some(place.describe(number, file, places)),
             fault(number, file, &place).unwrap_or_else(|| meaning(number).to_string()),
         ),
         None => plain(number),
@@ -72,12 +72,12 @@ pub fn of_file(number: u8, file: &[u8], places: Option<&Places>) -> Failure {
 fn fault(number: u8, file: &[u8], place: &Place) -> Option<String> {
     let record = file.get(place.from..place.to.min(file.len()))?;
     let kind = Kind::of_file(file);
-    let horizon = number_in(file, kind.marker.len(), 2);
-    let device_count = place::count(file, Part::DeviceCount);
-    let has_tasks = place::count(file, Part::TaskCount) > 0;
+    let horizon = place::horizon(file);
+    let device_count = place::device_count(file);
+    let has_tasks = place::task_count(file) > 0;
     let task = |field| value(&TASK, record, field);
     let job = |field| value(&JOB, record, field);
-    let count = number_in(record, 0, 1);
+    let count = record.first().copied().unwrap_or(0);
     Some(match (number, place.part) {
         (1, _) => {
             let (there, all) = (record.len(), place.to - place.from);
@@ -104,7 +104,7 @@ fn fault(number: u8, file: &[u8], place: &Place) -> Option<String> {
         }
         (10, Part::JobCount) => "no horizon and no tasks".to_string(),
         (11, Part::JobCount) if horizon > 0 => format!("tasks and a horizon, {horizon}"),
-        (11, Part::JobCount) => format!("tasks and {count} {}", plural(count as usize, "job")),
+        (11, Part::JobCount) => format!("tasks and {count} {}", plural(usize::from(count), "job")),
         (12, Part::JobCount) if count > 0 => format!("{count} jobs, at most 16"),
         (12, Part::JobCount) => "the tasks release more than 16 jobs".to_string(),
         (13, Part::Job(_)) if job(2) == 0 => "running time 0".to_string(),
@@ -115,11 +115,6 @@ fn fault(number: u8, file: &[u8], place: &Place) -> Option<String> {
         (13, Part::Job(_)) => format!("deadline {} > horizon {horizon}", job(1)),
         _ => return None,
     })
-}
-
-fn number_in(bytes: &[u8], from: usize, length: usize) -> u32 {
-    let bytes = bytes.iter().skip(from).take(length);
-    bytes.fold(0, |number, &byte| number << 8 | u32::from(byte))
 }
 
 /// The first two powers that do not rise.

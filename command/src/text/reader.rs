@@ -20,7 +20,7 @@ pub struct Text {
 }
 
 const HORIZON: Field = Field {
-    name: "horizon",
+    name: "ticks",
     bytes: 2,
 };
 

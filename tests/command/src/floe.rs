@@ -1,0 +1,89 @@
+//! Calling the command, and what has come of it.
+
+use outside::runner::{piped, run, Feed, Printed};
+use std::path::PathBuf;
+use std::process::Command;
+
+/// How many runs were as they must be, or the first that was not.
+pub type Tried = Result<u64, String>;
+
+pub struct Floe {
+    program: PathBuf,
+}
+
+impl Floe {
+    pub fn new(program: PathBuf) -> Floe {
+        Floe { program }
+    }
+
+    pub fn program(&self) -> &PathBuf {
+        &self.program
+    }
+
+    pub fn command(&self, words: &[&str]) -> Command {
+        let mut command = piped(&self.program);
+        command.args(words);
+        command
+    }
+
+    /// A run with these bytes on standard input.
+    pub fn run(&self, words: &[&str], input: &[u8]) -> Result<Printed, String> {
+        run(&mut self.command(words), &Feed::whole(input))
+    }
+
+    /// The output of a run that must succeed without a word on standard error.
+    pub fn output(&self, words: &[&str], input: &[u8]) -> Result<Vec<u8>, String> {
+        let printed = self.run(words, input)?;
+        if printed.status == Some(0) && printed.errors.is_empty() {
+            return Ok(printed.output);
+        }
+        Err(format!("floe {words:?}: {}", printed.report()))
+    }
+
+    /// The number and the words of a run that must be refused.
+    pub fn refused(&self, words: &[&str], input: &[u8]) -> Result<(u8, String), String> {
+        let printed = self.run(words, input)?;
+        refusal(&printed).ok_or_else(|| format!("floe {words:?}: {}", printed.report()))
+    }
+
+    /// The output, or the number with its words: whichever it is, told as it must be.
+    pub fn answer(
+        &self,
+        words: &[&str],
+        input: &[u8],
+    ) -> Result<Result<Vec<u8>, (u8, String)>, String> {
+        let printed = self.run(words, input)?;
+        match refusal(&printed) {
+            Some(refused) => Ok(Err(refused)),
+            None if printed.status == Some(0) && printed.errors.is_empty() => {
+                Ok(Ok(printed.output))
+            }
+            None => Err(format!("floe {words:?}: {}", printed.report())),
+        }
+    }
+}
+
+/// Status 1, nothing on standard output, and one line `refused N: words` on standard error.
+fn refusal(printed: &Printed) -> Option<(u8, String)> {
+    let errors = String::from_utf8(printed.errors.clone()).ok()?;
+    let line = errors.strip_suffix('\n')?;
+    let (number, words) = line.strip_prefix("refused ")?.split_once(": ")?;
+    let is_told = printed.status == Some(1) && printed.output.is_empty() && !line.contains('\n');
+    is_told.then_some(())?;
+    Some((number.parse().ok()?, words.to_string()))
+}
+
+/// Nothing, or what is different.
+pub fn same<T: PartialEq + std::fmt::Debug>(
+    got: T,
+    expected: T,
+    what: impl Fn() -> String,
+) -> Result<(), String> {
+    if got == expected {
+        return Ok(());
+    }
+    Err(format!(
+        "{}\n  expected {expected:?}\n  got      {got:?}",
+        what()
+    ))
+}

@@ -1,0 +1,73 @@
+//! Help, and calls that mean nothing: status 2, with what there is on standard error.
+
+use crate::floe::{same, Floe, Tried};
+
+const COMMANDS: [&str; 10] = [
+    "plan", "check", "possible", "verdict", "rows", "mend", "write", "show", "draw", "build",
+];
+
+const WRONG: [&[&str]; 20] = [
+    &[],
+    &["planx"],
+    &["Plan"],
+    &[""],
+    &["--version"],
+    &["plan"],
+    &["plan", "-", "-"],
+    &["plan", "-", "--budget"],
+    &["plan", "-", "--budget", "x"],
+    &["plan", "-", "--budget", "4294967296"],
+    &["plan", "-", "--budget=1", "--budget=2"],
+    &["plan", "-", "--starts", "0"],
+    &["check", "-", "--budget", "1"],
+    &["verdict"],
+    &["verdict", "-", "x"],
+    &["rows", "-", "0,,1"],
+    &["mend", "-", "65536"],
+    &["draw", "-", "--starts", "0", "--budget", "9"],
+    &["build", "-"],
+    &["show", "-", "--text"],
+];
+
+pub fn test(floe: &Floe) -> Tried {
+    let mut runs = 0;
+    let overview = floe.output(&["--help"], b"")?;
+    let text = String::from_utf8_lossy(&overview).into_owned();
+    for help in ["-h", "help"] {
+        same(floe.output(&[help], b"")?, overview.clone(), || {
+            help.to_string()
+        })?;
+        runs += 1;
+    }
+    let longest = text.lines().map(|line| line.chars().count()).max();
+    same(longest <= Some(100), true, || {
+        format!("a line of {longest:?}")
+    })?;
+    for command in COMMANDS {
+        let line = text
+            .lines()
+            .find(|line| line.trim_start().starts_with(&format!("{command} ")));
+        same(line.is_some(), true, || format!("no help on {command}"))?;
+        let own = floe.output(&[command, "--help"], b"")?;
+        same(floe.output(&["help", command], b"")?, own.clone(), || {
+            command.to_string()
+        })?;
+        let is_own = String::from_utf8_lossy(&own).starts_with(&format!("floe {command} "));
+        same(is_own, true, || format!("help on {command}"))?;
+        runs += 2;
+    }
+    for words in WRONG {
+        let printed = floe.run(words, b"")?;
+        let is_told = printed.errors.len() > 20 && printed.output.is_empty();
+        same((printed.status, is_told), (Some(2), true), || {
+            format!("{words:?}: {}", printed.report())
+        })?;
+        if words.len() < 2 && *words != ["plan"] && *words != ["verdict"] {
+            let errors = String::from_utf8_lossy(&printed.errors).into_owned();
+            let names_all = COMMANDS.iter().all(|command| errors.contains(command));
+            same(names_all, true, || format!("{words:?}: {errors}"))?;
+        }
+        runs += 1;
+    }
+    Ok(runs)
+}

@@ -1,0 +1,93 @@
+//! `command PROGRAM [WORD]`: runs the command line on random requests, as files and as text, and holds what
+//! it prints to the oracle; then on wrong texts, wrong calls and streams that fail. With a word,
+//! only those tests that have it in their names.
+
+mod both_ways;
+mod floe;
+mod help;
+mod judging;
+mod malformed;
+mod parts;
+mod pictures;
+mod planning;
+mod streams;
+mod terminal;
+mod texts;
+
+use floe::{Floe, Tried};
+use std::path::PathBuf;
+use std::process::ExitCode;
+use std::sync::Mutex;
+use std::thread;
+
+type Test = fn(&Floe) -> Tried;
+
+const TESTS: [(&str, Test); 13] = [
+    ("plans and refusals of files", planning::test),
+    ("write and show", both_ways::test),
+    ("verdicts and rows", judging::verdicts),
+    ("mended start times", judging::mends),
+    ("any plan at all", judging::possible),
+    ("parts of a catalogue", parts::test),
+    ("pictures", pictures::test),
+    ("wrong texts", malformed::test),
+    ("help and wrong usage", help::test),
+    ("failing streams", streams::failing),
+    ("slow streams", streams::slow),
+    ("ten megabytes", streams::large),
+    ("a terminal, and the script", terminal::test),
+];
+
+/// Two at a time, each in its own thread; what they say is printed in their order.
+fn run(floe: &Floe, tests: &[&(&str, Test)]) -> bool {
+    let next = Mutex::new(tests.iter().enumerate());
+    let found = Mutex::new(vec![None; tests.len()]);
+    thread::scope(|scope| {
+        for _ in 0..2 {
+            scope.spawn(|| loop {
+                let taken = next.lock().expect("no test has panicked").next();
+                let Some((place, (_, test))) = taken else {
+                    return;
+                };
+                let tried = test(floe);
+                found.lock().expect("no test has panicked")[place] = Some(tried);
+            });
+        }
+    });
+    let mut passed = true;
+    let found = found.into_inner().expect("no test has panicked");
+    for ((name, _), tried) in tests.iter().zip(found) {
+        match tried {
+            Some(Ok(count)) => println!("{count:7}  {name}"),
+            Some(Err(reason)) => {
+                passed = false;
+                println!("FAILED: {name}: {reason}");
+            }
+            None => {
+                passed = false;
+                println!("FAILED: {name}: not run");
+            }
+        }
+    }
+    passed
+}
+
+fn main() -> ExitCode {
+    let mut words = std::env::args().skip(1);
+    let Some(program) = words.next() else {
+        println!("usage: command PROGRAM [WORD]");
+        return ExitCode::FAILURE;
+    };
+    let word = words.next().unwrap_or_default();
+    let tests: Vec<&(&str, Test)> = TESTS
+        .iter()
+        .filter(|(name, _)| name.contains(&word))
+        .collect();
+    if run(&Floe::new(PathBuf::from(program)), &tests) {
+        println!("command: all agree");
+        ExitCode::SUCCESS
+    } else {
+        println!("command: FAILED");
+        ExitCode::FAILURE
+    }
+}

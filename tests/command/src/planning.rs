@@ -1,0 +1,145 @@
+//! plan and check on random files, valid and damaged: the plan to the byte, a refusal with its
+//! number and its place.
+
+use crate::floe::{same, Floe, Tried};
+use crate::texts::{end_of_fault, part_before};
+use outside::cases::{draw, Kind};
+use outside::expect::{search, text, BUDGET};
+use outside::request::read;
+use outside::runner::{run, Feed};
+use std::time::Duration;
+
+const SEED: u64 = 20;
+const CASES: u64 = 1_200;
+
+pub fn test(floe: &Floe) -> Tried {
+    let mut met = [0; 21];
+    let mut runs = 0;
+    for number in 0..CASES {
+        let case = draw(SEED, number);
+        let file = &case.file;
+        let named = |words: &str| format!("case {number} ({}), {words}", case.kind.name());
+        if is_taken_for_text(file) {
+            let printed = floe.run(&["check", "-"], file)?;
+            let is_told = printed
+                .errors
+                .starts_with(b"floe: standard input: line 1, column ");
+            same((printed.status, is_told), (Some(1), true), || {
+                named("as text")
+            })?;
+            runs += 1;
+            continue;
+        }
+        let outcome = search(file, BUDGET);
+        met[usize::from(outcome.number)] += 1;
+        let budget = BUDGET.to_string();
+        let words = ["plan", "-", "--budget", &budget];
+        if outcome.number == 0 {
+            let plan = text(&outcome).into_bytes();
+            let feed = Feed {
+                file,
+                pieces: case.pieces.clone(),
+                pause: Duration::from_millis(1),
+            };
+            let printed = run(&mut floe.command(&words), &feed)?;
+            let got = (printed.status, printed.output, printed.errors);
+            same(got, (Some(0), plan.clone(), Vec::new()), || named("plan"))?;
+            same(floe.output(&["plan", "-"], file)?, plan, || {
+                named("plan with a rising budget")
+            })?;
+            same(floe.output(&["check", "-"], file)?, checked(file), || {
+                named("check")
+            })?;
+            runs += 3;
+            continue;
+        }
+        let (refused, said) = floe.refused(&words, file)?;
+        same(refused, outcome.number, || named(&said))?;
+        runs += 1;
+        if outcome.number <= 13 {
+            let (refused, said_by_check) = floe.refused(&["check", "-"], file)?;
+            same((refused, &said_by_check), (outcome.number, &said), || {
+                named("check")
+            })?;
+            same(place_told(&said), Some(place(file, outcome.number)), || {
+                named(&format!("refused {refused}: {said}"))
+            })?;
+            runs += 1;
+        } else if case.kind != Kind::OverBudget {
+            // With a rising budget only 19 is left.
+            same(floe.refused(&["plan", "-"], file)?.0, 19, || {
+                named("rising")
+            })?;
+            runs += 1;
+        }
+    }
+    let expected = (0..=13).chain([19, 20]);
+    let missed: Vec<usize> = expected.filter(|&number| met[number] == 0).collect();
+    if !missed.is_empty() {
+        return Err(format!("never met: {missed:?}"));
+    }
+    Ok(runs)
+}
+
+/// No file that is accepted has more than 8 devices; one that has is told apart as text.
+fn is_taken_for_text(file: &[u8]) -> bool {
+    file.len() >= 3 && file[2] > 8 && file[0] != 0xFF
+}
+
+fn checked(file: &[u8]) -> Vec<u8> {
+    let request = read(file).expect("an accepted file");
+    let devices = request.devices.len();
+    let tasks = file[3 + 7 * devices];
+    let (horizon, jobs) = (request.horizon, request.jobs.len());
+    format!("horizon {horizon}\ndevices {devices}\ntasks {tasks}\njobs {jobs}\n").into_bytes()
+}
+
+/// As `job 4`, 31 and 37 of `job 4 (bytes 31 to 37): ...`.
+fn place_told(said: &str) -> Option<(String, usize, usize)> {
+    let (name, rest) = said.split_once(" (")?;
+    let (bytes, _) = rest.split_once(')')?;
+    let (from, to) = match bytes.strip_prefix("bytes ") {
+        Some(both) => both.split_once(" to ")?,
+        None => (bytes.strip_prefix("byte ")?, bytes.strip_prefix("byte ")?),
+    };
+    Some((name.to_string(), from.parse().ok()?, to.parse().ok()?))
+}
+
+fn place(file: &[u8], number: u8) -> (String, usize, usize) {
+    match (number, end_of_fault(file)) {
+        (2, Some(end)) => ("end".to_string(), end, file.len() - 1),
+        (_, Some(end)) => {
+            let (name, from) = part_before(file, end);
+            (name, from, end - 1)
+        }
+        // Cut short: the part that ends after the file does.
+        (_, None) => {
+            let longer = |end: &usize| {
+                let mut whole = file.to_vec();
+                whole.resize(*end, 0);
+                *end > file.len() && is_end(&whole)
+            };
+            let end = (file.len() + 1..file.len() + 9).find(longer).unwrap_or(0);
+            let mut whole = file.to_vec();
+            whole.resize(end, 0);
+            let (name, from) = part_before(&whole, end);
+            (name, from, end - 1)
+        }
+    }
+}
+
+/// Whether a part of the file ends where the file does.
+fn is_end(file: &[u8]) -> bool {
+    let mut at = 2;
+    for size in [7, 5, 7] {
+        if file.len() <= at + 1 {
+            return file.len() >= at;
+        }
+        let records = usize::from(file[at]) * size;
+        if file.len() <= at + 1 + records {
+            return (file.len() - at - 1) % size == 0;
+        }
+        at += 1 + records;
+    }
+    false
+}

@@ -1,0 +1,78 @@
+//! How far the search has come, on a terminal and only there; and the script at the top.
+
+use crate::floe::{same, Floe, Tried};
+use outside::runner::{piped, run, Feed};
+use std::fs;
+use std::os::unix::fs::symlink;
+use std::path::Path;
+
+/// Ten loose jobs: 59,184,591 vertices.
+fn loose() -> String {
+    "horizon 14\ndevice 1 5 1 3\n".to_string() + &"job 0 14 1 0\n".repeat(10)
+}
+
+pub fn test(floe: &Floe) -> Tried {
+    let folder = std::env::temp_dir().join(format!("floe-terminal-{}", std::process::id()));
+    fs::create_dir_all(&folder).map_err(|fault| fault.to_string())?;
+    let tried = in_folder(floe, &folder);
+    let _ = fs::remove_dir_all(&folder);
+    tried
+}
+
+fn in_folder(floe: &Floe, folder: &Path) -> Tried {
+    let request = folder.join("loose.txt");
+    fs::write(&request, loose()).map_err(|fault| fault.to_string())?;
+    let request = request.to_string_lossy();
+    // Without a terminal the plan alone.
+    let plan = floe.output(&["plan", &request], b"")?;
+    let plan = String::from_utf8_lossy(&plan);
+    same(
+        plan.starts_with("energy 58\nvertices 59184591\n"),
+        true,
+        || plan.to_string(),
+    )?;
+    same(
+        floe.refused(&["plan", &request, "--budget", "59184590"], b"")?
+            .0,
+        20,
+        || "a budget that is one too small".to_string(),
+    )?;
+    let enough = floe.output(&["plan", &request, "--budget", "59184591"], b"")?;
+    same(String::from_utf8_lossy(&enough), plan.clone(), || {
+        "a budget that is just enough".to_string()
+    })?;
+    let mut runs = 3;
+
+    let mut terminal = piped(Path::new("script"));
+    let line = format!("'{}' plan '{request}'", floe.program().display());
+    terminal.args(["-qec", &line, "/dev/null"]);
+    match run(&mut terminal, &Feed::whole(b"")) {
+        Err(_) => println!("there is no script(1): the terminal is not tried"),
+        Ok(printed) => {
+            let said = String::from_utf8_lossy(&printed.output).replace("\r\n", "\n");
+            let is_told = said.contains("\rfloe: 1000000 vertices searched")
+                && said.contains("on to 64000000")
+                && said.ends_with(&format!("\r\x1b[K{plan}"));
+            same((printed.status, is_told), (Some(0), true), || said.clone())?;
+            runs += 1;
+        }
+    }
+
+    // The script finds its house from anywhere, through a link too.
+    let script = Path::new(env!("CARGO_MANIFEST_DIR")).join("../../floe");
+    let link = folder.join("floe");
+    symlink(&script, &link).map_err(|fault| fault.to_string())?;
+    for program in [&script, &link] {
+        let mut command = piped(program);
+        command.args(["plan", "loose.txt"]).current_dir(folder);
+        let printed = run(&mut command, &Feed::whole(b""))?;
+        let output = String::from_utf8_lossy(&printed.output).into_owned();
+        same(
+            (printed.status, output),
+            (Some(0), plan.to_string()),
+            || String::from_utf8_lossy(&printed.errors).into_owned(),
+        )?;
+        runs += 1;
+    }
+    Ok(runs)
+}

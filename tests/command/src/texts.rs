@@ -1,0 +1,137 @@
+//! Requests as text, written by the tests themselves, in many ways that mean the same; and where a
+//! file is at fault.
+
+use outside::random::Random;
+use outside::request::read;
+use outside::tables::Tables;
+
+/// A text, and the line of each record.
+#[derive(Default)]
+pub struct Text {
+    pub text: String,
+    pub horizon: Option<usize>,
+    pub devices: Vec<usize>,
+    pub tasks: Vec<usize>,
+    pub jobs: Vec<usize>,
+}
+
+fn set(random: &mut Random, devices: u8) -> String {
+    let mut names: Vec<String> = (0..8)
+        .filter(|device| devices >> device & 1 == 1)
+        .map(|device| device.to_string())
+        .collect();
+    if random.one_in(4) {
+        names.reverse();
+    }
+    if names.is_empty() {
+        "-".to_string()
+    } else {
+        names.join(",")
+    }
+}
+
+/// The lines of tables, of which those of one section keep their order.
+pub fn write(random: &mut Random, tables: &Tables) -> Text {
+    let mut sections: [Vec<Vec<String>>; 4] = Default::default();
+    let line = |word: &str, numbers: &[u16]| {
+        let numbers = numbers.iter().map(u16::to_string);
+        [word.to_string()].into_iter().chain(numbers).collect()
+    };
+    if tables.horizon != 0 || random.one_in(2) {
+        sections[0].push(line("horizon", &[tables.horizon]));
+    }
+    for device in &tables.devices {
+        let numbers = [
+            device.transition.into(),
+            device.working,
+            device.sleeping,
+            device.moving,
+        ];
+        sections[1].push(line("device", &numbers));
+    }
+    for task in &tables.tasks {
+        let mut words: Vec<String> = line("task", &[task.period, task.running]);
+        words.push(set(random, task.devices));
+        sections[2].push(words);
+    }
+    for job in &tables.jobs {
+        let mut words: Vec<String> = line("job", &[job.release, job.deadline, job.running]);
+        words.push(set(random, job.devices));
+        sections[3].push(words);
+    }
+    let in_order = !random.one_in(3);
+    let end = random.pick(&["\n", "\n", "\r\n"]);
+    let mut written = Text::default();
+    let mut number = 0;
+    let mut blank = |text: &mut String, line: &str| {
+        text.push_str(line);
+        text.push_str(end);
+        number += 1;
+        number
+    };
+    if random.one_in(3) {
+        blank(&mut written.text, "# horizon 7 is no line");
+    }
+    while let Some(section) = next(random, &sections, in_order) {
+        let words = sections[section].remove(0);
+        let space = random.pick(&[" ", " ", "  ", "\t", " \t "]);
+        let mut line = words.join(space);
+        if random.one_in(6) {
+            line = format!("{space}{line}{space}");
+        }
+        if random.one_in(6) {
+            line += random.pick(&["#", " # device 0", "  ## ü"]);
+        }
+        let number = blank(&mut written.text, &line);
+        match section {
+            0 => written.horizon = Some(number),
+            1 => written.devices.push(number),
+            2 => written.tasks.push(number),
+            _ => written.jobs.push(number),
+        }
+        if random.one_in(8) {
+            blank(&mut written.text, random.pick(&["", "  ", "\t#"]));
+        }
+    }
+    // The last line may lack its end; a text of fewer than three bytes is none.
+    if random.one_in(4) && written.text.len() > 4 {
+        written.text.truncate(written.text.len() - end.len());
+    }
+    written
+}
+
+fn next(random: &mut Random, sections: &[Vec<Vec<String>>; 4], in_order: bool) -> Option<usize> {
+    let left: Vec<usize> = (0..4)
+        .filter(|&section| !sections[section].is_empty())
+        .collect();
+    match left.len() {
+        0 => None,
+        _ if in_order => left.first().copied(),
+        count => Some(left[random.index(count)]),
+    }
+}
+
+/// Where the shortest beginning of a file ends that is more than cut short.
+pub fn end_of_fault(file: &[u8]) -> Option<usize> {
+    (0..=file.len()).find(|&length| read(&file[..length]) != Err(1))
+}
+
+/// What stands before this end of a file's part, and where it begins.
+pub fn part_before(file: &[u8], end: usize) -> (String, usize) {
+    if end == 2 {
+        return ("horizon".to_string(), 0);
+    }
+    let mut at = 2;
+    for (name, size) in [("device", 7), ("task", 5), ("job", 7)] {
+        if end == at + 1 {
+            return (format!("{name} count"), at);
+        }
+        let records = usize::from(file[at]);
+        let within = end - at - 1;
+        if within <= records * size {
+            return (format!("{name} {}", within / size - 1), end - size);
+        }
+        at += 1 + records * size;
+    }
+    ("end".to_string(), end)
+}
