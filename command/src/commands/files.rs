@@ -6,8 +6,9 @@ use crate::failure::Failure;
 use crate::refusal;
 use crate::request::{malformed, Request};
 use crate::streams;
-use crate::tables::Tables;
+use crate::tables::{Tables, MOST_DEVICES};
 use crate::text::catalogue::{self, padded, Catalogue, NUMBER};
+use crate::text::lines::quoted;
 use crate::text::reader::{self, Text};
 use crate::text::show::show as text_of;
 use std::ffi::OsStr;
@@ -63,34 +64,26 @@ fn built(
     names: &[String],
     text: &Text,
 ) -> Result<Vec<u8>, Failure> {
-    let build = |parts: usize, wants: usize, tables: &Tables| {
-        let parts = catalogue.parts.iter().take(parts);
-        let wants = wanted.iter().take(wants);
-        let [parts, wants] = [
-            parts.flatten().copied().collect(),
-            wants.flatten().copied().collect(),
-        ]
-        .map(|bytes: Vec<u8>| bytes);
-        planner::build(&parts, &wants, tables)
-    };
-    let (parts, wants) = (catalogue.parts.len(), wanted.len());
-    let number = match build(parts, wants, &text.tables) {
+    let parts = &catalogue.parts;
+    let number = match planner::build(&parts.concat(), &wanted.concat(), &text.tables) {
         Ok(file) => return Ok(file),
         Err(refused) => refused.number,
     };
     // The place is that of the first part, or the first wanted one, with which the number comes.
-    let none = Tables::empty();
-    let comes = |parts, wants| build(parts, wants, &none).is_err_and(|said| said.number == number);
-    let faulty_part = (1..=parts).find(|&parts| comes(parts, 0));
-    let lacking = (1..=wants).find(|&wants| comes(parts, wants));
-    Err(match (number, faulty_part, lacking) {
-        (21 | 22, Some(count), _) => {
-            let line = catalogue.lines.get(count - 1).copied().unwrap_or(0);
-            refusal::at(number, format!("part {} (line {line})", count - 1))
+    let comes = |parts: &[Vec<u8>], wanted: &[Vec<u8>]| {
+        let answer = planner::build(&parts.concat(), &wanted.concat(), &Tables::empty());
+        answer.is_err_and(|refused| refused.number == number)
+    };
+    let faulty = (0..parts.len()).find(|&last| comes(&parts[..=last], &[]));
+    let lacking = (0..wanted.len()).find(|&last| comes(parts, &wanted[..=last]));
+    Err(match (number, faulty, lacking) {
+        (21 | 22, Some(part), _) => {
+            let line = catalogue.lines.get(part).copied().unwrap_or(0);
+            refusal::at(number, format!("part {part} (line {line})"))
         }
-        (23, _, Some(count)) => {
-            let name = names.get(count - 1).map_or("", String::as_str);
-            refusal::at(number, format!("part {name}"))
+        (23, _, Some(part)) => {
+            let name = names.get(part).map_or("", String::as_str);
+            refusal::at(number, format!("part {}", quoted(name)))
         }
         _ => of_the_file(number, catalogue, wanted, text),
     })
@@ -103,9 +96,7 @@ fn of_the_file(number: u8, catalogue: &Catalogue, wanted: &[Vec<u8>], text: &Tex
     for name in wanted {
         let part = catalogue.parts.iter().find(|part| part.starts_with(name));
         let record = part.map_or(&[][..], |part| &part[NUMBER..]);
-        tables
-            .devices
-            .add(record.to_vec(), crate::tables::MOST_DEVICES);
+        tables.devices.add(record.to_vec(), MOST_DEVICES);
     }
     refusal::of_file(number, &tables.laid_out(), Some(&text.places))
 }

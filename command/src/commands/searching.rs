@@ -45,7 +45,7 @@ const FIRST_BUDGET: u32 = 1_000_000;
 const STEP: u32 = 4;
 
 /// Searches with the budget given, or else with rising ones: a larger budget changes no answer but
-/// 20, which is proved, so that the first other answer is the answer.
+/// 20, which is proved (`larger-budget`), so that the first other answer is the answer.
 fn searched(
     given: Option<u32>,
     search: impl Fn(u32) -> Result<Found, Refused>,

@@ -38,8 +38,9 @@ const TESTS: [(&str, Test); 13] = [
     ("a terminal, and the script", terminal::test),
 ];
 
-/// Two at a time, each in its own thread; what they say is printed in their order.
-fn run(floe: &Floe, tests: &[&(&str, Test)]) -> bool {
+/// Two at a time, each in its own thread; what they say is printed in their order. How many runs were
+/// as they must be, if all were.
+fn run(floe: &Floe, tests: &[&(&str, Test)]) -> Option<u64> {
     let next = Mutex::new(tests.iter().enumerate());
     let found = Mutex::new(vec![None; tests.len()]);
     thread::scope(|scope| {
@@ -54,17 +55,20 @@ fn run(floe: &Floe, tests: &[&(&str, Test)]) -> bool {
             });
         }
     });
-    let mut passed = true;
+    let mut passed = Some(0);
     let found = found.into_inner().expect("no test has panicked");
     for ((name, _), tried) in tests.iter().zip(found) {
         match tried {
-            Some(Ok(count)) => println!("{count:7}  {name}"),
+            Some(Ok(count)) => {
+                passed = passed.map(|all| all + count);
+                println!("{count:7}  {name}");
+            }
             Some(Err(reason)) => {
-                passed = false;
+                passed = None;
                 println!("FAILED: {name}: {reason}");
             }
             None => {
-                passed = false;
+                passed = None;
                 println!("FAILED: {name}: not run");
             }
         }
@@ -83,11 +87,14 @@ fn main() -> ExitCode {
         .iter()
         .filter(|(name, _)| name.contains(&word))
         .collect();
-    if run(&Floe::new(PathBuf::from(program)), &tests) {
-        println!("command: all agree");
-        ExitCode::SUCCESS
-    } else {
-        println!("command: FAILED");
-        ExitCode::FAILURE
+    match run(&Floe::new(PathBuf::from(program)), &tests) {
+        Some(count) => {
+            println!("command: {count} runs agree");
+            ExitCode::SUCCESS
+        }
+        None => {
+            println!("command: FAILED");
+            ExitCode::FAILURE
+        }
     }
 }

@@ -56,13 +56,13 @@ fn places(floe: &Floe, catalogue: &Path, others: &Path) -> Tried {
     let good = "part 00417 1 5 1 3\npart 417 2 9 2 4\n";
     let request = "horizon 5\njob 0 5 2 0\n";
     let table: [(&str, &str, &[&str], &str); 9] = [
-        (good, request, &["418"], "refused 23: part 418: "),
-        (good, request, &["417", "0417"], "refused 23: part 0417: "),
+        (good, request, &["418"], "refused 23: part '418': "),
+        (good, request, &["417", "0417"], "refused 23: part '0417': "),
         (
             good,
             request,
             &["123456789"],
-            "refused 23: part 123456789: ",
+            "refused 23: part '123456789': ",
         ),
         (
             "\npart b 1 5 1 3\n",

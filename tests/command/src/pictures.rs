@@ -7,12 +7,14 @@ use outside::expect::{search, BUDGET};
 use outside::listing::uses;
 use outside::rows::least_row;
 use std::collections::BTreeSet;
+use std::fs;
+use std::path::Path;
 
 const SEED: u64 = 24;
 const FILES: u64 = 500;
 
 pub fn test(floe: &Floe) -> Tried {
-    let mut runs = 0;
+    let mut runs = shown(floe)?;
     for number in 0..FILES {
         let case = draw(SEED, number);
         if case.kind == Kind::OverBudget {
@@ -95,6 +97,23 @@ pub fn test(floe: &Floe) -> Tried {
         runs += 2;
     }
     Ok(runs)
+}
+
+/// The picture in README is what is drawn today; and the longest example is drawn.
+fn shown(floe: &Floe) -> Tried {
+    let house = Path::new(env!("CARGO_MANIFEST_DIR")).join("../..");
+    let example = |name: &str| {
+        let path = house.join("examples").join(name);
+        path.to_string_lossy().into_owned()
+    };
+    let kept = fs::read(house.join("docs/plan.svg")).map_err(|fault| fault.to_string())?;
+    let drawn = floe.output(&["draw", &example("table2.txt")], b"")?;
+    same(drawn == kept, true, || {
+        "docs/plan.svg is not what ./floe draw examples/table2.txt gives".to_string()
+    })?;
+    let long = floe.output(&["draw", &example("recorder.txt")], b"")?;
+    shapes(&String::from_utf8_lossy(&long))?;
+    Ok(2)
 }
 
 fn ticks(from: u32, to: u32) -> String {
