@@ -1,6 +1,6 @@
-// Doors: the other operations of the library with bytes in and out, for the tests. They are safe, and promise nothing of their own. A door answers 255, and
-// does nothing, for an odd list of start times, tables of another length or kind, or a result buffer under 11 bytes; else it tells every answer, a refusal too.
-// include/doors.h declares them.
+// Doors: the other operations of the library with bytes in and out, for the command line and the tests. They are safe, and promise nothing of their own. A door
+// answers 255, and does nothing, for an odd list of start times, tables of another length or kind, or a result buffer under 11 bytes; else it tells every
+// answer, a refusal too. include/doors.h declares them.
 ghost use mathlib.Core.Path.{_≡_};
 ghost use Prim.Native.Nat.{_/_, min};
 use calls::RESULT;
