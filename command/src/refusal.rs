@@ -117,18 +117,18 @@ fn fault(number: u8, file: &[u8], place: &Place) -> Option<String> {
     })
 }
 
-/// The first two powers that do not rise.
+/// The first two powers that do not rise, by the letters whose powers they are.
 fn powers(kind: &Kind, record: &[u8]) -> Option<String> {
-    let [asleep, moving, working] = [b'S', b'D', b'W'].map(|letter| kind.power(record, letter));
-    let (asleep, moving, working) = (asleep?, moving?, working?);
-    let pairs = [
-        (("asleep", asleep), ("moving", moving)),
-        (("asleep", asleep), ("working", working)),
-        (("moving", moving), ("working", working)),
-    ];
-    let ((low, less), (high, more)) = pairs.into_iter().find(|(low, high)| low.1 >= high.1)?;
-    let relation = if less == more { "=" } else { ">" };
-    Some(format!("power {low} {less} {relation} power {high} {more}"))
+    let named = |letter: u8| {
+        let (_, field) = kind.letters.iter().find(|(known, _)| *known == letter)?;
+        let name = kind.device.get(*field)?.name;
+        Some((name, kind.power(record, letter)?))
+    };
+    let pairs = [b"SD", b"SU", b"SW", b"DW", b"UW"];
+    pairs.into_iter().find_map(|&[low, high]| {
+        let ((low, less), (high, more)) = (named(low)?, named(high)?);
+        (less >= more).then(|| format!("{low} {less} is not below {high} {more}"))
+    })
 }
 
 fn missing_device(set: u32, devices: u32) -> Option<String> {
@@ -205,9 +205,9 @@ fn starts_fault(number: u8, at: usize, jobs: &[Job], starts: &[u16]) -> Option<S
 /// 19 or 20, of a search.
 pub fn of_search(refused: Refused) -> Failure {
     let Refused { number, count, .. } = refused;
-    let vertices = plural(count as usize, "vertex").replace("vertexs", "vertices");
+    let vertices = if count == 1 { "vertex" } else { "vertices" };
     let words = match number {
-        19 => format!("{}, as {count} {vertices} show", meaning(19)),
+        19 => format!("{} ({count} {vertices} searched)", meaning(19)),
         20 => format!("the search has more than {count} {vertices}, which is the budget"),
         _ => meaning(number).to_string(),
     };

@@ -122,7 +122,7 @@ impl Mismatch {
     }
 }
 
-/// In the form of the examples; the tail of a very long file says nothing more.
+/// Two digits a byte; the tail of a very long file says nothing more.
 fn hex(file: &[u8]) -> String {
     const SHOWN: usize = 400;
     let mut text = String::new();

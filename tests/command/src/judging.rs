@@ -258,7 +258,8 @@ fn asked(floe: &Floe, file: &[u8], budget: u32, lent: &[u16]) -> Result<Outcome,
         Ok(text) => String::from_utf8(text).map_err(|fault| fault.to_string())?,
         Err((number, said)) => {
             let before = said.split(" vert").next().unwrap_or_default();
-            let count = before.rsplit(' ').next().and_then(|word| word.parse().ok());
+            let word = before.rsplit([' ', '(']).next();
+            let count = word.and_then(|word| word.parse().ok());
             let count = count.filter(|_| number == 19 || number == 20);
             return Ok(refused_outcome(number, count.unwrap_or(0), lent));
         }

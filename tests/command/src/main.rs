@@ -10,6 +10,7 @@ mod malformed;
 mod parts;
 mod pictures;
 mod planning;
+mod sentences;
 mod streams;
 mod terminal;
 mod texts;
@@ -22,7 +23,7 @@ use std::thread;
 
 type Test = fn(&Floe) -> Tried;
 
-const TESTS: [(&str, Test); 13] = [
+const TESTS: [(&str, Test); 14] = [
     ("plans and refusals of files", planning::test),
     ("write and show", both_ways::test),
     ("verdicts and rows", judging::verdicts),
@@ -31,6 +32,7 @@ const TESTS: [(&str, Test); 13] = [
     ("parts of a catalogue", parts::test),
     ("pictures", pictures::test),
     ("wrong texts", malformed::test),
+    ("what refusals say", sentences::test),
     ("help and wrong usage", help::test),
     ("failing streams", streams::failing),
     ("slow streams", streams::slow),

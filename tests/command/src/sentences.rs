@@ -1,0 +1,227 @@
+//! What each refusal says, to the letter.
+
+use crate::floe::{same, Floe, Tried};
+
+const A: &str = "device 1 5 1 3\n";
+
+/// A text, the words after `floe COMMAND -`, and the line on standard error.
+const REFUSALS: [(&str, &str, &str); 31] = [
+    (
+        "9 of A",
+        "check",
+        "3: device count (line 10, byte 2): 9 devices, at most 8",
+    ),
+    (
+        "horizon 5\ndevice 0 5 1 3",
+        "check",
+        "4: device 0 (line 2, bytes 3 to 9): a transition time of 0",
+    ),
+    (
+        "horizon 5\ndevice 1 5 3 3",
+        "check",
+        "5: device 0 (line 2, bytes 3 to 9): Ps 3 is not below P0 3",
+    ),
+    (
+        "horizon 5\ndevice 1 5 5 6",
+        "check",
+        "5: device 0 (line 2, bytes 3 to 9): Ps 5 is not below Pw 5",
+    ),
+    (
+        "9 tasks",
+        "check",
+        "6: task count (line 9, byte 3): 9 tasks, at most 8",
+    ),
+    (
+        "task 0 1 -",
+        "check",
+        "7: task 0 (line 1, bytes 4 to 8): period 0 is outside 1 to 4096",
+    ),
+    (
+        "task 4097 1 -",
+        "check",
+        "7: task 0 (line 1, bytes 4 to 8): period 4097 is outside 1 to 4096",
+    ),
+    (
+        "task 4 0 -",
+        "check",
+        "8: task 0 (line 1, bytes 4 to 8): running time 0",
+    ),
+    (
+        "task 4 5 -",
+        "check",
+        "8: task 0 (line 1, bytes 4 to 8): running time 5 > period 4",
+    ),
+    (
+        "task 4 1 0",
+        "check",
+        "9: task 0 (line 1, bytes 4 to 8): names device 0, and the request has 0 devices",
+    ),
+    (
+        "horizon 5\ndevice 1 5 1 3\njob 0 5 2 0,3",
+        "check",
+        "9: job 0 (line 3, bytes 12 to 18): names device 3, and the request has 1 device",
+    ),
+    (
+        "horizon 4097",
+        "check",
+        "10: job count (line 1, byte 4): horizon 4097 is outside 1 to 4096",
+    ),
+    (
+        "# nothing",
+        "check",
+        "10: job count (byte 4): no horizon and no tasks",
+    ),
+    (
+        "task 4095 1 -\ntask 4096 1 -",
+        "check",
+        "10: job count (byte 14): the periods have no common multiple up to 4096",
+    ),
+    (
+        "horizon 4\ntask 4 1 -",
+        "check",
+        "11: job count (line 1, byte 9): tasks and a horizon, 4",
+    ),
+    (
+        "task 4 1 -\njob 0 4 1 -",
+        "check",
+        "11: job count (line 2, byte 9): tasks and 1 job",
+    ),
+    (
+        "17 jobs",
+        "check",
+        "12: job count (line 18, byte 4): 17 jobs, at most 16",
+    ),
+    (
+        "task 1 1 -\ntask 64 1 -",
+        "check",
+        "12: job count (byte 14): the tasks release more than 16 jobs",
+    ),
+    (
+        "horizon 5\njob 0 5 0 -",
+        "plan",
+        "13: job 0 (line 2, bytes 5 to 11): running time 0",
+    ),
+    (
+        "horizon 5\njob 0 5 1 -\n\njob 3 4 2 -",
+        "plan",
+        "13: job 1 (line 4, bytes 12 to 18): release 3 + running time 2 > deadline 4",
+    ),
+    (
+        "horizon 5\njob 0 6 1 -",
+        "plan",
+        "13: job 0 (line 2, bytes 5 to 11): deadline 6 > horizon 5",
+    ),
+    (
+        "horizon 5\njob 0 5 1 -",
+        "verdict",
+        "14: 0 start times for 1 job",
+    ),
+    (
+        "horizon 5\njob 0 5 1 -",
+        "rows 0 1",
+        "14: 2 start times for 1 job",
+    ),
+    (
+        "horizon 5\njob 1 5 1 -",
+        "verdict 0",
+        "16: job 0: start 0 < release 1",
+    ),
+    (
+        "horizon 5\njob 0 5 2 -",
+        "verdict 4",
+        "17: job 0: start 4 + running time 2 > deadline 5",
+    ),
+    (
+        "horizon 9\njob 0 9 2 -\njob 0 9 3 -",
+        "rows 3,1",
+        "18: job 0: runs from 3 to 5 and overlaps job 1, from 1 to 4",
+    ),
+    (
+        "horizon 9\njob 0 9 2 -",
+        "mend 8",
+        "17: job 0: start 8 + running time 2 > deadline 9",
+    ),
+    (
+        "horizon 9\njob 0 9 7 -\njob 0 9 3 -",
+        "mend 0 0",
+        "17: job 1: in the order of the given starts it cannot end by its deadline 9",
+    ),
+    (
+        "horizon 4\njob 0 2 2 -\njob 0 2 2 -",
+        "plan",
+        "19: no schedule meets all deadlines (3 vertices searched)",
+    ),
+    (
+        "horizon 2\njob 0 2 2 -\njob 0 2 1 -",
+        "possible",
+        "19: no schedule meets all deadlines (1 vertex searched)",
+    ),
+    (
+        "horizon 5\njob 0 5 2 -",
+        "plan --budget 1",
+        "20: the search has more than 1 vertex, which is the budget",
+    ),
+];
+
+const FILES: [(&[u8], &str); 7] = [
+    (
+        &[],
+        "1: horizon (bytes 0 to 1): the file ends here, with 0 of 2 bytes",
+    ),
+    (
+        &[0, 5],
+        "1: device count (byte 2): the file ends here, with 0 of 1 byte",
+    ),
+    (
+        &[0, 5, 1, 1, 0],
+        "1: device 0 (bytes 3 to 9): the file ends here, with 2 of 7 bytes",
+    ),
+    (
+        &[0, 5, 0, 0],
+        "1: job count (byte 4): the file ends here, with 0 of 1 byte",
+    ),
+    (
+        &[0, 5, 0, 0, 0, 7],
+        "2: end (byte 5): 1 byte after the last section",
+    ),
+    (
+        &[0, 5, 0, 0, 0, 7, 7],
+        "2: end (bytes 5 to 6): 2 bytes after the last section",
+    ),
+    (
+        &[0, 5, 0, 0, 1, 0, 3, 0, 4, 0, 2, 0],
+        "13: job 0 (bytes 5 to 11): release 3 + running time 2 > deadline 4",
+    ),
+];
+
+fn text(text: &str) -> String {
+    match text {
+        "9 of A" => format!("horizon 5\n{}", A.repeat(9)),
+        "9 tasks" => "task 4 1 -\n".repeat(9),
+        "17 jobs" => format!("horizon 17\n{}", "job 0 17 1 -\n".repeat(17)),
+        text => text.to_string(),
+    }
+}
+
+pub fn test(floe: &Floe) -> Tried {
+    let mut runs = 0;
+    for (given, call, said) in REFUSALS {
+        let mut words: Vec<&str> = call.split(' ').collect();
+        words.insert(1, "-");
+        let printed = floe.run(&words, text(given).as_bytes())?;
+        let errors = String::from_utf8_lossy(&printed.errors).into_owned();
+        let expected = (Some(1), format!("refused {said}\n"));
+        same((printed.status, errors), expected, || {
+            format!("{call} of {given:?}")
+        })?;
+        runs += 1;
+    }
+    for (file, said) in FILES {
+        let (number, words) = floe.refused(&["check", "-"], file)?;
+        same(format!("{number}: {words}"), said.to_string(), || {
+            format!("{file:?}")
+        })?;
+        runs += 1;
+    }
+    Ok(runs)
+}
