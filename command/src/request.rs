@@ -10,12 +10,15 @@ use crate::text::lines::Fault;
 use crate::text::reader::{self, Places, Text};
 use std::ffi::OsStr;
 
-/// Whether bytes are text and not a request file. Byte 2 of every request file that is accepted is
-/// its device count, at most 8, unless the file begins with FF; no text has such a byte there or
-/// begins so. What is shorter is taken for a file, which is refused 1.
+/// Whether bytes are text and not a request file: they begin with three characters of text. Byte 2 of
+/// every request file that is accepted is its device count, at most 8, and so no character of text,
+/// unless the file begins with FF, which is none either. What is shorter is taken for a file, and
+/// refused 1.
 pub fn is_text(bytes: &[u8]) -> bool {
+    let is_character = |byte: &u8| *byte >= b' ' || b"\t\n\r".contains(byte);
     match bytes {
-        [first, _, third, ..] => *third > 8 && *first != 0xFF,
+        [0xFF, ..] => false,
+        [first, second, third, ..] => [first, second, third].into_iter().all(is_character),
         _ => false,
     }
 }
@@ -114,6 +117,8 @@ mod tests {
             }
         }
         assert!(!is_text(&[0xFF, 0x02, 0x23, 0x23]));
+        // Too many devices, and a file all the same.
+        assert!(!is_text(&[0, 5, 9, 0, 0]) && !is_text(&[16, 0, 40, 0, 0]));
         assert!(!is_text(b"") && !is_text(b"# "));
     }
 

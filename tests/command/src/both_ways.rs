@@ -9,7 +9,7 @@ use outside::tables::Tables;
 use outside::valid;
 
 const SEED: u64 = 21;
-const TABLES: u64 = 2_400;
+const TABLES: u64 = 3_600;
 
 pub fn test(floe: &Floe) -> Tried {
     let (mut runs, mut accepted, mut met) = (0, 0, [0; 14]);
@@ -47,7 +47,7 @@ pub fn test(floe: &Floe) -> Tried {
         runs += 1;
     }
     let missed: Vec<usize> = (3..=13).filter(|&number| met[number] == 0).collect();
-    if !missed.is_empty() || accepted < 1_000 {
+    if !missed.is_empty() || accepted < 2_000 {
         return Err(format!("{accepted} accepted; never met: {missed:?}"));
     }
     Ok(runs)

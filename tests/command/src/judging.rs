@@ -1,6 +1,7 @@
 //! verdict, rows, mend and possible, held to the oracle's judge, its rows, its listings.
 
 use crate::floe::{same, Floe, Tried};
+use crate::texts::is_text;
 use outside::cases::{draw, Kind};
 use outside::expect::{search, BUDGET};
 use outside::judge::judge;
@@ -138,8 +139,7 @@ pub fn mends(floe: &Floe) -> Tried {
                 Answer::default()
             })
         };
-        let is_text = call.file.len() >= 3 && call.file[2] > 8 && call.file[0] != 0xFF;
-        if is_text {
+        if is_text(&call.file) {
             continue;
         }
         let held = call.hold(&mended);
@@ -243,14 +243,12 @@ fn refused_outcome(number: u8, count: u32, lent: &[u16]) -> Outcome {
     }
 }
 
-/// What the command prints, as the library's outcome. The command lends what is needed, and takes a
-/// file with more than 8 devices for text: the outcome of such calls is given.
+/// What the command prints, as the library's outcome. The command lends what is needed, and may take
+/// a damaged file for text: the outcome of such calls is given.
 fn asked(floe: &Floe, file: &[u8], budget: u32, lent: &[u16]) -> Result<Outcome, String> {
     match read(file) {
         Ok(request) if lent.len() < request.jobs.len() => return Ok(refused_outcome(15, 0, lent)),
-        Err(number) if file.len() >= 3 && file[2] > 8 => {
-            return Ok(refused_outcome(number, 0, lent))
-        }
+        Err(number) if is_text(file) => return Ok(refused_outcome(number, 0, lent)),
         _ => {}
     }
     let budget = budget.to_string();

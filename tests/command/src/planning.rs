@@ -2,8 +2,9 @@
 //! number and its place.
 
 use crate::floe::{same, Floe, Tried};
-use crate::texts::{end_of_fault, part_before};
+use crate::texts::{end_of_fault, is_text, part_before};
 use outside::cases::{draw, Kind};
+use outside::example;
 use outside::expect::{search, text, BUDGET};
 use outside::request::read;
 use outside::runner::{run, Feed};
@@ -14,12 +15,12 @@ const CASES: u64 = 1_200;
 
 pub fn test(floe: &Floe) -> Tried {
     let mut met = [0; 21];
-    let mut runs = 0;
+    let mut runs = examples(floe)?;
     for number in 0..CASES {
         let case = draw(SEED, number);
         let file = &case.file;
         let named = |words: &str| format!("case {number} ({}), {words}", case.kind.name());
-        if is_taken_for_text(file) {
+        if is_text(file) {
             let printed = floe.run(&["check", "-"], file)?;
             let is_told = printed
                 .errors
@@ -81,9 +82,21 @@ pub fn test(floe: &Floe) -> Tried {
     Ok(runs)
 }
 
-/// No file that is accepted has more than 8 devices; one that has is told apart as text.
-fn is_taken_for_text(file: &[u8]) -> bool {
-    file.len() >= 3 && file[2] > 8 && file[0] != 0xFF
+/// The examples say what the printing program prints, and it is held to that too.
+fn examples(floe: &Floe) -> Tried {
+    let mut runs = 0;
+    for example in example::all(&example::folder())? {
+        let path = example::folder().join(format!("{}.txt", example.name));
+        let budget = format!("--budget={BUDGET}");
+        let answer = floe.answer(&["plan", &path.to_string_lossy(), &budget], b"")?;
+        let printed = match answer {
+            Ok(plan) => String::from_utf8_lossy(&plan).into_owned(),
+            Err((number, _)) => format!("refused {number}\n"),
+        };
+        same(printed, example.expected, || example.name.clone())?;
+        runs += 1;
+    }
+    Ok(runs)
 }
 
 fn checked(file: &[u8]) -> Vec<u8> {

@@ -163,7 +163,7 @@ const REFUSALS: [(&str, &str, &str); 31] = [
     ),
 ];
 
-const FILES: [(&[u8], &str); 7] = [
+const FILES: [(&[u8], &str); 8] = [
     (
         &[],
         "1: horizon (bytes 0 to 1): the file ends here, with 0 of 2 bytes",
@@ -179,6 +179,10 @@ const FILES: [(&[u8], &str); 7] = [
     (
         &[0, 5, 0, 0],
         "1: job count (byte 4): the file ends here, with 0 of 1 byte",
+    ),
+    (
+        &[0, 5, 9, 0, 0],
+        "3: device count (byte 2): 9 devices, at most 8",
     ),
     (
         &[0, 5, 0, 0, 0, 7],

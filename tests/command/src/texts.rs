@@ -111,6 +111,12 @@ fn next(random: &mut Random, sections: &[Vec<Vec<String>>; 4], in_order: bool) -
     }
 }
 
+/// Whether a file that is not accepted is taken for text: its first three bytes could be.
+pub fn is_text(file: &[u8]) -> bool {
+    let is_control = |byte: u8| byte < 32 && ![9, 10, 13].contains(&byte);
+    file.len() >= 3 && file[0] != 0xFF && !file.iter().take(3).any(|&byte| is_control(byte))
+}
+
 /// Where the shortest beginning of a file ends that is more than cut short.
 pub fn end_of_fault(file: &[u8]) -> Option<usize> {
     (0..=file.len()).find(|&length| read(&file[..length]) != Err(1))
