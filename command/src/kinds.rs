@@ -17,9 +17,9 @@ pub struct Kind {
     pub number: u8,
     /// What a file of this kind begins with, before the horizon.
     pub marker: &'static [u8],
-    pub device: &'static [Field],
+    device: &'static [Field],
     /// Each letter of a row, with the field of the device that says its power.
-    pub letters: &'static [(u8, usize)],
+    letters: &'static [(u8, usize)],
 }
 
 pub static FIRST: Kind = Kind {
@@ -65,10 +65,38 @@ impl Kind {
             .unwrap_or(&FIRST)
     }
 
+    /// The fields of a device line that has so many numbers: in this kind always the same.
+    pub fn device_fields(&self, _numbers: usize) -> &'static [Field] {
+        self.device
+    }
+
+    /// The record of a device line, whose numbers come as the bytes of their fields.
+    pub fn device_record(&self, numbers: &[Vec<u8>]) -> Vec<u8> {
+        numbers.concat()
+    }
+
+    /// How many bytes the device record has that these bytes begin with.
+    pub fn device_size(&self, _bytes: &[u8]) -> usize {
+        size(self.device)
+    }
+
+    /// The numbers of a device, as its line has them, with their names.
+    pub fn figures(&self, device: &[u8]) -> Vec<(&'static str, u32)> {
+        let fields = self.device.iter().enumerate();
+        fields
+            .map(|(place, field)| (field.name, value(self.device, device, place)))
+            .collect()
+    }
+
     /// The power of a device in a tick with this letter.
     pub fn power(&self, device: &[u8], letter: u8) -> Option<u32> {
+        self.named_power(device, letter).map(|(_, power)| power)
+    }
+
+    /// The same with the name of its field.
+    pub fn named_power(&self, device: &[u8], letter: u8) -> Option<(&'static str, u32)> {
         let (_, field) = self.letters.iter().find(|(known, _)| *known == letter)?;
-        Some(value(self.device, device, *field))
+        self.figures(device).into_iter().nth(*field)
     }
 }
 

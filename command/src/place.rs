@@ -43,15 +43,19 @@ fn parts(file: &[u8]) -> Vec<Place> {
     };
     add(Part::Horizon, &mut at, 2);
     type Numbered = fn(usize) -> Part;
-    let sections: [(Part, Numbered, usize); 3] = [
-        (Part::DeviceCount, Part::Device, kinds::size(kind.device)),
-        (Part::TaskCount, Part::Task, kinds::size(&TASK)),
-        (Part::JobCount, Part::Job, kinds::size(&JOB)),
+    type Size<'a> = &'a dyn Fn(&[u8]) -> usize;
+    let sections: [(Part, Numbered, Size); 3] = [
+        (Part::DeviceCount, Part::Device, &|rest| {
+            kind.device_size(rest)
+        }),
+        (Part::TaskCount, Part::Task, &|_| kinds::size(&TASK)),
+        (Part::JobCount, Part::Job, &|_| kinds::size(&JOB)),
     ];
     for (count, numbered, size) in sections {
         let records = file.get(at).copied().unwrap_or(0);
         add(count, &mut at, 1);
         for number in 0..usize::from(records) {
+            let size = size(file.get(at..).unwrap_or(&[]));
             add(numbered(number), &mut at, size);
         }
     }

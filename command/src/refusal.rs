@@ -119,11 +119,7 @@ fn fault(number: u8, file: &[u8], place: &Place) -> Option<String> {
 
 /// The first two powers that do not rise, by the letters whose powers they are.
 fn powers(kind: &Kind, record: &[u8]) -> Option<String> {
-    let named = |letter: u8| {
-        let (_, field) = kind.letters.iter().find(|(known, _)| *known == letter)?;
-        let name = kind.device.get(*field)?.name;
-        Some((name, kind.power(record, letter)?))
-    };
+    let named = |letter| kind.named_power(record, letter);
     let pairs = [b"SD", b"SU", b"SW", b"DW", b"UW"];
     pairs.into_iter().find_map(|&[low, high]| {
         let ((low, less), (high, more)) = (named(low)?, named(high)?);

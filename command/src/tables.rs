@@ -63,22 +63,25 @@ impl Tables {
 
     /// From the bytes in which the library gives the tables of a file.
     pub fn of_bytes(bytes: &[u8]) -> Tables {
-        let mut rest = bytes.iter().copied();
-        let kind = Kind::by_number(next(&mut rest, 1)).unwrap_or(&FIRST);
-        let horizon = next(&mut rest, 2) as u16;
-        let [devices, tasks, jobs] = [(); 3].map(|()| next(&mut rest, 2) as usize);
-        let mut table = |count, most, size| Table {
+        let mut rest = bytes;
+        let kind = Kind::by_number(number(&mut rest, 1)).unwrap_or(&FIRST);
+        let horizon = number(&mut rest, 2) as u16;
+        let [devices, tasks, jobs] = [(); 3].map(|()| number(&mut rest, 2) as usize);
+        let mut table = |count: usize, most: usize, size: &dyn Fn(&[u8]) -> usize| Table {
             count,
             records: (0..count.min(most))
-                .map(|_| rest.by_ref().take(size).collect())
+                .map(|_| {
+                    let length = size(rest);
+                    taken(&mut rest, length).to_vec()
+                })
                 .collect(),
         };
         Tables {
             kind,
             horizon,
-            devices: table(devices, MOST_DEVICES, kinds::size(kind.device)),
-            tasks: table(tasks, MOST_TASKS, kinds::size(&TASK)),
-            jobs: table(jobs, MOST_JOBS, kinds::size(&JOB)),
+            devices: table(devices, MOST_DEVICES, &|rest| kind.device_size(rest)),
+            tasks: table(tasks, MOST_TASKS, &|_| kinds::size(&TASK)),
+            jobs: table(jobs, MOST_JOBS, &|_| kinds::size(&JOB)),
         }
     }
 
@@ -96,11 +99,17 @@ impl Tables {
     }
 }
 
+/// The next bytes, as many as there are.
+fn taken<'a>(rest: &mut &'a [u8], count: usize) -> &'a [u8] {
+    let (front, after) = rest.split_at(count.min(rest.len()));
+    *rest = after;
+    front
+}
+
 /// The number in the next bytes.
-fn next(bytes: &mut impl Iterator<Item = u8>, count: usize) -> u32 {
-    bytes
-        .take(count)
-        .fold(0, |number, byte| number << 8 | u32::from(byte))
+fn number(rest: &mut &[u8], count: usize) -> u32 {
+    let bytes = taken(rest, count).iter();
+    bytes.fold(0, |number, &byte| number << 8 | u32::from(byte))
 }
 
 #[cfg(test)]

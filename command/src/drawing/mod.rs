@@ -8,7 +8,7 @@ mod svg;
 
 use crate::failure::Failure;
 use crate::jobs::{jobs, Job};
-use crate::kinds::{value, Kind};
+use crate::kinds::Kind;
 use crate::plan::Plan;
 use crate::tables::Tables;
 
@@ -107,11 +107,8 @@ fn device_line(kind: &Kind, record: &[u8], row: &[u8]) -> Option<DeviceLine> {
         .iter()
         .map(|&letter| kind.power(record, letter))
         .collect();
-    let names = kind.device.iter().enumerate();
     Some(DeviceLine {
-        figures: names
-            .map(|(place, field)| (field.name, value(kind.device, record, place)))
-            .collect(),
+        figures: kind.figures(record),
         runs: runs(row),
         energy: powers?.into_iter().map(u64::from).sum(),
     })

@@ -1,7 +1,7 @@
 //! The text form of a catalogue: a line `part NUMBER T Pw Ps P0` for each part.
 
 use super::lines::{lines, number, quoted, Fault, Word};
-use crate::kinds::{Field, FIRST};
+use crate::kinds::FIRST;
 
 pub const NUMBER: usize = 8;
 
@@ -14,7 +14,7 @@ pub struct Catalogue {
 
 pub fn read(text: &[u8]) -> Result<Catalogue, Fault> {
     let mut catalogue = Catalogue::default();
-    let fields: &[Field] = FIRST.device;
+    let fields = FIRST.device_fields(4);
     let names: Vec<&str> = ["part number"]
         .into_iter()
         .chain(fields.iter().map(|field| field.name))

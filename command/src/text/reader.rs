@@ -51,7 +51,7 @@ fn take(read: &mut Text, line: &Line, is_first: bool) -> Result<(), Fault> {
             tables.kind = kind;
         }
         "horizon" => {
-            let field = record(line, std::slice::from_ref(&HORIZON), false)?;
+            let field = numbers(line, std::slice::from_ref(&HORIZON))?.concat();
             if let Some(first) = places.horizon {
                 return Err(word.fault(format!("a second horizon: the first is in line {first}")));
             }
@@ -61,17 +61,18 @@ fn take(read: &mut Text, line: &Line, is_first: bool) -> Result<(), Fault> {
             places.horizon = Some(line.number);
         }
         "device" => {
-            let device = record(line, tables.kind.device, false)?;
+            let fields = tables.kind.device_fields(line.words.len() - 1);
+            let device = tables.kind.device_record(&numbers(line, fields)?);
             let (table, lines) = (&mut tables.devices, &mut places.devices);
             add(table, lines, line.number, device, MOST_DEVICES);
         }
         "task" => {
-            let task = record(line, &TASK, true)?;
+            let task = with_set(line, &TASK)?;
             let (table, lines) = (&mut tables.tasks, &mut places.tasks);
             add(table, lines, line.number, task, MOST_TASKS);
         }
         "job" => {
-            let job = record(line, &JOB, true)?;
+            let job = with_set(line, &JOB)?;
             let (table, lines) = (&mut tables.jobs, &mut places.jobs);
             add(table, lines, line.number, job, MOST_JOBS);
         }
@@ -110,17 +111,27 @@ fn kind(line: &Line) -> Result<&'static Kind, Fault> {
     Ok(kind.unwrap_or(&crate::kinds::FIRST))
 }
 
-/// The bytes of a record: a number for each field, of which the last may be a device set.
-pub fn record(line: &Line, fields: &[Field], has_set: bool) -> Result<Vec<u8>, Fault> {
-    let names: Vec<&str> = fields.iter().map(|field| field.name).collect();
-    let words = line.arguments(&names)?;
+fn names(fields: &[Field]) -> Vec<&'static str> {
+    fields.iter().map(|field| field.name).collect()
+}
+
+/// The bytes of the number in each field.
+fn numbers(line: &Line, fields: &[Field]) -> Result<Vec<Vec<u8>>, Fault> {
+    let words = line.arguments(&names(fields))?;
+    let pairs = words.iter().zip(fields);
+    pairs.map(|(word, field)| number(word, field)).collect()
+}
+
+/// The record of a line whose last word is a device set.
+fn with_set(line: &Line, fields: &[Field]) -> Result<Vec<u8>, Fault> {
+    let words = line.arguments(&names(fields))?;
+    let Some((set, numbers)) = words.split_last() else {
+        return Ok(Vec::new());
+    };
     let mut bytes = Vec::new();
-    for (place, (word, field)) in words.iter().zip(fields).enumerate() {
-        if has_set && place + 1 == fields.len() {
-            bytes.push(device_set(word)?);
-        } else {
-            bytes.extend(number(word, field)?);
-        }
+    for (word, field) in numbers.iter().zip(fields) {
+        bytes.extend(number(word, field)?);
     }
+    bytes.push(device_set(set)?);
     Ok(bytes)
 }

@@ -15,33 +15,54 @@ pub fn show(tables: &Tables, horizon: usize) -> String {
     } else {
         writeln!(text, "horizon {}", tables.horizon)
     };
-    let sections = [
-        ("device", &tables.devices, tables.kind.device, false),
-        ("task", &tables.tasks, &TASK, true),
-        ("job", &tables.jobs, &JOB, true),
-    ];
-    for (word, table, fields, has_set) in sections {
-        if table.count > 0 {
-            let names: Vec<&str> = fields.iter().map(|field| field.name).collect();
-            let _ = writeln!(text, "\n# {word}: {}", names.join(", "));
-        }
-        for record in &table.records {
-            let _ = writeln!(text, "{word} {}", line(fields, record, has_set));
-        }
-    }
+    let devices = tables.devices.records.iter();
+    let devices = devices.map(|record| {
+        let figures = tables.kind.figures(record);
+        let words = figures.into_iter();
+        words
+            .map(|(name, number)| (name, number.to_string()))
+            .collect()
+    });
+    section(&mut text, "device", devices.collect());
+    let tasks = tables.tasks.records.iter();
+    let tasks = tasks.map(|record| with_set(&TASK, record)).collect();
+    section(&mut text, "task", tasks);
+    let jobs = tables.jobs.records.iter();
+    let jobs = jobs.map(|record| with_set(&JOB, record)).collect();
+    section(&mut text, "job", jobs);
     text
 }
 
-fn line(fields: &[Field], record: &[u8], has_set: bool) -> String {
-    let words = (0..fields.len()).map(|place| {
-        let number = value(fields, record, place);
-        if has_set && place + 1 == fields.len() {
-            set(number)
-        } else {
-            number.to_string()
-        }
-    });
-    words.collect::<Vec<String>>().join(" ")
+/// The words of a line with their names.
+type Words = Vec<(&'static str, String)>;
+
+/// The lines of a section, and above them what their words are.
+fn section(text: &mut String, word: &str, lines: Vec<Words>) {
+    if let Some(first) = lines.first() {
+        let names: Vec<&str> = first.iter().map(|(name, _)| *name).collect();
+        let _ = writeln!(text, "\n# {word}: {}", names.join(", "));
+    }
+    for line in lines {
+        let words: Vec<String> = line.into_iter().map(|(_, word)| word).collect();
+        let _ = writeln!(text, "{word} {}", words.join(" "));
+    }
+}
+
+/// The words of a record whose last field is a device set.
+fn with_set(fields: &'static [Field], record: &[u8]) -> Words {
+    let numbers = fields.iter().enumerate();
+    numbers
+        .map(|(place, field)| {
+            let number = value(fields, record, place);
+            let is_set = place + 1 == fields.len();
+            let word = if is_set {
+                set(number)
+            } else {
+                number.to_string()
+            };
+            (field.name, word)
+        })
+        .collect()
 }
 
 /// The device numbers of a set with commas between, or `-`.
