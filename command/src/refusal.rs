@@ -90,9 +90,9 @@ fn fault(number: u8, file: &[u8], place: &Place) -> Option<String> {
             let more = record.len();
             format!("{more} {} after the last section", plural(more, "byte"))
         }
-        (3, Part::DeviceCount) => format!("{count} devices, at most 8"),
+        (3, Part::DeviceCount) => format!("{} devices, at most 8", counted(count)),
         (5, Part::Device(_)) => powers(kind, record)?,
-        (6, Part::TaskCount) => format!("{count} tasks, at most 8"),
+        (6, Part::TaskCount) => format!("{} tasks, at most 8", counted(count)),
         (7, Part::Task(_)) => format!("period {} is outside 1 to 4096", task(0)),
         (8, Part::Task(_)) if task(1) == 0 => "running time 0".to_string(),
         (8, Part::Task(_)) => format!("running time {} > period {}", task(1), task(0)),
@@ -105,7 +105,7 @@ fn fault(number: u8, file: &[u8], place: &Place) -> Option<String> {
         (10, Part::JobCount) => "no horizon and no tasks".to_string(),
         (11, Part::JobCount) if horizon > 0 => format!("tasks and a horizon, {horizon}"),
         (11, Part::JobCount) => format!("tasks and {count} {}", plural(usize::from(count), "job")),
-        (12, Part::JobCount) if count > 0 => format!("{count} jobs, at most 16"),
+        (12, Part::JobCount) if count > 0 => format!("{} jobs, at most 16", counted(count)),
         (12, Part::JobCount) => "the tasks release more than 16 jobs".to_string(),
         (13, Part::Job(_)) if job(2) == 0 => "running time 0".to_string(),
         (13, Part::Job(_)) if job(0) + job(2) > job(1) => {
@@ -115,6 +115,14 @@ fn fault(number: u8, file: &[u8], place: &Place) -> Option<String> {
         (13, Part::Job(_)) => format!("deadline {} > horizon {horizon}", job(1)),
         _ => return None,
     })
+}
+
+/// A count of a file; that of a text may be larger than the byte that it is looked at with.
+fn counted(count: u8) -> String {
+    match count {
+        u8::MAX => "255 or more".to_string(),
+        count => count.to_string(),
+    }
 }
 
 /// The first two powers that do not rise, by the letters whose powers they are.

@@ -5,11 +5,16 @@ use crate::floe::{same, Floe, Tried};
 const A: &str = "device 1 5 1 3\n";
 
 /// A text, the words after `floe COMMAND -`, and the line on standard error.
-const REFUSALS: [(&str, &str, &str); 31] = [
+const REFUSALS: [(&str, &str, &str); 32] = [
     (
         "9 of A",
         "check",
         "3: device count (line 10, byte 2): 9 devices, at most 8",
+    ),
+    (
+        "300 of A",
+        "check",
+        "3: device count (line 10, byte 2): 255 or more devices, at most 8",
     ),
     (
         "horizon 5\ndevice 0 5 1 3",
@@ -201,6 +206,7 @@ const FILES: [(&[u8], &str); 8] = [
 fn text(text: &str) -> String {
     match text {
         "9 of A" => format!("horizon 5\n{}", A.repeat(9)),
+        "300 of A" => format!("horizon 5\n{}", A.repeat(300)),
         "9 tasks" => "task 4 1 -\n".repeat(9),
         "17 jobs" => format!("horizon 17\n{}", "job 0 17 1 -\n".repeat(17)),
         text => text.to_string(),
