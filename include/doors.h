@@ -40,6 +40,24 @@ uint8_t door_possible(const uint8_t *file, size_t file_len, uint32_t budget, uin
 uint8_t door_mend(const uint8_t *file, size_t file_len, const uint8_t *starts, size_t starts_len, uint8_t *out, size_t out_len, uint8_t *moved,
                   size_t moved_len, uint8_t *result, size_t result_len);
 
+/* Sheets: comma-separated text, a line for each device, job or job of a plan. A buffer too short gets nothing, and the number is 15.
+ *
+ * The catalogue of a sheet of devices (part number, T, Pw, Ps, P0): 15 bytes a part, 960 at most. The count of the answer is the lines. */
+uint8_t door_import_devices(const uint8_t *text, size_t text_len, uint8_t *out, size_t out_len, uint8_t *result, size_t result_len);
+
+/* The sheet of a catalogue, 2,176 bytes at most. The count of the answer is the bytes of the text, here and below. */
+uint8_t door_export_devices(const uint8_t *catalogue, size_t catalogue_len, uint8_t *out, size_t out_len, uint8_t *result, size_t result_len);
+
+/* The job records of a sheet of jobs (release, deadline, running time, device set): 7 bytes each as in a file, 112 at most. The count is the lines. */
+uint8_t door_import_jobs(const uint8_t *text, size_t text_len, uint8_t *out, size_t out_len, uint8_t *result, size_t result_len);
+
+/* The sheet of job records, 368 bytes at most. */
+uint8_t door_export_jobs(const uint8_t *records, size_t records_len, uint8_t *out, size_t out_len, uint8_t *result, size_t result_len);
+
+/* The sheet of a plan (job number, start, margin) for start times, two bytes each, 240 bytes at most. */
+uint8_t door_export_plan(const uint8_t *file, size_t file_len, const uint8_t *starts, size_t starts_len, uint8_t *out, size_t out_len, uint8_t *result,
+                         size_t result_len);
+
 #ifdef __cplusplus
 }
 #endif
