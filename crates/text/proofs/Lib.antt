@@ -1,0 +1,5 @@
+pub mod Decimal
+pub mod Split
+pub mod Quotes
+pub mod Scanning
+pub mod Cutting

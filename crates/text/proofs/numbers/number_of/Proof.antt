@@ -1,0 +1,94 @@
+-- `text::numbers::number_of` meets its contract.
+-- Assumes nothing.
+use mathlib.Core.Path.{_≡_, sym, ap, _∙_}
+use Prim.Native.Nat.{_+_, _-_, _*_, _≤_, min}
+use native.Mathlib.Omega.{arith}
+use lib.ListN.{length, drop, getD}
+use borrow.Author.Needs.{needs}
+use Rattle.text.specs.Cursors.{numberFrom, numberOf}
+use Rattle.text.proofs.Scanning.{number-none, number-some, number-next, number-below, number-above, digit-is, number-done}
+use Rattle.text.proofs.numbers.number_of.Statement.{statement}
+use Rattle.text.proofs.numbers.number_of.Tie as tie
+
+-- The number is that of the value so far and the digits that are left.
+abbrev Inv-loop : tie.InvT-loop
+Inv-loop field n value₀ i₀ value i = (i ≤ n) × (value ≤ 65536) × (numberOf field ≡ numberFrom value (drop i field))
+
+abbrev μ-loop : tie.MeasureT-loop
+μ-loop field n value₀ i₀ value i = n - i
+
+returns : tie.Need-returns Inv-loop μ-loop
+returns c = sym (number-none (c .before .before .args .field .now) (c .if1 .taken))
+
+loop-holds : tie.Need-loop-holds Inv-loop μ-loop
+loop-holds c = (omega arith, omega arith, number-some (c .before .before .args .field .now) (omega arith))
+
+shared-slice-read-b : tie.Need-shared-slice-read-b Inv-loop μ-loop
+shared-slice-read-b c = search needs
+
+returns-2 : tie.Need-returns-2 Inv-loop μ-loop
+returns-2 c =
+    let l = c .before .before .before .loop in
+    let f = c .before .before .before .before .before .before .args .field .now in
+    sym (l .inv .2 ∙ number-below f (l .value) (l .i) (omega arith) (omega arith))
+
+returns-3 : tie.Need-returns-3 Inv-loop μ-loop
+returns-3 c =
+    let l = c .before .before .before .before .loop in
+    let f = c .before .before .before .before .before .before .before .args .field .now in
+    sym (l .inv .2 ∙ number-above f (l .value) (l .i) (omega arith) (omega arith))
+
+mul-at-most : tie.Need-mul-at-most Inv-loop μ-loop
+mul-at-most c = search needs
+
+cast-at-most : tie.Need-cast-at-most Inv-loop μ-loop
+cast-at-most c = search needs
+
+add-at-most : tie.Need-add-at-most Inv-loop μ-loop
+add-at-most c = search needs
+
+at-most-requires : tie.Need-at-most-requires Inv-loop μ-loop
+at-most-requires c κs = search needs
+
+add-i : tie.Need-add-i Inv-loop μ-loop
+add-i c = search needs
+
+loop-less : tie.Need-loop-less Inv-loop μ-loop
+loop-less c = search needs
+
+loop-again : tie.Need-loop-again Inv-loop μ-loop
+loop-again c =
+    let l = c .before .before .before .before .before .loop in
+    let f = c .before .before .before .before .before .before .before .before .args .field .now in
+    let a-digit = digit-is (getD f (l .i) 0) (omega arith) (omega arith) in (
+      omega arith,
+      omega (arith, c .at-most .ensures),
+      l .inv .2 ∙ number-next f (l .value) (l .i) (omega arith) a-digit
+          ∙ rw (c .at-most .ensures),
+    )
+
+returns-4 : tie.Need-returns-4 Inv-loop μ-loop
+returns-4 c =
+    let l = c .before .loop in
+    let f = c .before .before .before .before .args .field .now in
+    sym (l .inv .2 ∙ number-done f (l .value) (l .i) (omega arith))
+
+pub number-of-spec : {M : Type 1} → statement M
+number-of-spec =
+    tie.close
+    (tie.spec
+    Inv-loop
+    μ-loop
+    returns
+    loop-holds
+    shared-slice-read-b
+    returns-2
+    returns-3
+    mul-at-most
+    cast-at-most
+    add-at-most
+    at-most-requires
+    add-i
+    loop-less
+    loop-again
+    returns-4)
