@@ -3,8 +3,6 @@
 ghost use Rattle.catalogue.specs.Building.{others, Built};
 use crate::look_up::devices_of;
 use crate::look_up::is_lacking;
-use crate::look_up::is_repeated;
-use crate::look_up::is_unfit;
 use planner::Answer;
 use planner::refusal;
 use planner::write;
@@ -14,6 +12,11 @@ use tables::TaskTable;
 
 mod look_up; // look_up.rt: the parts of a catalogue, by their numbers
 mod numbers; // numbers.rt: one part number
+
+pub use crate::look_up::is_repeated;
+pub use crate::look_up::is_unfit;
+pub use crate::numbers::is_formed;
+pub use crate::numbers::signs_of;
 
 // Writes the request file of the wanted parts. The catalogue has 15 bytes a part, 8 of part number and 7 of device record; the wanted parts are 8 bytes each.
 pub fn build(

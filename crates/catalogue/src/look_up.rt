@@ -33,7 +33,7 @@ fn find(catalogue: &[u8], from: usize, number: &[u8]) -> usize
 }
 
 // 21: a number with a bad character or bad padding, a last part that is not whole, or over 64 parts.
-pub(crate) fn is_unfit(catalogue: &[u8]) -> bool
+pub fn is_unfit(catalogue: &[u8]) -> bool
     ensures { λ r. ⌜ r ≡ unfit (partsOf (now (catalogue .entry))) ⌝ }
 {
     let n = catalogue.len();
@@ -57,7 +57,7 @@ pub(crate) fn is_unfit(catalogue: &[u8]) -> bool
 }
 
 // 22: two parts have the same number.
-pub(crate) fn is_repeated(catalogue: &[u8]) -> bool
+pub fn is_repeated(catalogue: &[u8]) -> bool
     requires { ⌜ unfit (partsOf (now catalogue)) ≡ false ⌝ }
     ensures { λ r. ⌜ r ≡ repeated (numbers (partsOf (now (catalogue .entry)))) ⌝ }
 {

@@ -20,7 +20,7 @@ fn is_sign(b: u8) -> bool
 }
 
 // How many signs stand at the front.
-fn signs_of(number: &[u8]) -> usize
+pub fn signs_of(number: &[u8]) -> usize
     ensures { λ r. ⌜ r ≡ length (front (now (number .entry))) ⌝ }
 {
     let n = number.len();
@@ -49,7 +49,7 @@ fn are_spaces(rest: &[u8]) -> bool
 }
 
 // At least one sign, and spaces to the right of the signs.
-pub(crate) fn is_formed(number: &[u8]) -> bool
+pub fn is_formed(number: &[u8]) -> bool
     ensures { λ r. ⌜ r ≡ wellFormed (now (number .entry)) ⌝ }
 {
     if number.len() != 8 {

@@ -23,7 +23,7 @@ use Rattle.text.proofs.Quotes.{hasQuote, quote-29, quote-21, Like, LikeAll, Lik
 use Rattle.sheet.specs.declared.Rows.{Rows}
 use Rattle.sheet.specs.declared.Rows.the-variants.{Devices, Jobs}
 use Rattle.sheet.specs.Sheets.{layout, areNumbers, fieldsIn, lineTable, lineFault, linesFault, partIn, jobIn, partsIn, jobsIn, partsFault, devicesRefused, jobsRefused}
-use Rattle.sheet.specs.Reading.{rawIn}
+use Rattle.sheet.specs.Reading.{rawIn, devicesRaw, jobsRaw}
 
 -- ---- a line's fault
 
@@ -70,12 +70,6 @@ few js = firstThat ((ltb 16 (length js) ⇒ 12) ∷ [])
 abbrev pub rawFault : Rows → List (List ℕ) → ℕ
 rawFault r [] = 0
 rawFault r (l ∷ ls) = orElse (firstThat (lineTable r (rawOf l))) (rawFault r ls)
-
-abbrev pub devicesRaw : List (List ℕ) → List Part
-devicesRaw ls = map (λ l. partIn (rawIn l)) ls
-
-abbrev pub jobsRaw : List (List ℕ) → List JobRecord
-jobsRaw ls = map (λ l. jobIn (rawIn l)) ls
 
 -- ---- a line that passes
 

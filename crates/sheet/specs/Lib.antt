@@ -1,3 +1,4 @@
 pub mod Sheets
 pub mod Promises
 pub mod Reading
+pub mod Printing

@@ -30,12 +30,8 @@ fn most(rows: Rows, k: usize) -> u32
     ensures { λ r. ⌜ r ≡ getD (layout rows .most) k 0 ⌝ }
 {
     match rows {
-        Rows::Devices => {
-            if k == 0 { 255 } else { 65535 }
-        }
-        Rows::Jobs => {
-            if k == 3 { 255 } else { 65535 }
-        }
+        Rows::Devices => { if k == 0 { 255 } else { 65535 } }
+        Rows::Jobs => { if k == 3 { 255 } else { 65535 } }
     }
 }
 

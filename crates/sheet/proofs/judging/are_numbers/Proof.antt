@@ -48,7 +48,7 @@ returns c =
     let first = c .before .before .before .before .before .before .texts .ensures in
     let place : c .before .before .before .before .before .before .texts .result + l .k ≡ layout (a .rows) .texts + l .k = ap (λ (x : ℕ). x + l .k) first in
     let number : c .before .number-of .result ≡ numberOf (getD fs (layout (a .rows) .texts + l .k) []) =
-        c .before .number-of .ensures ∙ ap numberOf (c .before .before .field .ensures ∙ ap (λ (x : ℕ). getD fs x []) place) in
+    c .before .number-of .ensures ∙ ap numberOf (c .before .before .field .ensures ∙ ap (λ (x : ℕ). getD fs x []) place) in
     let bound = c .before .before .before .most .ensures in
     sym (l .inv .1 ∙ number-fails (a .rows) fs (l .k) (omega arith) (omega arith))
 
@@ -66,7 +66,7 @@ loop-again c =
     let first = c .before .before .before .before .before .before .texts .ensures in
     let place : c .before .before .before .before .before .before .texts .result + l .k ≡ layout (a .rows) .texts + l .k = ap (λ (x : ℕ). x + l .k) first in
     let number : c .before .number-of .result ≡ numberOf (getD fs (layout (a .rows) .texts + l .k) []) =
-        c .before .number-of .ensures ∙ ap numberOf (c .before .before .field .ensures ∙ ap (λ (x : ℕ). getD fs x []) place) in
+    c .before .number-of .ensures ∙ ap numberOf (c .before .before .field .ensures ∙ ap (λ (x : ℕ). getD fs x []) place) in
     let bound = c .before .before .before .most .ensures in
     (omega arith, l .inv .1 ∙ number-passes (a .rows) fs (l .k) (omega arith) (omega arith))
 

@@ -91,7 +91,7 @@ returns c =
     let long = length-drop (l .at) s in
     let size : l .at + c .before .before .before .line-end .result - l .at ≡ lineLength (drop (l .at) s) = omega arith in
     let fault : c .before .line-fault .result ≡ lineFault (a .rows) (take (lineLength (drop (l .at) s)) (drop (l .at) s)) =
-        c .before .line-fault .ensures ∙ ap (λ (x : ℕ). lineFault (a .rows) (take x (drop (l .at) s))) size in
+    c .before .line-fault .ensures ∙ ap (λ (x : ℕ). lineFault (a .rows) (take x (drop (l .at) s))) size in
     sym (l .inv .1 ∙ lines-fault (a .rows) (drop (l .at) s) (omega arith)
     ∙ rw (← fault, ne-eqb (c .before .line-fault .result) 0 (c .if1 .taken)))
 
@@ -143,7 +143,7 @@ loop-again c =
     let long = length-drop (l .at) s in
     let size : l .at + c .before .before .before .before .before .line-end .result - l .at ≡ lineLength (drop (l .at) s) = omega arith in
     let fault : c .before .before .before .line-fault .result ≡ lineFault (a .rows) (take (lineLength (drop (l .at) s)) (drop (l .at) s)) =
-        c .before .before .before .line-fault .ensures ∙ ap (λ (x : ℕ). lineFault (a .rows) (take x (drop (l .at) s))) size in
+    c .before .before .before .line-fault .ensures ∙ ap (λ (x : ℕ). lineFault (a .rows) (take x (drop (l .at) s))) size in
     let next = c .next-line .ensures ∙ ap nextLine (rest-is s (l .at)) in
     let below = next-within (drop (l .at) s) in
     let some = next-some (drop (l .at) s) (omega arith) in
