@@ -1,3 +1,6 @@
 pub mod Raw
 pub mod Faults
 pub mod Lines
+pub mod Printed
+pub mod Tables
+pub mod Outcomes

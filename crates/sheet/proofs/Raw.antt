@@ -67,10 +67,6 @@ raw-fault r l = like-line r (fieldsOf l) (rawOf l) (raw-like l)
 abbrev pub few : List JobRecord → ℕ
 few js = firstThat ((ltb 16 (length js) ⇒ 12) ∷ [])
 
-abbrev pub rawFault : Rows → List (List ℕ) → ℕ
-rawFault r [] = 0
-rawFault r (l ∷ ls) = orElse (firstThat (lineTable r (rawOf l))) (rawFault r ls)
-
 -- ---- a line that passes
 
 -- Numbers are the same fields.
@@ -113,10 +109,6 @@ device-line (some (f ∷ fs)) (some (g ∷ gs)) h e =
     ⊎-elim (λ q. let a : f ∷ fs ≡ g ∷ gs = cc in inl (ap partIn a)) (λ q. inr (quote-21 f (q .0), quote-21 g (q .1))) (h .0)
 
 -- ---- all lines
-
-lines-raw : (r : Rows) (ls : List (List ℕ)) → linesFault r ls ≡ rawFault r ls
-lines-raw r [] = refl
-lines-raw r (l ∷ ls) = rw (raw-fault r l, lines-raw r ls)
 
 jobs-raw : (ls : List (List ℕ)) → 0 ≡ linesFault Jobs ls → map (λ l. jobIn (fieldsIn l)) ls ≡ jobsRaw ls
 jobs-raw [] e = refl
@@ -184,10 +176,9 @@ or-same (suc f) r r′ h = rw (eqb·suc-zero f)
 
 -- ---- the import
 
-pub devices-raw-refused : (text : List ℕ) → devicesRefused text ≡ orElse (rawFault Devices (linesOf text)) (partsFault (devicesRaw (linesOf text)))
+pub devices-raw-refused : (text : List ℕ) → devicesRefused text ≡ orElse (linesFault Devices (linesOf text)) (partsFault (devicesRaw (linesOf text)))
 devices-raw-refused text =
-    rw (← lines-raw Devices (linesOf text))
-    (or-same (linesFault Devices (linesOf text)) _ _ (λ e. table-fault (partsIn text) (devicesRaw (linesOf text)) (devices-raw (linesOf text) e)))
+    or-same (linesFault Devices (linesOf text)) _ _ (λ e. table-fault (partsIn text) (devicesRaw (linesOf text)) (devices-raw (linesOf text) e))
 
 pub devices-raw-in : (text : List ℕ) → devicesRefused text ≡ 0 → partsIn text ≡ devicesRaw (linesOf text)
 devices-raw-in text e =
@@ -196,10 +187,8 @@ devices-raw-in text e =
     like-same (partsIn text) (devicesRaw (linesOf text)) (devices-raw (linesOf text) (p .0))
     (fit-formed (partsIn text) (c .0))
 
-pub jobs-raw-refused : (text : List ℕ) → jobsRefused text ≡ orElse (rawFault Jobs (linesOf text)) (few (jobsRaw (linesOf text)))
-jobs-raw-refused text =
-    rw (← lines-raw Jobs (linesOf text))
-    (or-same (linesFault Jobs (linesOf text)) _ _ (λ e. ap few (jobs-raw (linesOf text) e)))
+pub jobs-raw-refused : (text : List ℕ) → jobsRefused text ≡ orElse (linesFault Jobs (linesOf text)) (few (jobsRaw (linesOf text)))
+jobs-raw-refused text = or-same (linesFault Jobs (linesOf text)) _ _ (λ e. ap few (jobs-raw (linesOf text) e))
 
 pub jobs-raw-in : (text : List ℕ) → jobsRefused text ≡ 0 → jobsIn text ≡ jobsRaw (linesOf text)
 jobs-raw-in text e = jobs-raw (linesOf text) (orElse-zero (linesFault Jobs (linesOf text)) (few (jobsIn text)) (sym e) .0)

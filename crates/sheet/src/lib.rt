@@ -59,7 +59,7 @@ pub fn import_devices(text: &[u8], out: &mut [u8]) -> Answer
     let lines = count_lines(text);
     let size = lines * 15;
     let mut own = [0u8; 960];
-    put_parts(&mut own[..size], text, lines);
+    put_parts(&mut own, text, lines);
     if is_repeated(&own[..size]) {
         return refusal(22);
     }
@@ -80,7 +80,7 @@ pub fn import_jobs(text: &[u8], out: &mut [u8]) -> Answer
     }
     let size = lines * 7;
     let mut own = [0u8; 112];
-    put_records(&mut own[..size], text, lines);
+    put_records(&mut own, text, lines);
     give(&own[..size], 0, lines, out)
 }
 
@@ -94,7 +94,7 @@ pub fn export_devices(catalogue: &[u8], out: &mut [u8]) -> Answer
     if is_repeated(catalogue) {
         return refusal(22);
     }
-    let mut own = [0u8; 2176];
+    let mut own = [0u8; 2304];
     let size = put_part_lines(&mut own, catalogue);
     give(&own[..size], 0, size, out)
 }
@@ -110,7 +110,7 @@ pub fn export_jobs(records: &[u8], out: &mut [u8]) -> Answer
     if n % 7 != 0 {
         return refusal(1);
     }
-    let mut own = [0u8; 368];
+    let mut own = [0u8; 400];
     let size = put_job_lines(&mut own, records);
     give(&own[..size], 0, size, out)
 }

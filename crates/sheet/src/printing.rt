@@ -32,7 +32,7 @@ fn put_quoted(out: &mut [u8], at: usize, number: &[u8]) -> usize
 
 // The line of a part, with its CR LF.
 fn put_part_line(out: &mut [u8], at: usize, part: &[u8]) -> usize
-    requires { ⌜ (at + 34 ≤ length (now out)) × (length (now part) ≡ 15) ⌝ }
+    requires { ⌜ (at + 36 ≤ length (now out)) × (length (now part) ≡ 15) ⌝ }
     ensures { λ r. ⌜ Put (partText (partOf (now (part .entry)))) at (now (out .entry)) r (now (out .exit)) ⌝ }
 {
     let next = put_quoted(out, at, &part[..8]);
@@ -41,14 +41,14 @@ fn put_part_line(out: &mut [u8], at: usize, part: &[u8]) -> usize
 }
 
 pub(crate) fn put_part_lines(out: &mut [u8], catalogue: &[u8]) -> usize
-    requires { ⌜ (unfit (partsOf (now catalogue)) ≡ false) × (length (now out) ≡ 2176) ⌝ }
-    ensures { λ r. ⌜ Put (devicesText (partsOf (now (catalogue .entry)))) 0 (now (out .entry)) r (now (out .exit)) ⌝ }
+    requires { ⌜ (unfit (partsOf (now catalogue)) ≡ false) × (length (now out) ≡ 2304) ⌝ }
+    ensures { λ r. ⌜ (r ≤ 2304) × Put (devicesText (partsOf (now (catalogue .entry)))) 0 (now (out .entry)) r (now (out .exit)) ⌝ }
 {
     let count = catalogue.len() / 15;
     let mut at = 0;
     let mut k = 0;
     while k < count {
-        let from = k * 15;
+        let from = 15 * k;
         let to = from + 15;
         at = put_part_line(out, at, &catalogue[from..to]);
         k += 1;
@@ -57,23 +57,23 @@ pub(crate) fn put_part_lines(out: &mut [u8], catalogue: &[u8]) -> usize
 }
 
 // The line of the job record at a place.
-fn put_job_line(out: &mut [u8], at: usize, record: &[u8]) -> usize
-    requires { ⌜ (at + 23 ≤ length (now out)) × (length (now record) ≡ 7) ⌝ }
-    ensures { λ r. ⌜ Put (recordText (now (record .entry))) at (now (out .entry)) r (now (out .exit)) ⌝ }
+fn put_job_line(out: &mut [u8], at: usize, piece: &[u8]) -> usize
+    requires { ⌜ (at + 25 ≤ length (now out)) × (length (now piece) ≡ 7) ⌝ }
+    ensures { λ r. ⌜ Put (recordText (now (piece .entry))) at (now (out .entry)) r (now (out .exit)) ⌝ }
 {
-    let j = job_at(record, 0);
+    let j = job_at(piece, 0);
     put_four(out, at, j.release, j.deadline, j.run, j.set as u16)
 }
 
 pub(crate) fn put_job_lines(out: &mut [u8], records: &[u8]) -> usize
-    requires { ⌜ (length (now records) ≤ 112) × (length (now records) % 7 ≡ 0) × (length (now out) ≡ 368) ⌝ }
-    ensures { λ r. ⌜ Put (jobsText (jobsOf (pieces 7 (now (records .entry))))) 0 (now (out .entry)) r (now (out .exit)) ⌝ }
+    requires { ⌜ (length (now records) ≤ 112) × (length (now records) % 7 ≡ 0) × (length (now out) ≡ 400) ⌝ }
+    ensures { λ r. ⌜ (r ≤ 400) × Put (jobsText (jobsOf (pieces 7 (now (records .entry))))) 0 (now (out .entry)) r (now (out .exit)) ⌝ }
 {
     let count = records.len() / 7;
     let mut at = 0;
     let mut k = 0;
     while k < count {
-        let from = k * 7;
+        let from = 7 * k;
         let to = from + 7;
         at = put_job_line(out, at, &records[from..to]);
         k += 1;

@@ -1,39 +1,41 @@
+-- `sheet::devices_fault` meets its contract.
+-- Assumes nothing.
+use mathlib.Core.Path.{_≡_, refl, sym, ap, _∙_}
+use native.Mathlib.Omega.{arith}
+use Rattle.base.proofs.Paths.{paths}
+use Rattle.text.specs.Grammar.{linesOf}
+use Rattle.sheet.specs.declared.Rows.the-variants.{Devices}
+use Rattle.sheet.proofs.Tables.{sound-lines, unfit-many, unfit-few}
 use borrow.Author.Needs.{needs}
 use Rattle.sheet.proofs.devices_fault.Statement.{statement}
 use Rattle.sheet.proofs.devices_fault.Tie as tie
-use Rattle.sheet.proofs.devices_fault.Reads as reads
-use Rattle.sheet.proofs.devices_fault.Lts as lts
-use Rattle.sheet.proofs.judging.lines_fault.Reads as lines-fault-reads
-use Rattle.sheet.proofs.reading.has_bad_number.Reads as has-bad-number-reads
-use Rattle.text.proofs.count_lines.Reads as count-lines-reads
 
--- src/lib.rt:40:9
 lines-fault-requires : tie.Need-lines-fault-requires
 lines-fault-requires c κs = search needs
 
--- src/lib.rt:42:9
 returns : tie.Need-returns
-returns c = ?
+returns c = search paths
 
--- src/lib.rt:44:9
 count-lines-requires : tie.Need-count-lines-requires
 count-lines-requires c κs = search needs
 
--- src/lib.rt:46:9
 returns-2 : tie.Need-returns-2
-returns-2 c = ?
+returns-2 c =
+    let ls = linesOf (c .before .before .before .before .before .args .text .now) in
+    rw (sym (c .before .before .before .lines-fault .ensures) ∙ c .before .before .if1 .left, unfit-many ls (omega (arith, c .before .count-lines .ensures)))
 
--- src/lib.rt:48:8
 has-bad-number-requires : tie.Need-has-bad-number-requires
-has-bad-number-requires c κs = ?
+has-bad-number-requires c κs = (c .before .count-lines .ensures, sound-lines Devices (c .before .before .before .before .before .args .text .now) (sym (c .before .before .before .lines-fault .ensures) ∙ c .before .before .if1 .left))
 
--- src/lib.rt:37:1
 returns-3 : tie.Need-returns-3
-returns-3 c = ?
+returns-3 c =
+    let ls = linesOf (c .before .before .before .before .before .before .before .args .text .now) in
+    rw (sym (c .before .before .before .before .before .lines-fault .ensures) ∙ c .before .before .before .before .if1 .left, unfit-few ls (omega (arith, c .before .before .before .count-lines .ensures)), ← c .before .has-bad-number .ensures, c .if3 .taken)
 
--- src/lib.rt:37:1
 returns-4 : tie.Need-returns-4
-returns-4 c = ?
+returns-4 c =
+    let ls = linesOf (c .before .before .before .before .before .before .before .args .text .now) in
+    rw (sym (c .before .before .before .before .before .lines-fault .ensures) ∙ c .before .before .before .before .if1 .left, unfit-few ls (omega (arith, c .before .before .before .count-lines .ensures)), ← c .before .has-bad-number .ensures, c .if3 .left)
 
 pub devices-fault-spec : {M : Type 1} → statement M
 devices-fault-spec =

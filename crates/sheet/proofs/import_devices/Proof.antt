@@ -31,12 +31,8 @@ mul-size : tie.Need-mul-size
 mul-size c = ?
 
 -- src/lib.rt:62:15
-array-borrow-prefix-own : tie.Need-array-borrow-prefix-own
-array-borrow-prefix-own c = ?
-
--- src/lib.rt:62:15
 slice-aggregate-put-parts : tie.Need-slice-aggregate-put-parts
-slice-aggregate-put-parts c = ?
+slice-aggregate-put-parts c = search needs
 
 -- src/lib.rt:62:5
 put-parts-requires : tie.Need-put-parts-requires
@@ -91,7 +87,6 @@ import-devices-spec =
     returns
     count-lines-requires
     mul-size
-    array-borrow-prefix-own
     slice-aggregate-put-parts
     put-parts-requires
     array-share-prefix-own

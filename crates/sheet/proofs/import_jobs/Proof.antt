@@ -38,12 +38,8 @@ mul-size : tie.Need-mul-size
 mul-size c = search needs
 
 -- src/lib.rt:83:17
-array-borrow-prefix-own : tie.Need-array-borrow-prefix-own
-array-borrow-prefix-own c = search needs
-
--- src/lib.rt:83:17
 slice-aggregate-put-records : tie.Need-slice-aggregate-put-records
-slice-aggregate-put-records c = ?
+slice-aggregate-put-records c = search needs
 
 -- src/lib.rt:83:5
 put-records-requires : tie.Need-put-records-requires
@@ -51,7 +47,7 @@ put-records-requires c κs = ?
 
 -- src/lib.rt:84:10
 array-share-prefix-own : tie.Need-array-share-prefix-own
-array-share-prefix-own c = ?
+array-share-prefix-own c = search needs
 
 -- src/lib.rt:84:10
 slice-aggregate-give : tie.Need-slice-aggregate-give
@@ -80,7 +76,6 @@ import-jobs-spec =
     refusal-requires-2
     returns-2
     mul-size
-    array-borrow-prefix-own
     slice-aggregate-put-records
     put-records-requires
     array-share-prefix-own

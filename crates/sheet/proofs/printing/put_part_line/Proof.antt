@@ -1,39 +1,61 @@
+-- `sheet::printing::put_part_line` meets its contract.
+-- Assumes nothing.
+use mathlib.Core.Path.{_≡_, refl, sym, ap, _∙_}
+use native.Mathlib.Omega.{arith}
+use mathlib.Core.List.{[], _∷_}
+use lib.ListN.{length, take}
+use lib.Seq.{length-take-le}
+use Rattle.tables.specs.Records.{deviceAt}
+use Rattle.writing.proofs.Puts.{put-more}
+use Rattle.sheet.proofs.Printed.{quoted-long, front-eight, four-few, part-text}
 use borrow.Author.Needs.{needs}
 use Rattle.sheet.proofs.printing.put_part_line.Statement.{statement}
 use Rattle.sheet.proofs.printing.put_part_line.Tie as tie
-use Rattle.sheet.proofs.printing.put_part_line.Reads as reads
-use Rattle.sheet.proofs.printing.put_part_line.Lts as lts
-use Rattle.sheet.proofs.printing.put_quoted.Reads as put-quoted-reads
-use Rattle.tables.proofs.device_at.Reads as device-at-reads
-use Rattle.writing.proofs.put_four.Reads as put-four-reads
 
--- src/printing.rt:38:36
 slice-aggregate-put-quoted : tie.Need-slice-aggregate-put-quoted
-slice-aggregate-put-quoted c = ?
+slice-aggregate-put-quoted c =
+    let start = c .before .before .before .before in
+    let s = start .args .part .now in
+    let eight = length-take-le 8 s (omega (arith, start .pre .1)) in
+    let front-few = front-eight s (start .pre .1) in
+    sym eight
 
--- src/printing.rt:38:9
 put-quoted-requires : tie.Need-put-quoted-requires
-put-quoted-requires c κs = ?
+put-quoted-requires c κs =
+    let start = c .before .before .before .before in
+    let s = start .args .part .now in
+    let eight = length-take-le 8 s (omega (arith, start .pre .1)) in
+    let front-few = front-eight s (start .pre .1) in
+    omega (arith, start .pre .0)
 
--- src/printing.rt:39:9
 device-at-requires : tie.Need-device-at-requires
 device-at-requires c κs = search needs
 
--- src/printing.rt:40:25
 cast-put-four : tie.Need-cast-put-four
 cast-put-four c = search needs
 
--- src/printing.rt:40:5
 put-four-requires : tie.Need-put-four-requires
-put-four-requires c κs = ?
+put-four-requires c κs =
+    let start = c .before .before .before .before .before .before .before .before .before .before in
+    let s = start .args .part .now in
+    let eight = length-take-le 8 s (omega (arith, start .pre .1)) in
+    let front-few = front-eight s (start .pre .1) in
+    let d = c .before .before .device-at .result in
+    omega (arith, start .pre .0, quoted-long (take 8 s), c .before .before .before .before .before .put-quoted .ensures .next, four-few (d .t) (d .pw) (d .ps) (d .p0))
 
--- src/printing.rt:34:1
 same-length : tie.Need-same-length
 same-length c = search needs
 
--- src/printing.rt:34:1
 returns : tie.Need-returns
-returns c = ?
+returns c =
+    let start = c .before .before .before .before .before .before .before .before .before .before .before .before .before in
+    let s = start .args .part .now in
+    let eight = length-take-le 8 s (omega (arith, start .pre .1)) in
+    let front-few = front-eight s (start .pre .1) in
+    let d = c .before .before .before .before .before .device-at .result in
+    let first = c .before .before .before .before .before .before .before .before .put-quoted .ensures in
+    let second = rw (c .before .before .before .before .before .device-at .ensures) at (c .before .before .put-four .ensures) in
+    rw (← part-text s) (put-more first second (omega (arith, start .pre .0, quoted-long (take 8 s), first .next, c .before .before .put-four .ensures .next, four-few (d .t) (d .pw) (d .ps) (d .p0))))
 
 pub put-part-line-spec : {M : Type 1} → statement M
 put-part-line-spec =

@@ -1,62 +1,127 @@
+-- `sheet::printing::put_part_lines` meets its contract.
+-- Assumes nothing.
+use mathlib.Core.Path.{_≡_, refl, sym, ap, _∙_}
+use mathlib.Core.List.{List, [], map}
+use Prim.Native.Nat.{ℕ, _+_, _-_, _*_, _/_, _≤_, _<_}
+use native.Mathlib.Omega.{arith}
+use lib.ListN.{length, take, drop, getD, length-take, length-drop, length-map}
+use Rattle.tables.specs.Records.{jobAt}
+use Rattle.catalogue.specs.Parts.{partsOf, pieces, Part, partOf}
+use Rattle.catalogue.proofs.Members.{noPart}
+use Rattle.catalogue.proofs.Meaning.{whole-catalogue}
+use Rattle.catalogue.proofs.Pieces.{slice-is, parts-count, part-at}
+use Rattle.writing.specs.Putting.{Put}
+use Rattle.writing.proofs.Puts.{put-more, put-none, put-length}
+use Rattle.sheet.specs.Sheets.{inRow, partLine, jobLine, jobsOf}
+use Rattle.sheet.specs.Printing.{partText, recordText}
+use Rattle.sheet.proofs.Lines.{rows-more, rows-all}
+use Rattle.sheet.proofs.Printed.{text-rows, records-text, part-text-few, record-text-few, seven-count, seven-at}
 use Rattle.sheet.proofs.printing.put_part_lines.Statement.{statement}
 use Rattle.sheet.proofs.printing.put_part_lines.Tie as tie
-use Rattle.sheet.proofs.printing.put_part_lines.Reads as reads
-use Rattle.sheet.proofs.printing.put_part_lines.Lts as lts
-use Rattle.sheet.proofs.printing.put_part_line.Reads as put-part-line-reads
 
 abbrev Inv-loop : tie.InvT-loop
-Inv-loop out₀ catalogue count at₀ k₀ out at k = ?
+Inv-loop out₀ catalogue count at₀ k₀ out at k = (k ≤ count) × (at ≤ k * 36) × Put (inRow (map partText (take k (partsOf catalogue)))) 0 out₀ at out
 
 abbrev μ-loop : tie.MeasureT-loop
-μ-loop out₀ catalogue count at₀ k₀ out at k = ?
+μ-loop out₀ catalogue count at₀ k₀ out at k = count - k
 
--- src/printing.rt:50:5
 loop-holds : tie.Need-loop-holds Inv-loop μ-loop
-loop-holds c = ?
+loop-holds c = (omega arith, omega arith, put-none _ _)
 
--- src/printing.rt:51:20
 mul-from : tie.Need-mul-from Inv-loop μ-loop
-mul-from c = ?
+mul-from c =
+    let start = c .before .before .before .before in
+    let s = start .args .catalogue .now in
+    let l = c .before .loop in
+    let whole = whole-catalogue s (start .pre .0) in
+    omega arith
 
--- src/printing.rt:52:18
 add-to : tie.Need-add-to Inv-loop μ-loop
-add-to c = ?
+add-to c =
+    let start = c .before .before .before .before in
+    let s = start .args .catalogue .now in
+    let l = c .before .loop in
+    let whole = whole-catalogue s (start .pre .0) in
+    omega arith
 
--- src/printing.rt:53:37
 sub-put-part-line : tie.Need-sub-put-part-line Inv-loop μ-loop
-sub-put-part-line c = ?
+sub-put-part-line c =
+    let start = c .before .before .before .before .before in
+    let s = start .args .catalogue .now in
+    let l = c .before .before .loop in
+    let whole = whole-catalogue s (start .pre .0) in
+    omega arith
 
--- src/printing.rt:53:37
 part-put-part-line-start : tie.Need-part-put-part-line-start Inv-loop μ-loop
-part-put-part-line-start c = ?
+part-put-part-line-start c =
+    let start = c .before .before .before .before .before in
+    let s = start .args .catalogue .now in
+    let l = c .before .before .loop in
+    let whole = whole-catalogue s (start .pre .0) in
+    omega arith
 
--- src/printing.rt:53:37
 part-put-part-line-end : tie.Need-part-put-part-line-end Inv-loop μ-loop
-part-put-part-line-end c = ?
+part-put-part-line-end c =
+    let start = c .before .before .before .before .before in
+    let s = start .args .catalogue .now in
+    let l = c .before .before .loop in
+    let whole = whole-catalogue s (start .pre .0) in
+    omega arith
 
--- src/printing.rt:53:9
 put-part-line-requires : tie.Need-put-part-line-requires Inv-loop μ-loop
-put-part-line-requires c κs = ?
+put-part-line-requires c κs =
+    let start = c .before .before .before .before .before .before in
+    let s = start .args .catalogue .now in
+    let l = c .before .before .before .loop in
+    let whole = whole-catalogue s (start .pre .0) in
+    let kept = put-length (l .inv .2) (omega (arith, start .pre .1)) in
+    (omega (arith, start .pre .1), rw (slice-is s 15 (15 * l .k)) (length-take 15 (drop (15 * l .k) s) ∙ omega (arith, length-drop (15 * l .k) s)))
 
--- src/printing.rt:54:9
 add-k : tie.Need-add-k Inv-loop μ-loop
-add-k c = ?
+add-k c =
+    let start = c .before .before .before .before .before .before .before .before .before in
+    let s = start .args .catalogue .now in
+    let l = c .before .before .before .before .before .before .loop in
+    let whole = whole-catalogue s (start .pre .0) in
+    omega arith
 
--- src/printing.rt:50:5
 loop-less : tie.Need-loop-less Inv-loop μ-loop
-loop-less c = ?
+loop-less c =
+    let start = c .before .before .before .before .before .before .before .before .before in
+    let s = start .args .catalogue .now in
+    let l = c .before .before .before .before .before .before .loop in
+    let whole = whole-catalogue s (start .pre .0) in
+    omega arith
 
--- src/printing.rt:50:5
 loop-again : tie.Need-loop-again Inv-loop μ-loop
-loop-again c = ?
+loop-again c =
+    let start = c .before .before .before .before .before .before .before .before .before in
+    let s = start .args .catalogue .now in
+    let l = c .before .before .before .before .before .before .loop in
+    let whole = whole-catalogue s (start .pre .0) in
+    let piece = take 15 (drop (15 * l .k) s) in
+    let long : length piece ≡ 15 = length-take 15 (drop (15 * l .k) s) ∙ omega (arith, length-drop (15 * l .k) s) in
+    let put = rw (slice-is s 15 (15 * l .k)) at (c .before .before .put-part-line .ensures) in
+    let few = part-text-few piece long in
+    let here : getD (partsOf s) (l .k) noPart ≡ partOf piece = part-at s (l .k) (omega arith) in
+    let more = put-more (l .inv .2) put (omega (arith, start .pre .1, put .next)) in
+    (omega arith, omega (arith, put .next), rw (rows-more partText (partsOf s) noPart (l .k) (omega arith), here) more)
 
--- src/printing.rt:43:1
 same-length : tie.Need-same-length Inv-loop μ-loop
-same-length c = ?
+same-length c =
+    let start = c .before .before .before .before in
+    let s = start .args .catalogue .now in
+    let l = c .before .loop in
+    let whole = whole-catalogue s (start .pre .0) in
+    put-length (l .inv .2) (omega (arith, start .pre .1))
 
--- src/printing.rt:43:1
 returns : tie.Need-returns Inv-loop μ-loop
-returns c = ?
+returns c =
+    let start = c .before .before .before .before in
+    let s = start .args .catalogue .now in
+    let l = c .before .loop in
+    let whole = whole-catalogue s (start .pre .0) in
+    (omega arith, rw (text-rows partLine (partsOf s), ← rows-all partText (partsOf s) noPart (l .k) (omega arith)) (l .inv .2))
 
 pub put-part-lines-spec : {M : Type 1} → statement M
 put-part-lines-spec =

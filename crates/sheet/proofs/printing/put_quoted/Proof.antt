@@ -1,43 +1,82 @@
+-- `sheet::printing::put_quoted` meets its contract.
+-- Assumes nothing.
+use mathlib.Core.Path.{_≡_, refl, sym, ap, _∙_}
+use Prim.Native.Nat.{_≤_}
+use native.Mathlib.Omega.{arith}
+use lib.ListN.{length, take}
+use lib.Seq.{length-take-le}
+use Rattle.catalogue.specs.Parts.{front}
+use Rattle.catalogue.proofs.Scanning.{front-fits}
+use Rattle.writing.proofs.Puts.{put-more}
+use Rattle.sheet.proofs.Printed.{quoted-long, take-front}
 use borrow.Author.Needs.{needs}
 use Rattle.sheet.proofs.printing.put_quoted.Statement.{statement}
 use Rattle.sheet.proofs.printing.put_quoted.Tie as tie
-use Rattle.sheet.proofs.printing.put_quoted.Reads as reads
-use Rattle.sheet.proofs.printing.put_quoted.Lts as lts
-use Rattle.catalogue.proofs.signs_of.Reads as signs-of-reads
-use Rattle.writing.proofs.put_byte.Reads as put-byte-reads
-use Rattle.writing.proofs.put_bytes.Reads as put-bytes-reads
 
--- src/printing.rt:26:9
 signs-of-requires : tie.Need-signs-of-requires
 signs-of-requires c κs = search needs
 
--- src/printing.rt:27:9
 put-byte-requires : tie.Need-put-byte-requires
 put-byte-requires c κs = search needs
 
--- src/printing.rt:28:36
 slice-aggregate-put-bytes : tie.Need-slice-aggregate-put-bytes
-slice-aggregate-put-bytes c = ?
+slice-aggregate-put-bytes c =
+    let start = c .before .before .before .before .before .before .before .before .before in
+    let n = start .args .number .now in
+    let signs = c .before .before .before .before .before .before .signs-of .ensures in
+    let fits = front-fits n in
+    let few : c .before .before .before .before .before .before .signs-of .result ≤ length n = omega arith in
+    let some = length-take-le (c .before .before .before .before .before .before .signs-of .result) n few in
+    sym some
 
--- src/printing.rt:28:9
 put-bytes-requires : tie.Need-put-bytes-requires
-put-bytes-requires c κs = ?
+put-bytes-requires c κs =
+    let start = c .before .before .before .before .before .before .before .before .before in
+    let n = start .args .number .now in
+    let signs = c .before .before .before .before .before .before .signs-of .ensures in
+    let fits = front-fits n in
+    let few : c .before .before .before .before .before .before .signs-of .result ≤ length n = omega arith in
+    let some = length-take-le (c .before .before .before .before .before .before .signs-of .result) n few in
+    omega (arith, start .pre, c .before .before .before .before .put-byte .ensures .next)
 
--- src/printing.rt:29:9
 put-byte-requires-2 : tie.Need-put-byte-requires-2
-put-byte-requires-2 c κs = ?
+put-byte-requires-2 c κs =
+    let start = c .before .before .before .before .before .before .before .before .before .before .before .before .before in
+    let n = start .args .number .now in
+    let signs = c .before .before .before .before .before .before .before .before .before .before .signs-of .ensures in
+    let fits = front-fits n in
+    let few : c .before .before .before .before .before .before .before .before .before .before .signs-of .result ≤ length n = omega arith in
+    let some = length-take-le (c .before .before .before .before .before .before .before .before .before .before .signs-of .result) n few in
+    omega (arith, start .pre, c .before .before .before .before .before .before .before .before .put-byte .ensures .next, c .before .before .before .put-bytes .ensures .next)
 
--- src/printing.rt:30:5
 put-byte-requires-3 : tie.Need-put-byte-requires-3
-put-byte-requires-3 c κs = ?
+put-byte-requires-3 c κs =
+    let start = c .before .before .before .before .before .before .before .before .before .before .before .before .before .before .before .before .before in
+    let n = start .args .number .now in
+    let signs = c .before .before .before .before .before .before .before .before .before .before .before .before .before .before .signs-of .ensures in
+    let fits = front-fits n in
+    let few : c .before .before .before .before .before .before .before .before .before .before .before .before .before .before .signs-of .result ≤ length n = omega arith in
+    let some = length-take-le (c .before .before .before .before .before .before .before .before .before .before .before .before .before .before .signs-of .result) n few in
+    omega (arith, start .pre, c .before .before .before .before .before .before .before .before .before .before .before .before .put-byte .ensures .next, c .before .before .before .before .before .before .before .put-bytes .ensures .next, c .before .before .before .put-byte2 .ensures .next)
 
--- src/printing.rt:22:1
 same-length : tie.Need-same-length
 same-length c = search needs
 
--- src/printing.rt:22:1
 returns : tie.Need-returns
-returns c = ?
+returns c =
+    let start = c .before .before .before .before .before .before .before .before .before .before .before .before .before .before .before .before .before .before .before .before in
+    let n = start .args .number .now in
+    let signs = c .before .before .before .before .before .before .before .before .before .before .before .before .before .before .before .before .before .signs-of .ensures in
+    let fits = front-fits n in
+    let few : c .before .before .before .before .before .before .before .before .before .before .before .before .before .before .before .before .before .signs-of .result ≤ length n = omega arith in
+    let some = length-take-le (c .before .before .before .before .before .before .before .before .before .before .before .before .before .before .before .before .before .signs-of .result) n few in
+    let first = c .before .before .before .before .before .before .before .before .before .before .before .before .before .before .before .put-byte .ensures in
+    let number = c .before .before .before .before .before .before .before .before .before .before .put-bytes .ensures in
+    let close = c .before .before .before .before .before .before .put-byte2 .ensures in
+    let comma = c .before .before .put-byte3 .ensures in
+    let tail = put-more close comma (omega (arith, start .pre, first .next, number .next, close .next, comma .next)) in
+    let rest = put-more number tail (omega (arith, start .pre, first .next, number .next, close .next, comma .next)) in
+    rw (take-front n (c .before .before .before .before .before .before .before .before .before .before .before .before .before .before .before .before .before .signs-of .result) signs) at (put-more first rest (omega (arith, start .pre, first .next, number .next, close .next, comma .next)))
 
 pub put-quoted-spec : {M : Type 1} → statement M
 put-quoted-spec =
