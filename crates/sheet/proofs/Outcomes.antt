@@ -27,7 +27,7 @@ use Rattle.sheet.specs.Promises.{Filled}
 use Rattle.sheet.specs.Promises as P
 use Rattle.sheet.specs.Reading.{partRaw, jobRaw, devicesRaw, jobsRaw}
 use Rattle.sheet.proofs.Raw.{few, devices-raw-refused, devices-raw-in, jobs-raw-refused, jobs-raw-in}
-use Rattle.sheet.proofs.Tables.{row-map}
+use Rattle.sheet.proofs.Tables.{row-map, parts-back, fit-sized}
 
 pub filled-as : {f f′ h n n′ : ℕ} {m m′ lent : List ℕ} {a : Answer} {after : List ℕ} → f ≡ f′ → n ≡ n′ → m ≡ m′ → Filled f h n m lent a after
     → Filled f′ h n′ m′ lent a after
@@ -70,6 +70,10 @@ module _ (text : List ℕ) where
 
     pub devices-fine : repeated (numbers (devicesRaw lines)) ≡ false → 0 ≡ devicesRefused text
     devices-fine w = sym (devices-raw-refused text ∙ rw (devices-pass .0, devices-pass .1, w))
+
+  -- The parts of the rows' bytes are the rows.
+  pub rows-parts : unfit (devicesRaw lines) ≡ false → partsOf (inRow (map (λ l. partBytes (partRaw l)) lines)) ≡ devicesRaw lines
+  rows-parts u = ap partsOf (row-map partRaw partBytes lines) ∙ parts-back (devicesRaw lines) (fit-sized (devicesRaw lines) u)
 
   pub devices-bytes : 0 ≡ devicesRefused text → inRow (map (λ l. partBytes (partRaw l)) lines) ≡ catalogueOf (partsIn text)
   devices-bytes e = row-map partRaw partBytes lines ∙ ap catalogueOf (sym (devices-raw-in text (sym e)))

@@ -1,82 +1,135 @@
+-- `sheet::import_devices` meets its contract.
+-- Assumes nothing.
+use mathlib.Core.Path.{_≡_, refl, sym, ap, _∙_}
+use native.Mathlib.Omega.{arith}
+use mathlib.Core.List.{List, [], _∷_}
+use lib.Seq.{length-take-le}
+use Rattle.base.specs.Refusals.{orElse, firstThat, _⇒_}
+use Rattle.catalogue.specs.Parts.{Part, partsOf, numbers, repeated, unfit}
+use Rattle.text.specs.Grammar.{linesOf}
+use Rattle.sheet.specs.declared.Rows.the-variants.{Devices}
+use Rattle.sheet.specs.Sheets.{linesFault}
+use Rattle.sheet.specs.Reading.{devicesRaw}
+use Rattle.sheet.proofs.Outcomes.{filled-as, refused-as, devices-refused, devices-pass, devices-twice, devices-fine, rows-parts, devices-bytes, devices-count}
+use Rattle.sheet.proofs.Printed.{put-front}
+use Rattle.sheet.proofs.Tables.{sound-lines, fit-lines}
 use borrow.Author.Needs.{needs}
 use Rattle.sheet.proofs.import_devices.Statement.{statement}
 use Rattle.sheet.proofs.import_devices.Tie as tie
-use Rattle.sheet.proofs.import_devices.Reads as reads
-use Rattle.sheet.proofs.import_devices.Lts as lts
-use Rattle.catalogue.proofs.is_repeated.Reads as is-repeated-reads
-use Rattle.planner.proofs.refusal.Reads as refusal-reads
-use Rattle.sheet.proofs.devices_fault.Reads as devices-fault-reads
-use Rattle.sheet.proofs.give.Reads as give-reads
-use Rattle.sheet.proofs.reading.put_parts.Reads as put-parts-reads
-use Rattle.text.proofs.count_lines.Reads as count-lines-reads
 
--- src/lib.rt:55:9
+-- No line is at fault, and 21 passes.
+faultless : (c : tie.Else1) → 0 ≡ orElse (linesFault Devices (linesOf (c .before .before .before .before .args .text .now)))
+    (firstThat ((unfit (devicesRaw (linesOf (c .before .before .before .before .args .text .now))) ⇒ 21) ∷ []))
+faultless c = sym (c .if1 .left) ∙ c .before .devices-fault .ensures
+
 devices-fault-requires : tie.Need-devices-fault-requires
 devices-fault-requires c κs = search needs
 
--- src/lib.rt:57:9
 refusal-requires : tie.Need-refusal-requires
 refusal-requires c κs = search needs
 
--- src/lib.rt:57:9
 returns : tie.Need-returns
-returns c = ?
+returns c =
+    let s = c .before .before .before .before .before .args .text .now in
+    rw (c .refusal .ensures) (refused-as (devices-refused s (c .before .before .devices-fault .result) (c .before .before .devices-fault .ensures) (c .before .if1 .taken)) (c .before .if1 .taken))
 
--- src/lib.rt:59:9
 count-lines-requires : tie.Need-count-lines-requires
 count-lines-requires c κs = search needs
 
--- src/lib.rt:60:16
 mul-size : tie.Need-mul-size
-mul-size c = ?
+mul-size c =
+    let s = c .before .before .before .before .before .args .text .now in
+    let e = faultless (c .before) in
+    let pass = devices-pass s e in
+    let fit = fit-lines s (pass .1) in
+    let count = c .count-lines .ensures in
+    omega arith
 
--- src/lib.rt:62:15
 slice-aggregate-put-parts : tie.Need-slice-aggregate-put-parts
 slice-aggregate-put-parts c = search needs
 
--- src/lib.rt:62:5
 put-parts-requires : tie.Need-put-parts-requires
-put-parts-requires c κs = ?
+put-parts-requires c κs =
+    let s = c .before .before .before .before .before .before .args .text .now in
+    let e = faultless (c .before .before) in
+    let pass = devices-pass s e in
+    let fit = fit-lines s (pass .1) in
+    let count = c .before .count-lines .ensures in
+    (count, omega arith, sound-lines Devices s (pass .0), fit .1)
 
--- src/lib.rt:63:20
 array-share-prefix-own : tie.Need-array-share-prefix-own
-array-share-prefix-own c = ?
+array-share-prefix-own c =
+    let s = c .before .before .before .before .before .before .before .before .args .text .now in
+    let e = faultless (c .before .before .before .before) in
+    let pass = devices-pass s e in
+    let fit = fit-lines s (pass .1) in
+    let count = c .before .before .before .count-lines .ensures in
+    omega arith
 
--- src/lib.rt:63:20
 slice-aggregate-is-repeated : tie.Need-slice-aggregate-is-repeated
-slice-aggregate-is-repeated c = ?
+slice-aggregate-is-repeated c = sym (length-take-le _ _ (array-share-prefix-own (c .before)))
 
--- src/lib.rt:63:8
 is-repeated-requires : tie.Need-is-repeated-requires
-is-repeated-requires c κs = ?
+is-repeated-requires c κs =
+    let s = c .before .before .before .before .before .before .before .before .before .args .text .now in
+    let e = faultless (c .before .before .before .before .before) in
+    let pass = devices-pass s e in
+    let fit = fit-lines s (pass .1) in
+    let count = c .before .before .before .before .count-lines .ensures in
+    let put = c .before .before .put-parts .ensures in
+    ap unfit (ap partsOf (put-front put) ∙ rows-parts s (pass .1)) ∙ pass .1
 
--- src/lib.rt:64:9
 refusal-requires-2 : tie.Need-refusal-requires-2
 refusal-requires-2 c κs = search needs
 
--- src/lib.rt:64:9
 returns-2 : tie.Need-returns-2
-returns-2 c = ?
+returns-2 c =
+    let s = c .before .before .before .before .before .before .before .before .before .before .before .before .args .text .now in
+    let e = faultless (c .before .before .before .before .before .before .before .before) in
+    let pass = devices-pass s e in
+    let fit = fit-lines s (pass .1) in
+    let count = c .before .before .before .before .before .before .before .count-lines .ensures in
+    let put = c .before .before .before .before .before .put-parts .ensures in
+    let back = ap partsOf (put-front put) ∙ rows-parts s (pass .1) in
+    let again = sym (c .before .before .is-repeated .ensures ∙ ap (λ (ps : List Part). repeated (numbers ps)) back) in
+    rw (c .refusal2 .ensures) (refused-as (devices-twice s e (again ∙ c .before .if2 .taken)) (λ n. omega (arith, n)))
 
--- src/lib.rt:66:10
 array-share-prefix-own-2 : tie.Need-array-share-prefix-own-2
-array-share-prefix-own-2 c = ?
+array-share-prefix-own-2 c =
+    let s = c .before .before .before .before .before .before .before .before .before .before .before .args .text .now in
+    let e = faultless (c .before .before .before .before .before .before .before) in
+    let pass = devices-pass s e in
+    let fit = fit-lines s (pass .1) in
+    let count = c .before .before .before .before .before .before .count-lines .ensures in
+    omega arith
 
--- src/lib.rt:66:10
 slice-aggregate-give : tie.Need-slice-aggregate-give
-slice-aggregate-give c = ?
+slice-aggregate-give c = sym (length-take-le _ _ (array-share-prefix-own-2 (c .before)))
 
--- src/lib.rt:66:5
 give-requires : tie.Need-give-requires
-give-requires c κs = ?
+give-requires c κs =
+    let s = c .before .before .before .before .before .before .before .before .before .before .before .before .before .args .text .now in
+    let e = faultless (c .before .before .before .before .before .before .before .before .before) in
+    let pass = devices-pass s e in
+    let fit = fit-lines s (pass .1) in
+    let count = c .before .before .before .before .before .before .before .before .count-lines .ensures in
+    omega arith
 
--- src/lib.rt:52:1
 same-length : tie.Need-same-length
 same-length c = search needs
 
--- src/lib.rt:52:1
 returns-3 : tie.Need-returns-3
-returns-3 c = ?
+returns-3 c =
+    let s = c .before .before .before .before .before .before .before .before .before .before .before .before .before .before .before .before .args .text .now in
+    let e = faultless (c .before .before .before .before .before .before .before .before .before .before .before .before) in
+    let pass = devices-pass s e in
+    let fit = fit-lines s (pass .1) in
+    let count = c .before .before .before .before .before .before .before .before .before .before .before .count-lines .ensures in
+    let put = c .before .before .before .before .before .before .before .before .before .put-parts .ensures in
+    let back = ap partsOf (put-front put) ∙ rows-parts s (pass .1) in
+    let again = sym (c .before .before .before .before .before .before .is-repeated .ensures ∙ ap (λ (ps : List Part). repeated (numbers ps)) back) in
+    let fine = devices-fine s e (again ∙ c .before .before .before .before .before .if2 .left) in
+    filled-as fine (count ∙ devices-count s) (put-front put ∙ devices-bytes s fine) (c .before .before .give .ensures)
 
 pub import-devices-spec : {M : Type 1} → statement M
 import-devices-spec =

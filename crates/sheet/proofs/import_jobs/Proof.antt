@@ -1,69 +1,74 @@
+-- `sheet::import_jobs` meets its contract.
+-- Assumes nothing.
+use mathlib.Core.Path.{_≡_, refl, sym, ap, _∙_}
+use native.Mathlib.Omega.{arith}
+use lib.Seq.{length-take-le}
+use Rattle.sheet.specs.declared.Rows.the-variants.{Jobs}
+use Rattle.sheet.proofs.Outcomes.{filled-as, refused-as, jobs-fault, jobs-many, jobs-fine, jobs-bytes, jobs-count}
+use Rattle.sheet.proofs.Printed.{put-front}
+use Rattle.sheet.proofs.Tables.{sound-lines}
 use borrow.Author.Needs.{needs}
 use Rattle.sheet.proofs.import_jobs.Statement.{statement}
 use Rattle.sheet.proofs.import_jobs.Tie as tie
-use Rattle.sheet.proofs.import_jobs.Reads as reads
-use Rattle.sheet.proofs.import_jobs.Lts as lts
-use Rattle.planner.proofs.refusal.Reads as refusal-reads
-use Rattle.sheet.proofs.give.Reads as give-reads
-use Rattle.sheet.proofs.judging.lines_fault.Reads as lines-fault-reads
-use Rattle.sheet.proofs.reading.put_records.Reads as put-records-reads
-use Rattle.text.proofs.count_lines.Reads as count-lines-reads
 
--- src/lib.rt:73:9
 lines-fault-requires : tie.Need-lines-fault-requires
 lines-fault-requires c κs = search needs
 
--- src/lib.rt:75:9
 refusal-requires : tie.Need-refusal-requires
 refusal-requires c κs = search needs
 
--- src/lib.rt:75:9
 returns : tie.Need-returns
-returns c = ?
+returns c =
+    let s = c .before .before .before .before .before .args .text .now in
+    let e = c .before .before .lines-fault .ensures in
+    let n = c .before .if1 .taken in
+    rw (c .refusal .ensures) (refused-as (e ∙ jobs-fault s (λ z. n (e ∙ z))) n)
 
--- src/lib.rt:77:9
 count-lines-requires : tie.Need-count-lines-requires
 count-lines-requires c κs = search needs
 
--- src/lib.rt:79:9
 refusal-requires-2 : tie.Need-refusal-requires-2
 refusal-requires-2 c κs = search needs
 
--- src/lib.rt:79:9
 returns-2 : tie.Need-returns-2
-returns-2 c = ?
+returns-2 c =
+    let s = c .before .before .before .before .before .before .before .args .text .now in
+    let e = sym (c .before .before .before .before .lines-fault .ensures) ∙ c .before .before .before .if1 .left in
+    let count = c .before .before .count-lines .ensures in
+    rw (c .refusal2 .ensures) (refused-as (jobs-many s e (omega arith)) (λ n. omega (arith, n)))
 
--- src/lib.rt:81:16
 mul-size : tie.Need-mul-size
 mul-size c = search needs
 
--- src/lib.rt:83:17
 slice-aggregate-put-records : tie.Need-slice-aggregate-put-records
 slice-aggregate-put-records c = search needs
 
--- src/lib.rt:83:5
 put-records-requires : tie.Need-put-records-requires
-put-records-requires c κs = ?
+put-records-requires c κs =
+    let s = c .before .before .before .before .before .before .before .args .text .now in
+    let e = sym (c .before .before .before .before .lines-fault .ensures) ∙ c .before .before .before .if1 .left in
+    let count = c .before .before .count-lines .ensures in
+    (count, omega arith, sound-lines Jobs s e)
 
--- src/lib.rt:84:10
 array-share-prefix-own : tie.Need-array-share-prefix-own
 array-share-prefix-own c = search needs
 
--- src/lib.rt:84:10
 slice-aggregate-give : tie.Need-slice-aggregate-give
-slice-aggregate-give c = ?
+slice-aggregate-give c = sym (length-take-le _ _ (array-share-prefix-own (c .before)))
 
--- src/lib.rt:84:5
 give-requires : tie.Need-give-requires
 give-requires c κs = search needs
 
--- src/lib.rt:70:1
 same-length : tie.Need-same-length
 same-length c = search needs
 
--- src/lib.rt:70:1
 returns-3 : tie.Need-returns-3
-returns-3 c = ?
+returns-3 c =
+    let s = c .before .before .before .before .before .before .before .before .before .before .before .before .before .before .args .text .now in
+    let e = sym (c .before .before .before .before .before .before .before .before .before .before .before .lines-fault .ensures) ∙ c .before .before .before .before .before .before .before .before .before .before .if1 .left in
+    let count = c .before .before .before .before .before .before .before .before .before .count-lines .ensures in
+    let fine = jobs-fine s e (omega arith) in
+    filled-as fine (count ∙ jobs-count s) (put-front (c .before .before .before .before .before .before .put-records .ensures) ∙ jobs-bytes s fine) (c .before .before .give .ensures)
 
 pub import-jobs-spec : {M : Type 1} → statement M
 import-jobs-spec =
