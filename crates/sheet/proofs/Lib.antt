@@ -4,3 +4,4 @@ pub mod Lines
 pub mod Printed
 pub mod Tables
 pub mod Outcomes
+pub mod Spares

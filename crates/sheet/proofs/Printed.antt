@@ -8,7 +8,7 @@ use lib.ListN.{length, take, drop, getD, length-append, length-take, length-drop
 use lib.Seq.{take-at, getD-drop}
 use Rattle.base.specs.Bytes.{byteAt, pairAt}
 use Rattle.base.specs.Lists.{upTo}
-use Rattle.base.proofs.Arrays.{length-upTo, getD-upTo}
+use Rattle.base.proofs.Arrays.{length-upTo, getD-upTo, upTo-more}
 use Rattle.tables.specs.declared.DeviceRecord.{DeviceRecord}
 use Rattle.tables.specs.Records.{deviceAt, jobAt}
 use Rattle.base.proofs.Cases.{cond-cases}
@@ -34,6 +34,18 @@ records-text rs = ap textOf (map-map rs) ∙ text-rows (λ (r : List ℕ). jobLi
     map-map : (qs : List (List ℕ)) → map jobLine (jobsOf qs) ≡ map (λ (r : List ℕ). jobLine (jobAt r 0)) qs
     map-map [] = refl
     map-map (q ∷ qs) = ap {B = List (List ℕ)} (λ x. jobLine (jobAt q 0) ∷ x) (map-map qs)
+
+-- One line more.
+text-snoc : (ls : List (List ℕ)) (l : List ℕ) → textOf (ls ++ l ∷ []) ≡ textOf ls ++ ended l
+text-snoc [] l = refl
+text-snoc (m ∷ ls) l = ap (λ (x : List ℕ). m ++ cr ∷ lf ∷ x) (text-snoc ls l) ∙ sym (append-assoc m (cr ∷ lf ∷ textOf ls) (ended l))
+
+pub text-more : (line : ℕ → List ℕ) (k : ℕ) → textOf (upTo line (k + 1)) ≡ textOf (upTo line k) ++ ended (line k)
+text-more line k = ap textOf (upTo-more line k) ∙ text-snoc (upTo line k) (line k)
+
+pub text-none : (line : ℕ → List ℕ) → [] ≡ textOf (upTo line 0)
+unfolding upTo
+text-none line = refl
 
 -- What was put at the front is there.
 pub put-front : {t l : List ℕ} {r : ℕ} {m : List ℕ} → Put t 0 l r m → take r m ≡ t

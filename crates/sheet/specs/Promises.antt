@@ -38,10 +38,10 @@ ExportedJobs records =
     let js = jobsOf (pieces 7 records) in
     Filled (recordsFault (pieces 7 records)) 0 (length (jobsText js)) (jobsText js)
 
--- The plan: what the planner's verdict refuses is refused with its answer; else its margins, none of which is below 0, are written (rule 111). What the
--- planner states of the verdict and of the margins is cited, and not opened.
+-- The plan: what the planner's verdict refuses is refused with its answer; else the margins that the planner gives into sixteen places, none of which is
+-- below 0, are written (rule 111). What the planner states of the verdict and of the margins is cited, and not opened.
 pub data ExportedPlan (file starts lent : List ℕ) : Answer → List ℕ → Type 0 where
   refused : {a : Answer} → Judged file starts a → (a .number ≡ 0 → ⊥) → ExportedPlan file starts lent a lent
   planned : {verdict found a : Answer} {after : List ℕ} (margins : List ℕ) → Judged file starts verdict → verdict .number ≡ 0
-      → Margined file starts (replicate (length starts) (pos 0)) found (map pos margins)
+      → Margined file starts (replicate 16 (pos 0)) found (map pos margins)
       → Filled 0 (verdict .horizon) (length (planText starts margins)) (planText starts margins) lent a after → ExportedPlan file starts lent a after

@@ -12,14 +12,17 @@ ghost use Rattle.sheet.specs.Promises.{ImportedDevices, ImportedJobs, Ex
 use crate::judging::lines_fault;
 use crate::printing::put_job_lines;
 use crate::printing::put_part_lines;
+use crate::printing::put_plan_lines;
 use crate::reading::has_bad_number;
 use crate::reading::put_parts;
 use crate::reading::put_records;
 use catalogue::is_repeated;
 use catalogue::is_unfit;
 use planner::Answer;
+use planner::margins;
 use planner::refusal;
 use planner::success;
+use planner::verdict;
 use tables::copy;
 use text::count_lines;
 
@@ -113,6 +116,21 @@ pub fn export_jobs(records: &[u8], out: &mut [u8]) -> Answer
     let mut own = [0u8; 400];
     let size = put_job_lines(&mut own, records);
     give(&own[..size], 0, size, out)
+}
+
+// The sheet of a plan, for start times that the planner's verdict accepts.
+pub fn export_plan(file: &[u8], starts: &[u16], out: &mut [u8]) -> Answer
+    ensures { λ a. ⌜ ExportedPlan (now (file .entry)) (now (starts .entry)) (now (out .entry)) a (now (out .exit)) ⌝ }
+{
+    let judged = verdict(file, starts);
+    if judged.number != 0 {
+        return judged;
+    }
+    let mut room = [0i32; 16];
+    margins(file, starts, &mut room);
+    let mut own = [0u8; 304];
+    let size = put_plan_lines(&mut own, starts, &room);
+    give(&own[..size], judged.horizon, size, out)
 }
 
 // Gives what was made, if the lent memory has room for it.

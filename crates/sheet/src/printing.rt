@@ -2,14 +2,14 @@
 ghost use mathlib.Core.Path.{_≡_};
 ghost use mathlib.Core.Bool.{false};
 ghost use mathlib.Core.List.{[], _∷_, _++_, map};
-ghost use Prim.Native.Nat.{_+_, _*_, _%_, _≤_};
+ghost use Prim.Native.Nat.{ℕ, _+_, _*_, _%_, _≤_};
 ghost use lib.IntN.{pos, natAbs};
-ghost use lib.ListN.{length};
+ghost use lib.ListN.{length, getD};
 ghost use Rattle.catalogue.specs.Parts.{front, partOf, partsOf, pieces, unfit};
 ghost use Rattle.text.specs.Grammar.{quote, comma};
 ghost use Rattle.writing.specs.Putting.{Put};
 ghost use Rattle.sheet.specs.Sheets.{devicesText, jobsText, jobsOf, planText};
-ghost use Rattle.sheet.specs.Printing.{partText, recordText};
+ghost use Rattle.sheet.specs.Printing.{partText, recordText, Spare};
 use catalogue::signs_of;
 use tables::device_at;
 use tables::job_at;
@@ -77,6 +77,31 @@ pub(crate) fn put_job_lines(out: &mut [u8], records: &[u8]) -> usize
         let to = from + 7;
         at = put_job_line(out, at, &records[from..to]);
         k += 1;
+    }
+    at
+}
+
+// ---- plans
+
+// A margin of feasible starts.
+fn spare_of(margin: i32) -> u16
+    requires { ⌜ Spare margin ⌝ }
+    ensures { λ r. ⌜ r ≡ natAbs margin ⌝ }
+{
+    margin as u16
+}
+
+// A line for each job: its number, its start and its margin.
+pub(crate) fn put_plan_lines(out: &mut [u8], starts: &[u16], margins: &[i32]) -> usize
+    requires { ⌜ (length (now starts) ≤ 16) × (length (now margins) ≡ 16) × (length (now out) ≡ 304) × ((j : ℕ) → Spare (getD (now margins) j (pos 0))) ⌝ }
+    ensures { λ r. ⌜ (r ≤ 304) × Put (planText (now (starts .entry)) (map natAbs (now (margins .entry)))) 0 (now (out .entry)) r (now (out .exit)) ⌝ }
+{
+    let count = starts.len();
+    let mut at = 0;
+    let mut j = 0;
+    while j < count {
+        at = put_three(out, at, j as u16, starts[j], spare_of(margins[j]));
+        j += 1;
     }
     at
 }
