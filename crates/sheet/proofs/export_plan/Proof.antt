@@ -65,8 +65,9 @@ returns-2 c =
     let margined = c .before .before .before .before .before .before .before .before .before .before .margins .ensures in
     let sp = spares file starts (planned file starts judged zero) margined in
     let after = c .before .before .before .before .before .before .before .before .before .before .margins .last .1 .1 .0 in
+    let found = c .before .before .before .before .before .before .before .before .before .before .margins .result in
     let put = c .before .before .before .before .before .before .put-plan-lines .ensures .1 in
-    P.ExportedPlan.planned (map natAbs after) judged zero (subst (λ (x : List ℤ). Margined file starts (replicate 16 (pos 0)) _ x) (sp .naturals) margined)
+    P.ExportedPlan.planned (map natAbs after) judged zero (subst (λ (x : List ℤ). Margined file starts (replicate 16 (pos 0)) found x) (sp .naturals) margined)
     (filled-as refl (put-size put) (put-front put) (c .before .before .give .ensures))
 
 pub export-plan-spec : {M : Type 1} → statement M
