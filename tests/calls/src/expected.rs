@@ -5,6 +5,7 @@ use outside::judge::judge;
 use outside::listing::{first_of_the_least, uses, Schedule};
 use outside::request::{read, Request};
 use outside::rows::least_row;
+use outside::sheets::{plan_text, Made};
 use outside::visit::visit;
 use outside::writing::Written;
 
@@ -97,6 +98,22 @@ impl Buffers {
                 let answer = Answer {
                     horizon: *horizon,
                     count: bytes.len() as u32,
+                    ..Answer::default()
+                };
+                self.after(answer, bytes)
+            }
+        }
+    }
+
+    /// A sheet or a table that goes to the front of the lent bytes, with a count of its own.
+    pub fn made(&self, made: &Made) -> Outcome {
+        match made {
+            _ if self.is_short() => self.untouched(SHUT),
+            Err(number) => self.refused(*number),
+            Ok((_, bytes)) if self.lent.len() < bytes.len() => self.refused(15),
+            Ok((count, bytes)) => {
+                let answer = Answer {
+                    count: *count as u32,
                     ..Answer::default()
                 };
                 self.after(answer, bytes)
@@ -221,6 +238,40 @@ impl Searched {
             Err(fault) => before.after(faulty(fault), &[]),
             Ok(energy) => before.after(success(request, energy, 0), &[]),
         }
+    }
+
+    /// The lines of a plan, for start times that are one for each job.
+    fn plan_lines(request: &Request, starts: &[u32]) -> Vec<u8> {
+        let line = |(job, &start): (&outside::request::Job, &u32)| (start, job.margin(start));
+        let placed: Vec<(u32, i64)> = request.jobs.iter().zip(starts).map(line).collect();
+        plan_text(&placed)
+    }
+
+    pub fn plan_size(&self, starts: &[u8]) -> usize {
+        let request = self.read.as_ref().ok();
+        request.map_or(0, |request| Self::plan_lines(request, &pairs(starts)).len())
+    }
+
+    pub fn plan_sheet(&self, starts: &[u8], before: &Buffers) -> Outcome {
+        if starts.len() % 2 != 0 || before.is_short() {
+            return before.untouched(SHUT);
+        }
+        let request = match &self.read {
+            Err(number) => return before.refused(*number),
+            Ok(request) => request,
+        };
+        if starts.len() != 2 * request.jobs.len() {
+            return before.refused(14);
+        }
+        let starts = pairs(starts);
+        if let Err(fault) = judge(request, &starts) {
+            return before.after(faulty(fault), &[]);
+        }
+        let text = Self::plan_lines(request, &starts);
+        if before.lent.len() < text.len() {
+            return before.refused(15);
+        }
+        before.after(success(request, 0, text.len() as u64), &text)
     }
 
     pub fn margins(&self, starts: &[u8], before: &Buffers) -> Outcome {

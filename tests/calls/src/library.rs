@@ -89,6 +89,48 @@ mod c {
             r: *mut u8,
             r_len: usize,
         ) -> u8;
+        pub fn door_export_plan(
+            f: *const u8,
+            f_len: usize,
+            s: *const u8,
+            s_len: usize,
+            o: *mut u8,
+            o_len: usize,
+            r: *mut u8,
+            r_len: usize,
+        ) -> u8;
+        pub fn door_import_devices(
+            g: *const u8,
+            g_len: usize,
+            o: *mut u8,
+            o_len: usize,
+            r: *mut u8,
+            r_len: usize,
+        ) -> u8;
+        pub fn door_export_devices(
+            g: *const u8,
+            g_len: usize,
+            o: *mut u8,
+            o_len: usize,
+            r: *mut u8,
+            r_len: usize,
+        ) -> u8;
+        pub fn door_import_jobs(
+            g: *const u8,
+            g_len: usize,
+            o: *mut u8,
+            o_len: usize,
+            r: *mut u8,
+            r_len: usize,
+        ) -> u8;
+        pub fn door_export_jobs(
+            g: *const u8,
+            g_len: usize,
+            o: *mut u8,
+            o_len: usize,
+            r: *mut u8,
+            r_len: usize,
+        ) -> u8;
     }
 }
 
@@ -230,6 +272,73 @@ pub fn possible(file: &[u8], budget: u32, starts: &mut [u8], result: &mut [u8]) 
             budget,
             starts.as_mut_ptr(),
             starts.len(),
+            result.as_mut_ptr(),
+            result.len(),
+        )
+    }
+}
+
+pub fn export_plan(file: &[u8], starts: &[u8], out: &mut [u8], result: &mut [u8]) -> u8 {
+    unsafe {
+        c::door_export_plan(
+            file.as_ptr(),
+            file.len(),
+            starts.as_ptr(),
+            starts.len(),
+            out.as_mut_ptr(),
+            out.len(),
+            result.as_mut_ptr(),
+            result.len(),
+        )
+    }
+}
+
+pub fn import_devices(given: &[u8], out: &mut [u8], result: &mut [u8]) -> u8 {
+    unsafe {
+        c::door_import_devices(
+            given.as_ptr(),
+            given.len(),
+            out.as_mut_ptr(),
+            out.len(),
+            result.as_mut_ptr(),
+            result.len(),
+        )
+    }
+}
+
+pub fn export_devices(given: &[u8], out: &mut [u8], result: &mut [u8]) -> u8 {
+    unsafe {
+        c::door_export_devices(
+            given.as_ptr(),
+            given.len(),
+            out.as_mut_ptr(),
+            out.len(),
+            result.as_mut_ptr(),
+            result.len(),
+        )
+    }
+}
+
+pub fn import_jobs(given: &[u8], out: &mut [u8], result: &mut [u8]) -> u8 {
+    unsafe {
+        c::door_import_jobs(
+            given.as_ptr(),
+            given.len(),
+            out.as_mut_ptr(),
+            out.len(),
+            result.as_mut_ptr(),
+            result.len(),
+        )
+    }
+}
+
+pub fn export_jobs(given: &[u8], out: &mut [u8], result: &mut [u8]) -> u8 {
+    unsafe {
+        c::door_export_jobs(
+            given.as_ptr(),
+            given.len(),
+            out.as_mut_ptr(),
+            out.len(),
             result.as_mut_ptr(),
             result.len(),
         )

@@ -8,6 +8,7 @@ mod figures;
 mod library;
 mod mend;
 mod possible;
+mod sheets;
 mod tails;
 mod writing;
 
@@ -177,6 +178,7 @@ impl Tester {
             self.rows(searched, size);
             self.verdict(searched);
             self.margins(searched, jobs);
+            self.plan_sheet(searched);
         }
     }
 }
@@ -214,6 +216,7 @@ fn test() -> Result<String, String> {
     dear::test(&mut tester)?;
     writing::test(&mut tester)?;
     catalogue::test(&mut tester)?;
+    sheets::test(&mut tester)?;
     if let Some(failure) = tester.failure {
         return Err(failure);
     }

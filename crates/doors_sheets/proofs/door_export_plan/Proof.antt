@@ -1,0 +1,69 @@
+-- `doors_sheets::door_export_plan` meets its contract.
+-- Assumes nothing.
+use mathlib.Core.Path.{sym}
+use mathlib.Core.List.{List}
+use native.Mathlib.Omega.{arith}
+use Prim.Native.Nat.{ℕ}
+use lib.ListN.{replicate}
+use lib.Seq.{length-take-le}
+use Rattle.calls.proofs.Crossing.{own-room}
+use borrow.Author.Needs.{needs}
+use Rattle.doors_sheets.proofs.door_export_plan.Statement.{statement}
+use Rattle.doors_sheets.proofs.door_export_plan.Tie as tie
+
+-- What the list of start times holds before any is read.
+abbrev zeros : List ℕ
+zeros = replicate 17 0
+
+returns : tie.Need-returns
+returns c = search needs
+
+handed-requires : tie.Need-handed-requires
+handed-requires c κs = search needs
+
+array-borrow-prefix-own : tie.Need-array-borrow-prefix-own
+array-borrow-prefix-own c = search needs
+
+slice-aggregate-get-starts : tie.Need-slice-aggregate-get-starts
+slice-aggregate-get-starts c = sym (length-take-le _ _ (omega (arith, c .before .handed .ensures)))
+
+get-starts-requires : tie.Need-get-starts-requires
+get-starts-requires c κs = rw (length-take-le (c .before .handed .result) zeros (omega (arith, c .before .handed .ensures))) (omega (arith, c .before .handed .ensures))
+
+array-share-prefix-own : tie.Need-array-share-prefix-own
+array-share-prefix-own c = own-room (c .before .before .before .before .before .before .before .before .before .before .args .starts .now) zeros (c .before .get-starts .last .1 .0) (c .before .before .before .handed .result) (omega (arith, c .before .before .before .handed .ensures)) (c .before .get-starts .ensures)
+
+slice-aggregate-export-plan : tie.Need-slice-aggregate-export-plan
+slice-aggregate-export-plan c = sym (length-take-le _ _ (array-share-prefix-own (c .before)))
+
+export-plan-requires : tie.Need-export-plan-requires
+export-plan-requires c κs = search needs
+
+tell-requires : tie.Need-tell-requires
+tell-requires c κs = search needs
+
+same-length : tie.Need-same-length
+same-length c = search needs
+
+same-length-2 : tie.Need-same-length-2
+same-length-2 c = search needs
+
+returns-2 : tie.Need-returns-2
+returns-2 c = search needs
+
+pub door-export-plan-spec : {M : Type 1} → statement M
+door-export-plan-spec =
+    tie.close
+    (tie.spec
+    returns
+    handed-requires
+    array-borrow-prefix-own
+    slice-aggregate-get-starts
+    get-starts-requires
+    array-share-prefix-own
+    slice-aggregate-export-plan
+    export-plan-requires
+    tell-requires
+    same-length
+    same-length-2
+    returns-2)
