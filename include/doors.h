@@ -40,7 +40,8 @@ uint8_t door_possible(const uint8_t *file, size_t file_len, uint32_t budget, uin
 uint8_t door_mend(const uint8_t *file, size_t file_len, const uint8_t *starts, size_t starts_len, uint8_t *out, size_t out_len, uint8_t *moved,
                   size_t moved_len, uint8_t *result, size_t result_len);
 
-/* Sheets: comma-separated text, a line for each device, job or job of a plan. A buffer too short gets nothing, and the number is 15.
+/* Sheets: comma-separated text, a line for each device, job or job of a plan. Link target/lib/libdoors_sheets.a. A buffer too short gets nothing, and the
+ * number is 15.
  *
  * The catalogue of a sheet of devices (part number, T, Pw, Ps, P0): 15 bytes a part, 960 at most. The count of the answer is the lines. */
 uint8_t door_import_devices(const uint8_t *text, size_t text_len, uint8_t *out, size_t out_len, uint8_t *result, size_t result_len);

@@ -5,3 +5,6 @@ pub mod Printed
 pub mod Tables
 pub mod Outcomes
 pub mod Spares
+pub mod Only
+pub mod Again
+pub mod Round
