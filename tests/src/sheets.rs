@@ -137,7 +137,9 @@ pub fn import_devices(text: &[u8]) -> Made {
         number.resize(number.len().max(8), b' ');
         catalogue.extend(&number);
         catalogue.push(values[0] as u8);
-        values[1..].iter().for_each(|&power| catalogue.extend(pair(power)));
+        values[1..]
+            .iter()
+            .for_each(|&power| catalogue.extend(pair(power)));
         numbers.push(number);
     }
     judge(&numbers)?;
@@ -151,7 +153,9 @@ pub fn import_jobs(text: &[u8]) -> Made {
     }
     let mut records = Vec::new();
     for (_, values) in &rows {
-        values[..3].iter().for_each(|&time| records.extend(pair(time)));
+        values[..3]
+            .iter()
+            .for_each(|&time| records.extend(pair(time)));
         records.push(values[3] as u8);
     }
     Ok((rows.len(), records))
@@ -227,7 +231,11 @@ fn drawn_number(random: &mut Random, most: u32) -> String {
         4 if random.one_in(6) => 65_536 + random.within(0, 9) as u32,
         _ => random.within(0, u64::from(most)) as u32,
     };
-    let zeros = if random.one_in(8) { random.within(1, 30) } else { 0 };
+    let zeros = if random.one_in(8) {
+        random.within(1, 30)
+    } else {
+        0
+    };
     format!("{}{value}", "0".repeat(zeros as usize))
 }
 

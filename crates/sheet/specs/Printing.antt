@@ -7,7 +7,7 @@ use lib.IntN.{ℤ, pos, natAbs}
 use Rattle.tables.specs.Records.{jobAt}
 use Rattle.catalogue.specs.Parts.{Part}
 use Rattle.text.specs.Grammar.{cr, lf}
-use Rattle.sheet.specs.Sheets.{partLine, jobLine, planLine}
+use Rattle.sheet.specs.Sheets.{partLine, jobLine}
 
 abbrev pub ended : List ℕ → List ℕ
 ended l = l ++ cr ∷ lf ∷ []
@@ -22,6 +22,3 @@ recordText r = ended (jobLine (jobAt r 0))
 pub record Spare (z : ℤ) : Type 0 where
   pub natural : z ≡ pos (natAbs z)
   pub small : natAbs z ≤ 4096
-
-abbrev pub placedText : List ℕ → List ℕ → ℕ → List ℕ
-placedText starts margins j = ended (planLine starts margins j)

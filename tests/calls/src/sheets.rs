@@ -70,7 +70,8 @@ pub fn test(tester: &mut Tester) -> Result<(), String> {
             tester.sheet(way, &given);
         }
     }
-    WAYS.iter().try_for_each(|way| tester.only(way.name, way.numbers))
+    WAYS.iter()
+        .try_for_each(|way| tester.only(way.name, way.numbers))
 }
 
 impl Tester {
@@ -89,7 +90,12 @@ impl Tester {
         let expected = searched.plan_sheet(&starts, &after);
         let (lent, result) = (&mut after.lent, &mut after.result);
         let number = library::export_plan(&searched.file, &starts, lent, result);
-        self.compare("door_export_plan", &searched.file, expected, outcome(number, after));
+        self.compare(
+            "door_export_plan",
+            &searched.file,
+            expected,
+            outcome(number, after),
+        );
     }
 }
 
@@ -97,9 +103,16 @@ impl Tester {
 fn came(door: Door, given: &[u8]) -> (u8, u32, Vec<u8>) {
     let (mut out, mut result) = (vec![0xAA; 3_000], [0xAA; 11]);
     let number = door(given, &mut out, &mut result);
-    assert_eq!(result[..7], [0; 7], "a sheet has neither job, horizon nor energy");
+    assert_eq!(
+        result[..7],
+        [0; 7],
+        "a sheet has neither job, horizon nor energy"
+    );
     let count = u32::from_be_bytes([result[7], result[8], result[9], result[10]]);
-    let kept = out.iter().rposition(|&byte| byte != 0xAA).map_or(0, |last| last + 1);
+    let kept = out
+        .iter()
+        .rposition(|&byte| byte != 0xAA)
+        .map_or(0, |last| last + 1);
     out.truncate(kept);
     (number, count, out)
 }
@@ -113,7 +126,14 @@ fn figures() -> Result<(), String> {
     let most = b"A       \xff\xff\xff\xff\xff\xff\xff";
     let devices: Door = library::import_devices;
     let figures: [(&str, Door, &[u8], u8, u32, &[u8]); 16] = [
-        ("k1", devices, b"\"00417\",1,5,1,3\r\n417,1,5,1,3", 0, 2, two),
+        (
+            "k1",
+            devices,
+            b"\"00417\",1,5,1,3\r\n417,1,5,1,3",
+            0,
+            2,
+            two,
+        ),
         ("k2", devices, b"\"417\",1,5,1,3\r\n417,1,5,1,3", 22, 0, b""),
         ("k3", devices, b"\"A\"B,1,5,1,3\r\n", 27, 0, b""),
         ("k4", devices, b"A\"B,1,5,1,3\r\n", 27, 0, b""),
@@ -125,14 +145,45 @@ fn figures() -> Result<(), String> {
         ("k20", devices, b"ABCDEFGHI,1,5,1,3\r\n", 21, 0, b""),
         ("k25", devices, b"\r\n", 28, 0, b""),
         ("k26", devices, b"", 0, 0, b""),
-        ("k30", library::import_jobs, b"0,5,2,1\r\n", 0, 1, &jobs[..7]),
-        ("k33", library::import_jobs, seventeen.as_bytes(), 12, 0, b""),
-        ("k36", library::export_devices, parts, 0, 47, long.as_bytes()),
-        ("k39", library::export_jobs, jobs, 0, 24, b"0,5,2,1\r\n65535,0,7,255\r\n"),
+        (
+            "k30",
+            library::import_jobs,
+            b"0,5,2,1\r\n",
+            0,
+            1,
+            &jobs[..7],
+        ),
+        (
+            "k33",
+            library::import_jobs,
+            seventeen.as_bytes(),
+            12,
+            0,
+            b"",
+        ),
+        (
+            "k36",
+            library::export_devices,
+            parts,
+            0,
+            47,
+            long.as_bytes(),
+        ),
+        (
+            "k39",
+            library::export_jobs,
+            jobs,
+            0,
+            24,
+            b"0,5,2,1\r\n65535,0,7,255\r\n",
+        ),
     ];
     for (name, door, given, number, count, bytes) in figures {
         if came(door, given) != (number, count, bytes.to_vec()) {
-            return Err(format!("{name} does not come out: {:02X?}", came(door, given)));
+            return Err(format!(
+                "{name} does not come out: {:02X?}",
+                came(door, given)
+            ));
         }
     }
     let file = b"\x00\x06\x01\x01\x00\x05\x00\x01\x00\x03\x00\x03\x00\x00\x00\x06\x00\x01\x01\x00\x00\x00\x06\x00\x01\x00\x00\x00\x00\x06\x00\x01\x01";
@@ -141,6 +192,8 @@ fn figures() -> Result<(), String> {
     let told = [0, 0, 6, 0, 0, 0, 0, 0, 0, 0, 21];
     match (number, &out, result) == (0, b"0,0,5\r\n1,1,4\r\n2,5,0\r\n", told) {
         true => Ok(()),
-        false => Err(format!("k40 does not come out: {number} {result:02X?} {out:02X?}")),
+        false => Err(format!(
+            "k40 does not come out: {number} {result:02X?} {out:02X?}"
+        )),
     }
 }
