@@ -11,6 +11,29 @@ pub struct Arguments {
     options: Vec<(&'static str, String)>,
 }
 
+/// An option of a command: its name, and whether a value goes with it.
+pub struct Opt {
+    pub name: &'static str,
+    pub has_value: bool,
+}
+
+pub const BUDGET: Opt = Opt {
+    name: "--budget",
+    has_value: true,
+};
+pub const STARTS: Opt = Opt {
+    name: "--starts",
+    has_value: true,
+};
+pub const HORIZON: Opt = Opt {
+    name: "--horizon",
+    has_value: true,
+};
+pub const CSV: Opt = Opt {
+    name: "--csv",
+    has_value: false,
+};
+
 fn usage(message: String) -> Failure {
     Failure::Usage(message)
 }
@@ -18,10 +41,7 @@ fn usage(message: String) -> Failure {
 impl Arguments {
     /// Parts the options that a command knows from the other words. `-` alone is no option, and
     /// after `--` nothing is.
-    pub fn new(
-        words: impl Iterator<Item = OsString>,
-        known: &[&'static str],
-    ) -> Result<Arguments, Failure> {
+    pub fn new(words: impl Iterator<Item = OsString>, known: &[Opt]) -> Result<Arguments, Failure> {
         let mut arguments = Arguments {
             words: VecDeque::new(),
             options: Vec::new(),
@@ -39,9 +59,15 @@ impl Arguments {
                     None => (text.as_ref(), None),
                 };
                 let unknown = || usage(format!("there is no option {}", quoted(name)));
-                let name = known.iter().find(|known| **known == name);
-                let name = *name.ok_or_else(unknown)?;
-                let next = || words.next().map(|word| word.to_string_lossy().into_owned());
+                let option = known.iter().find(|known| known.name == name);
+                let Opt { name, has_value } = *option.ok_or_else(unknown)?;
+                if value.is_some() && !has_value {
+                    return Err(usage(format!("{name} takes no value")));
+                }
+                let next = || match has_value {
+                    true => words.next().map(|word| word.to_string_lossy().into_owned()),
+                    false => Some(String::new()),
+                };
                 let missing = || usage(format!("{name} wants a value"));
                 let value = value.or_else(next).ok_or_else(missing)?;
                 if arguments.options.iter().any(|(given, _)| *given == name) {
@@ -82,9 +108,13 @@ impl Arguments {
         }
     }
 
-    fn option(&self, name: &str) -> Option<&str> {
-        let option = self.options.iter().find(|(given, _)| *given == name);
-        option.map(|(_, value)| value.as_str())
+    fn option(&self, option: &Opt) -> Option<&str> {
+        let given = self.options.iter().find(|(name, _)| *name == option.name);
+        given.map(|(_, value)| value.as_str())
+    }
+
+    pub fn has(&self, option: &Opt) -> bool {
+        self.option(option).is_some()
     }
 
     pub fn budget(&self) -> Result<Option<u32>, Failure> {
@@ -93,11 +123,21 @@ impl Arguments {
             let most = u32::MAX;
             value.ok_or_else(|| usage(format!("--budget {}: a number up to {most}", quoted(text))))
         };
-        self.option("--budget").map(number).transpose()
+        self.option(&BUDGET).map(number).transpose()
+    }
+
+    /// The ticks of the round, where they are no line of a text.
+    pub fn horizon(&self) -> Result<Option<u16>, Failure> {
+        let number = |text| {
+            let value = digits(text).and_then(|value| u16::try_from(value).ok());
+            let most = u16::MAX;
+            value.ok_or_else(|| usage(format!("--horizon {}: a number up to {most}", quoted(text))))
+        };
+        self.option(&HORIZON).map(number).transpose()
     }
 
     pub fn given_starts(&self) -> Result<Option<Vec<u16>>, Failure> {
-        self.option("--starts").map(starts).transpose()
+        self.option(&STARTS).map(starts).transpose()
     }
 }
 
@@ -123,7 +163,7 @@ mod tests {
     use super::*;
 
     fn parsed(words: &[&str]) -> Result<Arguments, Failure> {
-        Arguments::new(words.iter().map(OsString::from), &["--budget", "--starts"])
+        Arguments::new(words.iter().map(OsString::from), &[BUDGET, STARTS, CSV])
     }
 
     #[test]
@@ -167,5 +207,7 @@ mod tests {
         assert!(message(&["--starts", "1,,2"]).contains("not a start time"));
         assert!(message(&["--starts", "65536"]).contains("up to 65535"));
         assert_eq!(message(&["a"]), "'a' is a word too many");
+        assert_eq!(message(&["--csv=1"]), "--csv takes no value");
+        assert_eq!(message(&["--csv"]), "");
     }
 }

@@ -15,6 +15,7 @@ mod place;
 mod plan;
 mod refusal;
 mod request;
+mod sheets;
 mod streams;
 mod tables;
 mod text;

@@ -34,6 +34,9 @@ fn meaning(number: u8) -> &'static str {
         21 => "a part number is not digits and capital letters, or there are more than 64 parts",
         22 => "a part number stands twice in the catalogue",
         23 => "a wanted part that the catalogue lacks",
+        27 => "a stray quote, or one that is open at the end of the line",
+        28 => "not as many fields as the line has to have",
+        29 => "a field that is not a number, or one that is too large",
         _ => "the library does not take this",
     }
 }

@@ -94,6 +94,32 @@ mod c {
             r: *mut u8,
             r_len: usize,
         ) -> u8;
+        pub fn door_import_devices(
+            t: *const u8,
+            t_len: usize,
+            o: *mut u8,
+            o_len: usize,
+            r: *mut u8,
+            r_len: usize,
+        ) -> u8;
+        pub fn door_import_jobs(
+            t: *const u8,
+            t_len: usize,
+            o: *mut u8,
+            o_len: usize,
+            r: *mut u8,
+            r_len: usize,
+        ) -> u8;
+        pub fn door_export_plan(
+            f: *const u8,
+            f_len: usize,
+            s: *const u8,
+            s_len: usize,
+            o: *mut u8,
+            o_len: usize,
+            r: *mut u8,
+            r_len: usize,
+        ) -> u8;
     }
 }
 
@@ -386,6 +412,58 @@ pub fn build(catalogue: &[u8], wanted: &[u8], tables: &Tables) -> Answered<Vec<u
             wanted.len(),
             tables.as_ptr(),
             tables.len(),
+            out.as_mut_ptr(),
+            out.len(),
+            result.as_mut_ptr(),
+            result.len(),
+        )
+    };
+    let written = answer(number, &result)?.count as usize;
+    Ok(out.iter().copied().take(written).collect())
+}
+
+/// The records of a sheet, a line each.
+type Import = unsafe extern "C" fn(*const u8, usize, *mut u8, usize, *mut u8, usize) -> u8;
+
+fn imported(import: Import, sheet: &[u8], size: usize) -> Answered<Vec<Vec<u8>>> {
+    let mut out = [0; BYTES];
+    let mut result = [0; RESULT];
+    let number = unsafe {
+        import(
+            sheet.as_ptr(),
+            sheet.len(),
+            out.as_mut_ptr(),
+            out.len(),
+            result.as_mut_ptr(),
+            result.len(),
+        )
+    };
+    let lines = answer(number, &result)?.count as usize;
+    let records = out.chunks_exact(size).take(lines);
+    Ok(records.map(<[u8]>::to_vec).collect())
+}
+
+/// The parts of a sheet of devices, as a catalogue has them.
+pub fn import_devices(sheet: &[u8]) -> Answered<Vec<Vec<u8>>> {
+    imported(c::door_import_devices, sheet, 15)
+}
+
+/// The job records of a sheet of jobs.
+pub fn import_jobs(sheet: &[u8]) -> Answered<Vec<Vec<u8>>> {
+    imported(c::door_import_jobs, sheet, 7)
+}
+
+/// The sheet of a plan.
+pub fn export_plan(file: &[u8], starts: &[u16]) -> Answered<Vec<u8>> {
+    let starts = pairs(starts);
+    let mut out = [0; BYTES];
+    let mut result = [0; RESULT];
+    let number = unsafe {
+        c::door_export_plan(
+            file.as_ptr(),
+            file.len(),
+            starts.as_ptr(),
+            starts.len(),
             out.as_mut_ptr(),
             out.len(),
             result.as_mut_ptr(),

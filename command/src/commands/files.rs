@@ -5,6 +5,7 @@ use crate::calls::planner;
 use crate::failure::Failure;
 use crate::refusal;
 use crate::request::{malformed, Request};
+use crate::sheets;
 use crate::streams;
 use crate::tables::{Tables, MOST_DEVICES};
 use crate::text::catalogue::{self, padded, Catalogue, NUMBER};
@@ -32,17 +33,34 @@ pub fn build(mut arguments: Arguments) -> Result<Vec<u8>, Failure> {
     let path = arguments.next("CATALOGUE")?;
     let others = arguments.next("REQUEST")?;
     let names = arguments.rest();
-    let catalogue =
-        catalogue::read(&streams::read(&path)?).map_err(|fault| malformed(&path, &fault))?;
-    let text = without_devices(&others)?;
+    let catalogue = catalogue_in(&path)?;
+    let text = without_devices(&others, arguments.horizon()?)?;
     let wanted: Vec<Vec<u8>> = names.iter().map(|name| wanted(name)).collect();
     built(&catalogue, &wanted, &names, &text)
 }
 
-/// The horizon, the tasks and the jobs. They may use devices that only the catalogue brings, so that
-/// they are taken as text and not from a file, which would be refused.
-fn without_devices(path: &OsStr) -> Result<Text, Failure> {
-    let text = reader::read(&streams::read(path)?).map_err(|fault| malformed(path, &fault))?;
+/// A catalogue, as a sheet or as text.
+fn catalogue_in(path: &OsStr) -> Result<Catalogue, Failure> {
+    let bytes = streams::read(path)?;
+    if sheets::is_sheet(&bytes) {
+        return sheets::catalogue(path, &bytes);
+    }
+    catalogue::read(&bytes).map_err(|fault| malformed(path, &fault))
+}
+
+/// The horizon, the tasks and the jobs, or a sheet of jobs with the horizon beside it. They may use
+/// devices that only the catalogue brings, so that they are taken as text and not from a file, which
+/// would be refused.
+fn without_devices(path: &OsStr, horizon: Option<u16>) -> Result<Text, Failure> {
+    let bytes = streams::read(path)?;
+    if sheets::is_sheet(&bytes) {
+        return sheets::jobs(path, &bytes, horizon.unwrap_or(0));
+    }
+    if horizon.is_some() {
+        let message = "--horizon goes with a sheet of jobs: a text has a line for it";
+        return Err(Failure::Usage(message.to_string()));
+    }
+    let text = reader::read(&bytes).map_err(|fault| malformed(path, &fault))?;
     match text.places.devices.first() {
         None => Ok(text),
         Some(line) => Err(Failure::Refused(format!(

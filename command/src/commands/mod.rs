@@ -5,7 +5,7 @@ mod judging;
 mod picture;
 mod searching;
 
-use crate::arguments::Arguments;
+use crate::arguments::{Arguments, Opt, BUDGET, CSV, HORIZON, STARTS};
 use crate::failure::Failure;
 use std::ffi::OsString;
 use std::fmt::Write;
@@ -14,7 +14,7 @@ pub struct Command {
     pub name: &'static str,
     arguments: &'static str,
     help: &'static str,
-    options: &'static [&'static str],
+    options: &'static [Opt],
     run: fn(Arguments) -> Result<Vec<u8>, Failure>,
 }
 
@@ -22,16 +22,16 @@ pub struct Command {
 pub static COMMANDS: [Command; 10] = [
     Command {
         name: "plan",
-        arguments: "REQUEST [--budget N]",
-        help: "the plan of least energy",
-        options: &["--budget"],
+        arguments: "REQUEST [--budget N] [--csv]",
+        help: "the plan of least energy, or its jobs as a sheet",
+        options: &[BUDGET, CSV],
         run: searching::plan,
     },
     Command {
         name: "draw",
         arguments: "REQUEST [--starts S,..]",
         help: "a picture of the plan, or of given start times, in SVG",
-        options: &["--budget", "--starts"],
+        options: &[BUDGET, STARTS],
         run: picture::draw,
     },
     Command {
@@ -45,7 +45,7 @@ pub static COMMANDS: [Command; 10] = [
         name: "possible",
         arguments: "REQUEST [--budget N]",
         help: "whether there is any plan at all, with the first one",
-        options: &["--budget"],
+        options: &[BUDGET],
         run: searching::possible,
     },
     Command {
@@ -87,7 +87,7 @@ pub static COMMANDS: [Command; 10] = [
         name: "build",
         arguments: "CATALOGUE REQUEST PART...",
         help: "the request file whose devices are parts of a catalogue",
-        options: &[],
+        options: &[HORIZON],
         run: files::build,
     },
 ];
@@ -116,7 +116,9 @@ pub fn overview() -> String {
   job 0 5 2 0       release, deadline, running time, the devices used or -
   # a comment\n
 START is a start time for each job, in job order. CATALOGUE has lines `part NUMBER T Pw Ps P0`;
-build takes the horizon, the tasks and the jobs from its REQUEST.\n
+build takes the horizon, the tasks and the jobs from its REQUEST. Both may be comma-separated sheets
+instead, NUMBER,T,Pw,Ps,P0 and release,deadline,running time,device set; then --horizon N gives the
+ticks of the round.\n
 Exit status: 0 done; 1 refused, with its number and place on standard error; 2 wrong usage;
 3 something could not be read or written.\n"
 }

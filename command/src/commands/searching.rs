@@ -1,6 +1,6 @@
 //! plan and possible.
 
-use crate::arguments::Arguments;
+use crate::arguments::{Arguments, CSV};
 use crate::calls::planner::{self, Found, Refused};
 use crate::failure::Failure;
 use crate::plan::{job_lines, Plan};
@@ -13,7 +13,12 @@ pub fn plan(mut arguments: Arguments) -> Result<Vec<u8>, Failure> {
     arguments.end()?;
     let budget = arguments.budget()?;
     let request = Request::open(&path)?;
-    Ok(best(&request, budget)?.text().into_bytes())
+    let plan = best(&request, budget)?;
+    if arguments.has(&CSV) {
+        let sheet = planner::export_plan(&request.file, &plan.starts);
+        return sheet.map_err(|refused| request.not_judged(refused, &plan.starts));
+    }
+    Ok(plan.text().into_bytes())
 }
 
 /// The plan of least energy.

@@ -6,7 +6,7 @@ const COMMANDS: [&str; 10] = [
     "plan", "check", "possible", "verdict", "rows", "mend", "write", "show", "draw", "build",
 ];
 
-const WRONG: [&[&str]; 20] = [
+const WRONG: [&[&str]; 22] = [
     &[],
     &["planx"],
     &["Plan"],
@@ -27,6 +27,8 @@ const WRONG: [&[&str]; 20] = [
     &["draw", "-", "--starts", "0", "--budget", "9"],
     &["build", "-"],
     &["show", "-", "--text"],
+    &["plan", "-", "--csv=1"],
+    &["build", "-", "-", "--horizon", "x"],
 ];
 
 pub fn test(floe: &Floe) -> Tried {

@@ -11,6 +11,7 @@ mod parts;
 mod pictures;
 mod planning;
 mod sentences;
+mod sheets;
 mod streams;
 mod terminal;
 mod texts;
@@ -23,13 +24,14 @@ use std::thread;
 
 type Test = fn(&Floe) -> Tried;
 
-const TESTS: [(&str, Test); 14] = [
+const TESTS: [(&str, Test); 15] = [
     ("plans and refusals of files", planning::test),
     ("write and show", both_ways::test),
     ("verdicts and rows", judging::verdicts),
     ("mended start times", judging::mends),
     ("any plan at all", judging::possible),
     ("parts of a catalogue", parts::test),
+    ("sheets", sheets::test),
     ("pictures", pictures::test),
     ("wrong texts", malformed::test),
     ("what refusals say", sentences::test),

@@ -122,8 +122,16 @@ fn places(floe: &Floe, catalogue: &Path, others: &Path) -> Tried {
 
 /// The call as texts, if there is a text for it: a part number is a word.
 fn as_text(call: &Call) -> Option<(String, Vec<String>, String)> {
-    let mut parts = String::new();
-    for part in call.catalogue.chunks(15) {
+    let mut text = String::new();
+    for (number, [t, working, sleeping, moving]) in parts(call)? {
+        let _ = writeln!(text, "part {number} {t} {working} {sleeping} {moving}");
+    }
+    Some((text, wanted(call)?, others(&call.others)?))
+}
+
+/// The parts of a call by number and figures, if every number is a word.
+pub fn parts(call: &Call) -> Option<Vec<(String, [u16; 4])>> {
+    let part = |part: &[u8]| {
         let (number, record) = part.split_at_checked(8)?;
         let number = std::str::from_utf8(number).ok()?.trim_end_matches(' ');
         let is_word = !number.is_empty()
@@ -135,16 +143,19 @@ fn as_text(call: &Call) -> Option<(String, Vec<String>, String)> {
             return None;
         };
         let [working, sleeping, moving] = [[w1, w0], [s1, s0], [m1, m0]].map(u16::from_be_bytes);
-        let _ = writeln!(parts, "part {number} {t} {working} {sleeping} {moving}");
-    }
-    let mut wanted = Vec::new();
-    for number in call.wanted.chunks(8) {
+        Some((number.to_string(), [t.into(), working, sleeping, moving]))
+    };
+    call.catalogue.chunks(15).map(part).collect()
+}
+
+/// The wanted parts of a call, if they can be arguments.
+pub fn wanted(call: &Call) -> Option<Vec<String>> {
+    let name = |number: &[u8]| {
         let text = std::str::from_utf8(number).ok()?.trim_end_matches(' ');
         let is_argument = number.len() == 8 && !text.contains('\0') && !text.starts_with('-');
-        is_argument.then_some(())?;
-        wanted.push(text.to_string());
-    }
-    Some((parts, wanted, others(&call.others)?))
+        is_argument.then(|| text.to_string())
+    };
+    call.wanted.chunks(8).map(name).collect()
 }
 
 fn others(given: &Given) -> Option<String> {
