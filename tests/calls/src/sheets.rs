@@ -125,7 +125,7 @@ fn figures() -> Result<(), String> {
     let two = b"00417   \x01\x00\x05\x00\x01\x00\x03417     \x01\x00\x05\x00\x01\x00\x03";
     let most = b"A       \xff\xff\xff\xff\xff\xff\xff";
     let devices: Door = library::import_devices;
-    let figures: [(&str, Door, &[u8], u8, u32, &[u8]); 16] = [
+    let figures: [(&str, Door, &[u8], u8, u32, &[u8]); 17] = [
         (
             "k1",
             devices,
@@ -144,6 +144,15 @@ fn figures() -> Result<(), String> {
         ("k18", devices, b"A,+1,5,1,3\r\n", 29, 0, b""),
         ("k20", devices, b"ABCDEFGHI,1,5,1,3\r\n", 21, 0, b""),
         ("k25", devices, b"\r\n", 28, 0, b""),
+        // A bad part number, and a line after it that is no row: the line decides.
+        (
+            "21 after 28",
+            devices,
+            b"a,1,5,1,3\r\nA,1,5,1\r\n",
+            28,
+            0,
+            b"",
+        ),
         ("k26", devices, b"", 0, 0, b""),
         (
             "k30",
