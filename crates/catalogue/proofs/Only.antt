@@ -5,6 +5,7 @@ use mathlib.Core.Path.{_≡_, refl, sym, subst, _∙_}
 use mathlib.Core.Bool.{Bool, true, false, true≢false}
 use mathlib.Core.List.{List, [], _∷_, _++_, map}
 use Prim.Native.Nat.{ℕ}
+use Rattle.tables.specs.declared.Kind.the-variants.{First}
 use Rattle.tables.specs.declared.DeviceTable.{DeviceTable}
 use Rattle.planner.specs.declared.Answer.{Answer}
 use Rattle.planner.specs.Promises.{Written}
@@ -39,11 +40,11 @@ module _ (ps : List Part) (ws : List (List ℕ)) (o : Others) (lent : List ℕ) 
 
   -- Where 21, 22 and 23 pass, the device table d is that of the first part that has each number.
   pub passed-built : (d : DeviceTable) {a : Answer} {after : List ℕ} → unfit ps ≡ false → repeated (numbers ps) ≡ false → lacking ps ws ≡ false
-      → d ≡ devicesOf (map (recordOf ps) ws) → Written (record { horizon = o .horizon; devices = d; tasks = o .tasks; jobs = o .jobs }) lent a after
+      → d ≡ devicesOf (map (recordOf ps) ws) → Written (record { kind = First; horizon = o .horizon; devices = d; tasks = o .tasks; jobs = o .jobs }) lent a after
       → BuiltOf ps ws o lent a after
   passed-built d {a} {after} u r k e w =
       B.BuiltOf.built u r (looked-up ps ws k)
-      (subst (λ (x : DeviceTable). Written (record { horizon = o .horizon; devices = x; tasks = o .tasks; jobs = o .jobs }) lent a after) e w)
+      (subst (λ (x : DeviceTable). Written (record { kind = First; horizon = o .horizon; devices = x; tasks = o .tasks; jobs = o .jobs }) lent a after) e w)
 
 pub only-built : (catalogue wanted : List ℕ) (o : Others) (lent : List ℕ) {a a′ : Answer} {l l′ : List ℕ}
     → Built catalogue wanted o lent a l → Built catalogue wanted o lent a′ l′ → (a ≡ a′) × (l ≡ l′)

@@ -17,7 +17,7 @@ use Rattle.base.specs.Lists.{upTo, padded}
 use Rattle.base.proofs.Arrays.{length-upTo, getD-upTo, upTo-take, upTo-same}
 use Rattle.base.proofs.Cases.{test-cases}
 use Rattle.tables.specs.declared.DeviceRecord.{DeviceRecord}
-use Rattle.tables.specs.Records.{deviceAt, blankDevice}
+use Rattle.tables.specs.Records.{firstAt, blankDevice}
 use Rattle.catalogue.specs.Parts.{all, one, same, has, wellFormed, malformed, repeated, pieces, Part, partOf, partsOf, numbers, whole, unfit, lacking, recordOf}
 use Rattle.catalogue.specs.Places.{numberAt, wantedAt, Sought}
 use Rattle.catalogue.specs.Building.{devicesOf}
@@ -201,7 +201,7 @@ module _ (s : List ℕ) (k : ℕ) where
       let b = record-byte (i + 1) h ∙ ap (byteAt s) e in
       cc
 
-  pub record-read : deviceAt recordAt 0 ≡ deviceAt s (15 * k + 8)
+  pub record-read : firstAt recordAt 0 ≡ firstAt s (15 * k + 8)
   record-read =
       let e : 15 * k + 8 + 0 ≡ 15 * k + 8 = omega arith in
       let a = record-byte 0 (omega arith) ∙ ap (byteAt s) e in
@@ -211,7 +211,7 @@ module _ (s : List ℕ) (k : ℕ) where
       cc
 
 -- What is looked up is at the place that is found.
-pub found-record : (s n : List ℕ) (k : ℕ) → unfit (partsOf s) ≡ false → Sought s 0 n k → k < length s / 15 → deviceAt (recordOf (partsOf s) n) 0 ≡ deviceAt s (15 * k + 8)
+pub found-record : (s n : List ℕ) (k : ℕ) → unfit (partsOf s) ≡ false → Sought s 0 n k → k < length s / 15 → firstAt (recordOf (partsOf s) n) 0 ≡ firstAt s (15 * k + 8)
 found-record s n k ok q h =
     let c = parts-count s in
     let less : k < (length s + 14) / 15 = omega (arith, evenly s ok) in
@@ -248,7 +248,7 @@ take-upTo f z m n =
 
 -- The record of the wanted part k.
 abbrev pub recordFor : (s w : List ℕ) → ℕ → DeviceRecord
-recordFor s w k = deviceAt (recordOf (partsOf s) (wantedAt w k)) 0
+recordFor s w k = firstAt (recordOf (partsOf s) (wantedAt w k)) 0
 
 module _ (s w : List ℕ) (ok : unfit (partsOf s) ≡ false) (there : lacking (partsOf s) (pieces 8 w) ≡ false) where
   pub wanted-even : length w % 8 ≡ 0
@@ -267,4 +267,4 @@ module _ (s w : List ℕ) (ok : unfit (partsOf s) ≡ false) (there : lacking (p
   unfolding pieces
   wanted-devices =
       let n : (length w + 7) / 8 ≡ length w / 8 = omega (arith, wanted-even) in
-      rw (n, map-upTo (recordOf (partsOf s)) (wantedAt w) (length w / 8), map-upTo (λ (d : List ℕ). deviceAt d 0) (λ i. recordOf (partsOf s) (wantedAt w i)) (length w / 8), take-upTo (recordFor s w) blankDevice 8 (length w / 8), length-upTo)
+      rw (n, map-upTo (recordOf (partsOf s)) (wantedAt w) (length w / 8), map-upTo (λ (d : List ℕ). firstAt d 0) (λ i. recordOf (partsOf s) (wantedAt w i)) (length w / 8), take-upTo (recordFor s w) blankDevice 8 (length w / 8), length-upTo)

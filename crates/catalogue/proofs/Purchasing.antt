@@ -8,7 +8,7 @@ use lib.ListN.{length, take, getD, length-map, length-take, List·getD-map}
 use lib.Seq.{getD-take}
 use Rattle.base.proofs.Arrays.{getD-padded}
 use Rattle.tables.specs.declared.DeviceRecord.{DeviceRecord}
-use Rattle.tables.specs.Records.{deviceAt, blankDevice}
+use Rattle.tables.specs.Records.{firstAt, blankDevice}
 use Rattle.tables.specs.Layout.{deviceIn, counted}
 use Rattle.planner.specs.declared.Answer.{Answer}
 use Rattle.planner.specs.Promises.{success, Checked, Written, Listed}
@@ -31,9 +31,9 @@ each-its-own ps (Parts.LookedUp.next h l) zero k = h
 each-its-own ps (Parts.LookedUp.next h l) (suc k) m = each-its-own ps l k (omega arith)
 
 -- Device k of the tables is record k.
-pub device-is : (o : Others) (ds : List (List ℕ)) (k : ℕ) → k < 8 → k < length ds → deviceIn (tablesWith o ds) k ≡ deviceAt (getD ds k []) 0
+pub device-is : (o : Others) (ds : List (List ℕ)) (k : ℕ) → k < 8 → k < length ds → deviceIn (tablesWith o ds) k ≡ firstAt (getD ds k []) 0
 device-is o ds k few l =
-    let read : List ℕ → DeviceRecord = λ d. deviceAt d 0 in
+    let read : List ℕ → DeviceRecord = λ d. firstAt d 0 in
     getD-padded 8 blankDevice (take 8 (map read ds)) k ∙ getD-take 8 (map read ds) k blankDevice few ∙ List·getD-map read ds k []
 
 -- ---- the file

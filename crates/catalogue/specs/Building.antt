@@ -7,18 +7,19 @@ use mathlib.Core.List.{List, map}
 use Prim.Native.Nat.{ℕ}
 use lib.ListN.{length, take}
 use Rattle.base.specs.Lists.{padded}
+use Rattle.tables.specs.declared.Kind.the-variants.{First}
 use Rattle.tables.specs.declared.DeviceTable.{DeviceTable}
 use Rattle.tables.specs.declared.TaskTable.{TaskTable}
 use Rattle.tables.specs.declared.JobTable.{JobTable}
 use Rattle.tables.specs.declared.Tables.{Tables}
-use Rattle.tables.specs.Records.{deviceAt, blankDevice}
+use Rattle.tables.specs.Records.{firstAt, blankDevice}
 use Rattle.planner.specs.declared.Answer.{Answer}
 use Rattle.planner.specs.Promises.{refusal, Written}
 use Rattle.catalogue.specs.Parts.{Part, partsOf, pieces, numbers, unfit, repeated, lacking, LookedUp}
 
 -- The device table of records, seven bytes each. Its list holds eight; its count is that of all.
 abbrev pub devicesOf : List (List ℕ) → DeviceTable
-devicesOf ds = record { count = length ds; list = padded 8 blankDevice (take 8 (map (λ (d : List ℕ). deviceAt d 0) ds)) }
+devicesOf ds = record { count = length ds; list = padded 8 blankDevice (take 8 (map (λ (d : List ℕ). firstAt d 0) ds)) }
 
 -- The other sections: the horizon field, the tasks and the jobs.
 pub record Others : Type 0 where
@@ -29,9 +30,9 @@ pub record Others : Type 0 where
 abbrev pub others : ℕ → TaskTable → JobTable → Others
 others h ts js = record { horizon = h; tasks = ts; jobs = js }
 
--- The tables that these records make with them.
+-- The tables of the first kind that these records make with them.
 abbrev pub tablesWith : Others → List (List ℕ) → Tables
-tablesWith o ds = record { horizon = o .horizon; devices = devicesOf ds; tasks = o .tasks; jobs = o .jobs }
+tablesWith o ds = record { kind = First; horizon = o .horizon; devices = devicesOf ds; tasks = o .tasks; jobs = o .jobs }
 
 -- Over parts and wanted numbers: the answer, and the lent bytes after it.
 pub data BuiltOf (ps : List Part) (ws : List (List ℕ)) (o : Others) (lent : List ℕ) : Answer → List ℕ → Type 0 where

@@ -7,6 +7,7 @@ use planner::Answer;
 use planner::refusal;
 use planner::write;
 use tables::JobTable;
+use tables::Kind;
 use tables::Tables;
 use tables::TaskTable;
 
@@ -41,6 +42,7 @@ pub fn build(
     let devices = devices_of(catalogue, wanted);
     write(
         Tables {
+            kind: Kind::First,
             horizon,
             devices,
             tasks,

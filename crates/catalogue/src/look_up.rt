@@ -4,7 +4,7 @@ ghost use mathlib.Core.Bool.{true, false};
 ghost use mathlib.Core.List.{map};
 ghost use Prim.Native.Nat.{_*_, _/_, _≤_, min};
 ghost use lib.ListN.{length};
-ghost use Rattle.tables.specs.Records.{deviceAt};
+ghost use Rattle.tables.specs.Records.{firstAt};
 ghost use Rattle.catalogue.specs.Parts.{partsOf, pieces, numbers, has, unfit, repeated, lacking, recordOf};
 ghost use Rattle.catalogue.specs.Places.{Sought};
 ghost use Rattle.catalogue.specs.Building.{devicesOf};
@@ -12,7 +12,7 @@ use crate::numbers::is_formed;
 use crate::numbers::is_same;
 use tables::DeviceRecord;
 use tables::DeviceTable;
-use tables::device_at;
+use tables::first_at;
 
 // The first part from a place on that has this number; the number of parts where there is none.
 fn find(catalogue: &[u8], from: usize, number: &[u8]) -> usize
@@ -99,10 +99,10 @@ pub(crate) fn is_lacking(catalogue: &[u8], wanted: &[u8]) -> bool
 // The record of the part that has this number.
 fn record_of(catalogue: &[u8], number: &[u8]) -> DeviceRecord
     requires { ⌜ (unfit (partsOf (now catalogue)) ≡ false) × (has (numbers (partsOf (now catalogue))) (now number) ≡ true) ⌝ }
-    ensures { λ d. ⌜ d ≡ deviceAt (recordOf (partsOf (now (catalogue .entry))) (now (number .entry))) 0 ⌝ }
+    ensures { λ d. ⌜ d ≡ firstAt (recordOf (partsOf (now (catalogue .entry))) (now (number .entry))) 0 ⌝ }
 {
     let k = find(catalogue, 0, number);
-    device_at(catalogue, 15 * k + 8)
+    first_at(catalogue, 15 * k + 8)
 }
 
 // A table has room for eight.
@@ -118,10 +118,12 @@ pub(crate) fn devices_of(catalogue: &[u8], wanted: &[u8]) -> DeviceTable
     ensures { λ r. ⌜ r ≡ devicesOf (map (recordOf (partsOf (now (catalogue .entry)))) (pieces 8 (now (wanted .entry)))) ⌝ }
 {
     let none = DeviceRecord {
-        t: 0,
+        wake: 0,
+        shut: 0,
         pw: 0,
         ps: 0,
-        p0: 0,
+        pwake: 0,
+        pshut: 0,
     };
     let mut devices = DeviceTable {
         count: 0,

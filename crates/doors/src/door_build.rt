@@ -7,7 +7,7 @@ use calls::RESULT;
 use calls::tell;
 use catalogue::build;
 
-// The tables that are given have no devices: these are looked up.
+// The tables that are given are of the first kind and have no devices: these are looked up.
 #[no_mangle]
 pub extern "C" fn door_build(
     parts: &[u8],
@@ -23,7 +23,7 @@ pub extern "C" fn door_build(
         return SHUT;
     }
     let t = tables_from(given);
-    if t.devices.count != 0 {
+    if given[0] != 1 || t.devices.count != 0 {
         return SHUT;
     }
     tell(

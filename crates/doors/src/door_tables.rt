@@ -17,7 +17,7 @@ fn listing_bytes(file: &[u8], out: &mut [u8]) -> Answer {
         return listing.answer;
     }
     let t = listing.tables;
-    let n = size(t.devices.count, t.tasks.count, t.jobs.count);
+    let n = size(t);
     if out.len() < n {
         return refusal(15);
     }

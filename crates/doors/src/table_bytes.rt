@@ -1,7 +1,7 @@
-// Tables as bytes: kind (1), horizon field, device count, task count and job count (2 each), then the records as they stand in a file. A count is the table's
-// true one; of the records there are at most 8, 8 and 16.
+// Tables as bytes: kind (1), horizon field, device count, task count and job count (2 each), then the records as they stand in a file of that kind. A count is
+// the table's true one; of the records there are at most 8, 8 and 16.
 ghost use mathlib.Core.Path.{_≡_};
-ghost use Prim.Native.Nat.{_+_, _*_, _≤_, _<_, min};
+ghost use Prim.Native.Nat.{_+_, _≤_, _<_};
 ghost use lib.ListN.{length};
 use crate::least;
 use base::pair_at;
@@ -9,23 +9,30 @@ use tables::DeviceRecord;
 use tables::DeviceTable;
 use tables::JobRecord;
 use tables::JobTable;
+use tables::Kind;
 use tables::Tables;
 use tables::TaskRecord;
 use tables::TaskTable;
+use tables::averaged;
 use tables::device_at;
+use tables::device_size;
 use tables::file_of;
 use tables::job_at;
+use tables::marker_size;
 use tables::task_at;
 
 pub const HEAD: usize = 9;
 
-const FIRST_KIND: u8 = 1;
+// The kind of a byte, of those that are kinds.
+fn kind_from(byte: u8) -> Kind {
+    if byte == 2 { Kind::Second } else { Kind::First }
+}
 
-// How many bytes tables of these counts have.
-pub fn size(devices: usize, tasks: usize, jobs: usize) -> usize
-    ensures { λ r. ⌜ r ≡ 9 + min devices 8 * 7 + min tasks 8 * 5 + min jobs 16 * 7 ⌝ }
-{
-    HEAD + least(devices, 8) * 7 + least(tasks, 8) * 5 + least(jobs, 16) * 7
+fn kind_byte(kind: Kind) -> u8 {
+    match kind {
+        Kind::First => 1,
+        Kind::Second => 2,
+    }
 }
 
 fn count_at(s: &[u8], at: usize) -> usize
@@ -34,35 +41,56 @@ fn count_at(s: &[u8], at: usize) -> usize
     pair_at(s, at) as usize
 }
 
-// Whether these are tables: of the first kind, and as long as their counts say.
+// Where the records of n devices end, of which the first 8 stand there; 0 if they are not all there.
+fn devices_end(s: &[u8], kind: Kind, n: usize) -> usize
+    requires { ⌜ 9 ≤ length (now s) ⌝ }
+    ensures { λ r. ⌜ r ≤ length (now (s .entry)) ⌝ }
+{
+    let mut at = HEAD;
+    let mut k = 0;
+    while k < least(n, 8) {
+        let size = device_size(s, kind, at);
+        if s.len() - at < size {
+            return 0;
+        }
+        at += size;
+        k += 1;
+    }
+    at
+}
+
+// Whether these are tables: of some kind, and as long as their counts say.
 pub fn is_tables(s: &[u8]) -> bool
     requires { ⌜ 9 ≤ length (now s) ⌝ }
 {
-    if s[0] != FIRST_KIND {
+    if s[0] == 0 || 2 < s[0] {
         return false;
     }
-    let size = size(count_at(s, 3), count_at(s, 5), count_at(s, 7));
-    s.len() == size
+    let end = devices_end(s, kind_from(s[0]), count_at(s, 3));
+    end != 0 && s.len() - end == least(count_at(s, 5), 8) * 5 + least(count_at(s, 7), 16) * 7
 }
 
 // Records are taken as far as there are bytes, whatever the count: beyond it none is looked at.
-fn devices_in(s: &[u8]) -> [DeviceRecord; 8] {
-    let mut list = [DeviceRecord {
-        t: 0,
-        pw: 0,
-        ps: 0,
-        p0: 0,
-    }; 8];
+fn devices_in(s: &[u8], kind: Kind, n: usize) -> [DeviceRecord; 8]
+    requires { ⌜ 9 ≤ length (now s) ⌝ }
+{
+    let mut list = [averaged(0, 0, 0, 0); 8];
+    let mut at = HEAD;
     let mut k = 0;
-    while k < 8 && HEAD + k * 7 + 6 < s.len() {
-        list[k] = device_at(s, HEAD + k * 7);
+    while k < least(n, 8) {
+        let size = device_size(s, kind, at);
+        if s.len() - at < size {
+            return list;
+        }
+        list[k] = device_at(s, kind, at);
+        at += size;
         k += 1;
     }
     list
 }
 
 fn tasks_in(s: &[u8], from: usize) -> [TaskRecord; 8]
-    requires { ⌜ from ≤ 65 ⌝ }
+    requires { ⌜ from ≤ length (now s) ⌝ }
 {
     let mut list = [TaskRecord {
         period: 0,
@@ -78,7 +106,7 @@ fn tasks_in(s: &[u8], from: usize) -> [TaskRecord; 8]
 }
 
 fn jobs_in(s: &[u8], from: usize) -> [JobRecord; 16]
-    requires { ⌜ from ≤ 105 ⌝ }
+    requires { ⌜ from ≤ length (now s) ⌝ }
 {
     let mut list = [JobRecord {
         release: 0,
@@ -97,15 +125,17 @@ fn jobs_in(s: &[u8], from: usize) -> [JobRecord; 16]
 pub fn tables_from(s: &[u8]) -> Tables
     requires { ⌜ 9 ≤ length (now s) ⌝ }
 {
+    let kind = kind_from(s[0]);
     let devices = count_at(s, 3);
     let tasks = count_at(s, 5);
-    let tasks_from = HEAD + least(devices, 8) * 7;
-    let jobs_from = tasks_from + least(tasks, 8) * 5;
+    let tasks_from = devices_end(s, kind, devices);
+    let jobs_from = least(tasks_from + least(tasks, 8) * 5, s.len());
     Tables {
+        kind,
         horizon: pair_at(s, 1),
         devices: DeviceTable {
             count: devices,
-            list: devices_in(s),
+            list: devices_in(s, kind, devices),
         },
         tasks: TaskTable {
             count: tasks,
@@ -119,11 +149,11 @@ pub fn tables_from(s: &[u8]) -> Tables
 }
 
 // The bytes before the records.
-fn head(horizon: u16, devices: usize, tasks: usize, jobs: usize) -> [u8; 217]
+fn head(kind: Kind, horizon: u16, devices: usize, tasks: usize, jobs: usize) -> [u8; 261]
     requires { ⌜ (devices ≤ 8) × (tasks ≤ 8) × (jobs ≤ 16) ⌝ }
 {
-    let mut bytes = [0; 217];
-    bytes[0] = FIRST_KIND;
+    let mut bytes = [0; 261];
+    bytes[0] = kind_byte(kind);
     bytes[1] = (horizon / 256) as u8;
     bytes[2] = (horizon % 256) as u8;
     bytes[4] = devices as u8;
@@ -132,30 +162,57 @@ fn head(horizon: u16, devices: usize, tasks: usize, jobs: usize) -> [u8; 217]
     bytes
 }
 
-fn with_part(bytes: [u8; 217], to: usize, file: [u8; 232], from: usize, n: usize) -> [u8; 217]
-    requires { ⌜ (to + n ≤ 217) × (from + n ≤ 232) ⌝ }
+// n bytes of a file, from one place in it to another, as far as there are places.
+fn with_part(bytes: [u8; 261], to: usize, file: [u8; 261], from: usize, n: usize) -> [u8; 261]
+    requires { ⌜ (to ≤ 1000) × (from ≤ 1000) × (n ≤ 1000) ⌝ }
 {
     let mut out = bytes;
     let mut i = 0;
-    while i < n {
+    while i < n && to + i < 261 && from + i < 261 {
         out[to + i] = file[from + i];
         i += 1;
     }
     out
 }
 
-// The bytes of tables that a file has, and zeros up to the most that there can be. The records stand in the file that the tables make, there too one table
-// after the other, but each after its own count.
-pub fn bytes_of(t: Tables) -> [u8; 217] {
+// What is left of a count that is large enough.
+fn rest(whole: usize, part: usize) -> usize
+    ensures { λ r. ⌜ r ≤ whole ⌝ }
+{
+    if whole < part { 0 } else { whole - part }
+}
+
+// Where the device records begin in a file.
+fn records_from(kind: Kind) -> usize
+    ensures { λ r. ⌜ r ≤ 5 ⌝ }
+{
+    marker_size(kind) + 3
+}
+
+// How many bytes the tables of a file have: the file's, but for its mark, its horizon field and its counts.
+pub fn size(t: Tables) -> usize
+    ensures { λ r. ⌜ r ≤ 261 ⌝ }
+{
+    let kind = t.kind;
+    let made = file_of(t);
+    least(rest(made.count, records_from(kind) + 2), 252) + HEAD
+}
+
+// The bytes of tables that a file has, and zeros after them. The records stand in the file that the tables make, there too one table after the other, but each
+// after its own count; how many bytes the devices have is what the rest leaves.
+pub fn bytes_of(t: Tables) -> [u8; 261] {
     let devices = least(t.devices.count, 8);
     let tasks = least(t.tasks.count, 8);
     let jobs = least(t.jobs.count, 16);
-    let tasks_at = HEAD + devices * 7;
-    let jobs_at = tasks_at + tasks * 5;
+    let kind = t.kind;
+    let from = records_from(kind);
     let made = file_of(t);
     let file = made.bytes;
-    let a = head(t.horizon, devices, tasks, jobs);
-    let b = with_part(a, HEAD, file, 3, devices * 7);
-    let c = with_part(b, tasks_at, file, tasks_at - 5, tasks * 5);
-    with_part(c, jobs_at, file, jobs_at - 4, jobs * 7)
+    let size = least(rest(made.count, from + 2 + tasks * 5 + jobs * 7), 112);
+    let tasks_at = HEAD + size;
+    let jobs_at = tasks_at + tasks * 5;
+    let a = head(kind, t.horizon, devices, tasks, jobs);
+    let b = with_part(a, HEAD, file, from, size);
+    let c = with_part(b, tasks_at, file, from + size + 1, tasks * 5);
+    with_part(c, jobs_at, file, from + size + 2 + tasks * 5, jobs * 7)
 }

@@ -13,6 +13,7 @@ use Rattle.schedule.specs.Quantities.{jobs}
 use Rattle.schedule.specs.Listing.{soonest}
 use Rattle.request.specs.Format.{recorderIn}
 use Rattle.request.specs.Format as Format
+use Rattle.tables.specs.Layout as Layout
 use Rattle.request.proofs.Accepted.{accepted-valid}
 use Rattle.planner.specs.Promises.{success, refusalAt, Reads}
 use Rattle.planner.specs.Promises as Frame
@@ -72,7 +73,7 @@ pub figures-hold :
     × Mended three (4 ∷ 0 ∷ 8 ∷ []) for-three (success 10 0 0) (lending (4 ∷ 0 ∷ 8 ∷ 7 ∷ []) (for-three .moved))
     × Mended tight (1 ∷ 1 ∷ []) for-two (refusalAt 17 0) for-two
     × Mended tight (65535 ∷ 2 ∷ []) for-two (refusalAt 17 0) for-two
-unfolding Format.readOf Format.faultOf Format.taskSection Format.jobSection Format.jobRecords Format.countOf Format.mixed Format.recordFault Format.recordTable Format.deviceTable Format.taskTable Format.jobTable Format.lacks firstOf Format.horizonOf Format.jobsOf Format.recorderIn upTo padded remove soonest settle lateOf mended moves
+unfolding Format.readOf Format.readAs Format.faultAs Layout.kindOf Format.taskSection Format.jobSection Format.jobRecords Format.countOf Format.mixed Format.recordFault Format.recordTable Format.deviceTable Format.taskTable Format.jobTable Format.lacks firstOf Format.horizonOf Format.jobsOf Format.recorderAs upTo padded remove soonest settle lateOf mended moves
 figures-hold = (
   in-time released (0 ∷ 0 ∷ []) for-two (recorderIn released) refl refl (record { starts = omega arith; moved = omega arith }) refl,
   in-time three (2 ∷ 2 ∷ 2 ∷ []) for-three (recorderIn three) refl refl (record { starts = omega arith; moved = omega arith }) refl,

@@ -6,7 +6,7 @@ use mathlib.Core.List.{List, _++_}
 use Prim.Native.Nat.{ℕ, zero, suc, _*_, _<_}
 use native.Mathlib.Omega.{arith}
 use lib.IntN.{ℤ}
-use lib.ListN.{drop}
+use lib.ListN.{length, drop}
 use Rattle.base.specs.Sums.{sum}
 use Rattle.base.proofs.Additions.{sum-same}
 use Rattle.device.specs.Row.{Letter, energy}
@@ -21,7 +21,7 @@ use Rattle.request.proofs.Accepted.{accepted-valid}
 use Rattle.planner.specs.declared.Answer.{Answer}
 use Rattle.planner.specs.declared.Listing.{Listing}
 use Rattle.planner.specs.Promises.{success, refusal, refusalAt, Refused, Reads, OfFile, refused, read, Answered}
-use Rattle.planner.specs.Promises.{CheckOf, accepted, Checked, MarginsOf, Margined, VerdictOf, Judged, RowsOf, Rowed, SearchOf, Searched, WriteOf, Written, ListOf, listed, Listed}
+use Rattle.planner.specs.Promises.{CheckOf, accepted, Checked, MarginsOf, Margined, VerdictOf, Judged, RowsOf, Rowed, SearchOf, Searched, Written, ListOf, listed, Listed}
 use Rattle.planner.specs.Promises as P
 
 -- ---- the file
@@ -180,14 +180,19 @@ only-searched file budget lent = only-of-file file lent (SearchOf budget lent) (
 
 -- ---- `write`
 
-one-write : (T : Tables) (lent : List ℕ) (R : Recorder) {a a′ : Answer} {l l′ : List ℕ} → WriteOf T lent R a l → WriteOf T lent R a′ l′ → (a ≡ a′) × (l ≡ l′)
-one-write T lent R (P.WriteOf.short h) (P.WriteOf.short h′) = (refl, refl)
-one-write T lent R (P.WriteOf.short h) (P.WriteOf.written h′) = absurd (omega arith)
-one-write T lent R (P.WriteOf.written h) (P.WriteOf.short h′) = absurd (omega arith)
-one-write T lent R (P.WriteOf.written h) (P.WriteOf.written h′) = (refl, refl)
-
 pub only-written : (T : Tables) (lent : List ℕ) {a a′ : Answer} {l l′ : List ℕ} → Written T lent a l → Written T lent a′ l′ → (a ≡ a′) × (l ≡ l′)
-only-written T lent = only-of-file (bytesOf T) lent (WriteOf T lent) (λ R v a a′ l l′. one-write T lent R)
+only-written T lent (P.Written.refused r) (P.Written.refused r′) = let e = sym r ∙ r′ in (cc, refl)
+only-written T lent (P.Written.refused r) (P.Written.short r′ h′) = let e = sym r ∙ r′ in let z : _≡_ {A = ℕ} 0 1 = cc in absurd (omega arith)
+only-written T lent (P.Written.refused r) (P.Written.written r′ h′) = let e = sym r ∙ r′ in let z : _≡_ {A = ℕ} 0 1 = cc in absurd (omega arith)
+only-written T lent (P.Written.short r h) (P.Written.refused r′) = let e = sym r ∙ r′ in let z : _≡_ {A = ℕ} 0 1 = cc in absurd (omega arith)
+only-written T lent (P.Written.short r h) (P.Written.short r′ h′) = (refl, refl)
+only-written T lent (P.Written.short r h) (P.Written.written r′ h′) = absurd (omega arith)
+only-written T lent (P.Written.written r h) (P.Written.refused r′) = let e = sym r ∙ r′ in let z : _≡_ {A = ℕ} 0 1 = cc in absurd (omega arith)
+only-written T lent (P.Written.written r h) (P.Written.short r′ h′) = absurd (omega arith)
+only-written T lent (P.Written.written {R = R} r h) (P.Written.written {R = R′} r′ h′) =
+    let e = sym r ∙ r′ in
+    let same : R ≡ R′ = cc in
+    (ap (λ (X : Recorder). success (X .horizon) 0 (length (bytesOf T))) same, refl)
 
 -- ---- `tables_of`
 

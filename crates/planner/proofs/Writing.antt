@@ -7,58 +7,81 @@ use native.Mathlib.Omega.{arith}
 use lib.ListN.{length, take, drop}
 use lib.Seq.{take-at}
 use Rattle.schedule.specs.declared.Recorder.{Recorder}
+use Rattle.tables.specs.declared.Kind.{Kind}
+use Rattle.tables.specs.declared.Kind.the-variants.{First}
 use Rattle.tables.specs.declared.Tables.{Tables}
-use Rattle.tables.specs.Layout.{bytesOf, tablesOf, counted, noTables, Bytes}
-use Rattle.tables.proofs.Back.{read-back, write-back, bytes-counted}
-use Rattle.request.proofs.Accepted.{refused-number}
+use Rattle.tables.specs.Layout.{kindOf, bodyOf, layoutOf, bytesOf, tablesAs, tablesOf, counted, noTables, Bytes}
+use Rattle.tables.proofs.Back.{kind-back, body-back, tables-back, write-back, bytes-back, body-bytes, kind-counted, layout-counted}
+use Rattle.request.specs.Format.{readAs, readOf, accepted}
+use Rattle.request.proofs.Accepted.{refused-number, number-as}
 use Rattle.request.proofs.Cutting.{accepted-whole}
+use Rattle.request.proofs.Marks.{first-plain, read-marked}
 use Rattle.planner.specs.declared.Answer.{Answer}
 use Rattle.planner.specs.declared.Listing.{Listing}
-use Rattle.planner.specs.Promises.{success, Reads, OfFile, refused, read, accepted, Checked, short, written, Written, ListOf, listed, Listed}
+use Rattle.planner.specs.Promises.{success, Reads, OfFile, Checked, Written, ListOf, Listed}
+use Rattle.planner.specs.Promises as P
 
 -- The listing of a file that is read as R.
 abbrev listing : Recorder → Tables → Listing
 listing R T = record { answer = success (R .horizon) 0 0; tables = T }
 
 -- Tables that are accepted are those of a file: their own bytes;
-pub accepted-listed : (T : Tables) (R : Recorder) → Reads (bytesOf T) R → Listed (bytesOf T) (listing R (counted T))
-accepted-listed T R r = subst (λ (U : Tables). Listed (bytesOf T) (listing R U)) (read-back T) (read r listed)
+module _ (T : Tables) (R : Recorder) (r : readAs (T .kind) (layoutOf T) ≡ accepted R) where
+  plain : T .kind ≡ First → kindOf (layoutOf T) ≡ First
+  plain e = first-plain (layoutOf T) R (subst (λ (k : Kind). readAs k (layoutOf T) ≡ accepted R) e r)
 
--- and tables that a file is listed as are accepted, as that file is: what stands beyond a count does not matter.
-pub listed-accepted : (T : Tables) (file : List ℕ) (R : Recorder) → Bytes file → Reads file R → tablesOf file ≡ counted T → Reads (bytesOf T) R
-listed-accepted T file R b r e =
-    let same : bytesOf T ≡ file = sym (bytes-counted T) ∙ ap bytesOf (sym e) ∙ write-back file (accepted-whole file R r) b in
-    subst (λ (s : List ℕ). Reads s R) (sym same) r
+  pub accepted-read : Reads (bytesOf T) R
+  accepted-read = read-marked (bytesOf T) (kind-back T plain) (body-back T plain) ∙ r
+
+  pub accepted-listed : Listed (bytesOf T) (listing R (counted T))
+  accepted-listed = subst (λ (U : Tables). Listed (bytesOf T) (listing R U)) (tables-back T plain) (P.OfFile.read accepted-read P.ListOf.listed)
 
 -- Reading what was written gives the tables again.
 pub written-listed : (T : Tables) (lent : List ℕ) (a : Answer) (after : List ℕ) → Written T lent a after → a .number ≡ 0
     → Listed (take (a .count) after) (record { answer = success (a .horizon) 0 0; tables = counted T })
-written-listed T lent a after (refused {n = n} r) z = absurd (omega (arith, refused-number (bytesOf T) n r))
-written-listed T lent a after (read r (short h)) z = absurd (omega arith)
-written-listed T lent a after (read {R = R} r (written h)) z =
+written-listed T lent a after (P.Written.refused {n = n} r) z = absurd (omega (arith, number-as (T .kind) (layoutOf T) n r))
+written-listed T lent a after (P.Written.short r h) z = absurd (omega arith)
+written-listed T lent a after (P.Written.written {R = R} r h) z =
     subst (λ (s : List ℕ). Listed s (listing R (counted T))) (sym (take-at (bytesOf T) (drop (length (bytesOf T)) lent) (length (bytesOf T)) refl)) (accepted-listed T R r)
 
 -- What was written is accepted.
 pub written-checked : (T : Tables) (lent : List ℕ) (a : Answer) (after : List ℕ) → Written T lent a after → a .number ≡ 0
     → Checked (take (a .count) after) (success (a .horizon) 0 0)
-written-checked T lent a after (refused {n = n} r) z = absurd (omega (arith, refused-number (bytesOf T) n r))
-written-checked T lent a after (read r (short h)) z = absurd (omega arith)
-written-checked T lent a after (read {R = R} r (written h)) z =
-    subst (λ (s : List ℕ). Checked s (success (R .horizon) 0 0)) (sym (take-at (bytesOf T) (drop (length (bytesOf T)) lent) (length (bytesOf T)) refl)) (read r accepted)
+written-checked T lent a after (P.Written.refused {n = n} r) z = absurd (omega (arith, number-as (T .kind) (layoutOf T) n r))
+written-checked T lent a after (P.Written.short r h) z = absurd (omega arith)
+written-checked T lent a after (P.Written.written {R = R} r h) z =
+    subst (λ (s : List ℕ). Checked s (success (R .horizon) 0 0)) (sym (take-at (bytesOf T) (drop (length (bytesOf T)) lent) (length (bytesOf T)) refl)) (P.OfFile.read (accepted-read T R r) P.CheckOf.accepted)
+
+-- ---- from a file
+
+-- The tables of a file that is read as R are accepted as it is.
+module _ (file : List ℕ) (R : Recorder) (b : Bytes file) (r : Reads file R) where
+  listed-read : readAs (tablesOf file .kind) (layoutOf (tablesOf file)) ≡ accepted R
+  unfolding tablesAs readOf
+  listed-read = ap (readAs (kindOf file)) (write-back (kindOf file) (bodyOf file) (accepted-whole (kindOf file) (bodyOf file) R r) (body-bytes file b)) ∙ r
+
+-- Tables that a file is listed as are accepted, as that file is: what stands beyond a count, or what the kind does not tell, does not matter.
+pub listed-accepted : (T : Tables) (file : List ℕ) (R : Recorder) → Bytes file → Reads file R → tablesOf file ≡ counted T → readAs (T .kind) (layoutOf T) ≡ accepted R
+listed-accepted T file R b r e =
+    let kind : tablesOf file .kind ≡ T .kind = ap (λ (U : Tables). U .kind) e ∙ kind-counted T in
+    let layout : layoutOf (tablesOf file) ≡ layoutOf T = ap layoutOf e ∙ layout-counted T in
+    subst (λ (k : Kind). readAs k (layoutOf T) ≡ accepted R) kind
+    (subst (λ (l : List ℕ). readAs (tablesOf file .kind) l ≡ accepted R) layout (listed-read file R b r))
 
 -- Writing what was read gives the same bytes.
 same-bytes : (file : List ℕ) (R : Recorder) (lent : List ℕ) → Bytes file → Reads file R → length file ≤ length lent
     → Written (tablesOf file) lent (success (R .horizon) 0 (length file)) (file ++ drop (length file) lent)
+unfolding readOf
 same-bytes file R lent b r h =
     let T = tablesOf file in
-    let same : bytesOf T ≡ file = write-back file (accepted-whole file R r) b in
-    let done : Written T lent (success (R .horizon) 0 (length (bytesOf T))) (bytesOf T ++ drop (length (bytesOf T)) lent) = read (subst (λ (s : List ℕ). Reads s R) (sym same) r) (written (rw same h)) in
+    let same : bytesOf T ≡ file = bytes-back file (accepted-whole (kindOf file) (bodyOf file) R r) b in
+    let done : Written T lent (success (R .horizon) 0 (length (bytesOf T))) (bytesOf T ++ drop (length (bytesOf T)) lent) = P.Written.written (listed-read file R b r) (rw same h) in
     subst (λ (s : List ℕ). Written T lent (success (R .horizon) 0 (length s)) (s ++ drop (length s) lent)) same done
 
 outcome-written : (file lent : List ℕ) (a : Answer) (T : Tables) → Bytes file → OfFile file noTables (ListOf file) a T → a .number ≡ 0 → length file ≤ length lent
     → Written T lent (success (a .horizon) 0 (length file)) (file ++ drop (length file) lent)
-outcome-written file lent a T b (refused {n = n} r) z h = absurd (omega (arith, refused-number file n r))
-outcome-written file lent a T b (read {R = R} r listed) z h = same-bytes file R lent b r h
+outcome-written file lent a T b (P.OfFile.refused {n = n} r) z h = absurd (omega (arith, refused-number file n r))
+outcome-written file lent a T b (P.OfFile.read {R = R} r P.ListOf.listed) z h = same-bytes file R lent b r h
 
 pub listed-written : (file : List ℕ) (r : Listing) (lent : List ℕ) → Bytes file → Listed file r → r .answer .number ≡ 0 → length file ≤ length lent
     → Written (r .tables) lent (success (r .answer .horizon) 0 (length file)) (file ++ drop (length file) lent)

@@ -15,8 +15,8 @@ use Rattle.schedule.specs.Quantities.{device, jobs}
 use Rattle.schedule.specs.Listing.{Feasible, Fault, Rows, Costs, FirstLeast, laid, margin}
 use Rattle.schedule.specs.Visiting.{vertices}
 use Rattle.tables.specs.declared.Tables.{Tables}
-use Rattle.tables.specs.Layout.{bytesOf, tablesOf, noTables}
-use Rattle.request.specs.Format.{readOf}
+use Rattle.tables.specs.Layout.{layoutOf, bytesOf, tablesOf, noTables}
+use Rattle.request.specs.Format.{readAs, readOf}
 use Rattle.request.specs.Format as Format
 use Rattle.planner.specs.declared.Answer.{Answer}
 use Rattle.planner.specs.declared.Listing.{Listing}
@@ -111,16 +111,14 @@ pub data SearchOf (budget : ℕ) (lent : List ℕ) (R : Recorder) : Answer → L
 abbrev pub Searched : List ℕ → ℕ → List ℕ → Answer → List ℕ → Type 0
 Searched file budget lent a after = OfFile file lent (SearchOf budget lent) a after
 
--- ---- `write`: the file that the tables make. They are refused as the reader refuses it, and only then is the room looked at; what is lent beyond the file
--- stays as it was
+-- ---- `write`: the file that the tables make. They are refused as the reader of their kind refuses its layout (rule 52), and only then is the room looked at;
+-- what is lent beyond the file stays as it was. The mark is not read: tables are of the kind that they say, whatever their horizon field
 
-pub data WriteOf (T : Tables) (lent : List ℕ) (R : Recorder) : Answer → List ℕ → Type 0 where
-  short : length lent < length (bytesOf T) → WriteOf T lent R (refusal 15) lent
-  written : length (bytesOf T) ≤ length lent
-      → WriteOf T lent R (success (R .horizon) 0 (length (bytesOf T))) (bytesOf T ++ drop (length (bytesOf T)) lent)
-
-abbrev pub Written : Tables → List ℕ → Answer → List ℕ → Type 0
-Written T lent a after = OfFile (bytesOf T) lent (WriteOf T lent) a after
+pub data Written (T : Tables) (lent : List ℕ) : Answer → List ℕ → Type 0 where
+  refused : {n : ℕ} → readAs (T .kind) (layoutOf T) ≡ Format.refused n → Written T lent (refusal n) lent
+  short : {R : Recorder} → readAs (T .kind) (layoutOf T) ≡ Format.accepted R → length lent < length (bytesOf T) → Written T lent (refusal 15) lent
+  written : {R : Recorder} → readAs (T .kind) (layoutOf T) ≡ Format.accepted R → length (bytesOf T) ≤ length lent
+      → Written T lent (success (R .horizon) 0 (length (bytesOf T))) (bytesOf T ++ drop (length (bytesOf T)) lent)
 
 -- ---- `tables_of`: the tables of the file as it gives them, tasks as tasks; none with a refusal
 

@@ -3,6 +3,7 @@
 ghost use Rattle.planner.specs.Promises.{Checked, Margined, Judged, Rowed, Searched, Written, Listed};
 use base::JobNumber;
 use request::read;
+use request::read_by;
 use schedule::judge;
 use schedule::plan_energy;
 use schedule::write_margins;
@@ -134,7 +135,8 @@ pub fn write(given: Tables, out: &mut [u8]) -> Answer
     let file = file_of(given);
     let n = file.count;
     let bytes = file.bytes;
-    let request = read(&bytes[..n]);
+    let kind = given.kind;
+    let request = read_by(&bytes[..n], kind);
     let number = request.number;
     if number != 0 {
         return refusal(number);

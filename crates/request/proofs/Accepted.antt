@@ -1,12 +1,12 @@
 -- For callers: what a file that is accepted guarantees, and what is handed on of a reading.
 -- Assumes nothing.
-use mathlib.Core.Path.{_≡_, refl, sym, subst, _∙_}
+use mathlib.Core.Path.{_≡_, refl, sym, ap, subst, _∙_}
 use mathlib.Core.Bool.{false}
 use mathlib.Core.List.{List}
 use Prim.Native.Nat.{ℕ, _+_, _*_, _<_, _≤_, _∣_}
 use native.Mathlib.Omega.{arith}
 use native.Mathlib.Nat.{pos-of-ne-zero, le-refl}
-use lib.ListN.{length, getD}
+use lib.ListN.{length, getD, length-append}
 use lib.Dec.{eqb}
 use borrow.Author.Tests.{leb-false, eqb-true, eqb-false}
 use Rattle.base.specs.Bytes.{byteAt, pairAt}
@@ -16,52 +16,56 @@ use Rattle.base.proofs.Cases.{cond-cases}
 use Rattle.base.proofs.Every.{Every, every-at}
 use Rattle.base.proofs.Records.{first-each}
 use Rattle.device.specs.Row.{Sound}
-use Rattle.device.proofs.Rules.{first-sound}
+use Rattle.device.proofs.Rules.{single-sound}
 use Rattle.schedule.specs.declared.Recorder.{Recorder}
 use Rattle.schedule.specs.Quantities.{noJob, noDevice, Valid}
 use Rattle.request.specs.declared.Request.{Request}
 use Rattle.request.specs.declared.Section.the-variants.{DeviceRecords}
+use Rattle.tables.specs.declared.Kind.{Kind}
 use Rattle.tables.specs.Records.{deviceAt}
-use Rattle.tables.specs.Layout.{taskCount, tasksPlace, jobsPlace}
-use Rattle.request.specs.Format.{Reading, refused, accepted, deviceOf, deviceTable, recordTable, recordFault, horizonOf, jobsOf, countOf, faultOf, horizonIn, devicesIn, jobsIn, emptyDevice, emptyJob, recorderIn, readOf, handedOn}
+use Rattle.tables.specs.Layout.{marker, kindOf, bodyOf, devicePlace, taskCount, tasksPlace, jobsPlace}
+use Rattle.tables.proofs.Back.{mark-front}
+use Rattle.request.specs.Format.{Reading, refused, accepted, deviceOf, deviceTable, sizeOf, recordTable, recordFault, horizonOf, jobsOf, countOf, faultAs, horizonIn, devicesIn, jobsIn, emptyDevice, emptyJob, recorderAs, readAs, readOf, handedOn}
 use Rattle.request.proofs.Checked.{record-clear}
-use Rattle.request.proofs.Faultless.{Faultless, faultless, length-jobs, jobs-end}
+use Rattle.request.proofs.Faultless.{Faultless, faultless, length-jobs, jobs-end, deviceMost, place-most}
 use Rattle.request.proofs.Fitting.{Fits, listed-fit, unfolded-fit}
 use Rattle.request.proofs.Highest.{fault-le}
 use Rattle.request.proofs.Multiples.{horizon-multiple}
 
 -- ---- the recorder of a file without a fault
 
-device-sound : (s : List ℕ) (at : ℕ) → 0 ≡ recordFault s DeviceRecords at → Sound (deviceOf (deviceAt s at))
+device-sound : (k : Kind) (s : List ℕ) (at : ℕ) → 0 ≡ recordFault s (DeviceRecords k) at → Sound (deviceOf (deviceAt k s at))
 unfolding recordTable deviceTable
-device-sound s at e =
-    let d = deviceAt s at in
-    let f = record-clear s DeviceRecords at (tt, (tt, (tt, tt))) e in
-    first-sound (d .t) (d .pw) (d .ps) (d .p0) (pos-of-ne-zero (eqb-false (d .t) 0 (f .0))) (leb-false (d .p0) (d .ps) (f .1 .0)) (leb-false (d .pw) (d .ps) (f .1 .1 .0))
+device-sound k s at e =
+    let d = deviceAt k s at in
+    let f = record-clear s (DeviceRecords k) at (tt, (tt, (tt, (tt, (tt, tt))))) e in
+    single-sound (d .wake) (d .shut) (d .pw) (d .ps) (d .pwake) (d .pshut) (pos-of-ne-zero (eqb-false (d .wake) 0 (f .0))) (pos-of-ne-zero (eqb-false (d .shut) 0 (f .1 .0)))
+    (leb-false (d .pw) (d .ps) (f .1 .1 .1 .1 .0)) (leb-false (d .pwake) (d .ps) (f .1 .1 .0)) (leb-false (d .pshut) (d .ps) (f .1 .1 .1 .0))
 
-module _ (s : List ℕ) (ok : Faultless s) where
-  devices-sound : (k : ℕ) → k < length (devicesIn s) → Sound (getD (padded 8 emptyDevice (devicesIn s)) k noDevice)
-  devices-sound k l =
-      let b : k < byteAt s 2 = rw length-upTo at l in
-      rw (getD-held 8 emptyDevice (devicesIn s) k noDevice l, getD-upTo _ _ _ _ b) (device-sound s (3 + k * 7) (first-each (recordFault s DeviceRecords) 7 (byteAt s 2) 3 k b (ok .device-records)))
+module _ (k : Kind) (s : List ℕ) (ok : Faultless k s) where
+  devices-sound : (i : ℕ) → i < length (devicesIn k s) → Sound (getD (padded 8 emptyDevice (devicesIn k s)) i noDevice)
+  devices-sound i l =
+      let b : i < byteAt s 2 = rw length-upTo at l in
+      rw (getD-held 8 emptyDevice (devicesIn k s) i noDevice l, getD-upTo _ _ _ _ b)
+      (device-sound k s (devicePlace k s i) (first-each (recordFault s (DeviceRecords k)) (sizeOf s (DeviceRecords k)) (byteAt s 2) 3 i b (ok .device-records)))
 
   -- Each period divides a horizon that tasks give.
-  periods-divide : eqb (taskCount s) 0 ≡ false → (i : ℕ) → i < taskCount s → pairAt s (tasksPlace s + 1 + i * 5) ∣ horizonIn s
+  periods-divide : eqb (taskCount k s) 0 ≡ false → (i : ℕ) → i < taskCount k s → pairAt s (tasksPlace k s + 1 + i * 5) ∣ horizonIn k s
   unfolding horizonOf
-  periods-divide z i l = rw z (horizon-multiple s (taskCount s) (tasksPlace s + 1) i l)
+  periods-divide z i l = rw z (horizon-multiple s (taskCount k s) (tasksPlace k s + 1) i l)
 
-  jobs-fit : Every (Fits (horizonIn s) (byteAt s 2)) (jobsIn s)
+  jobs-fit : Every (Fits (horizonIn k s) (byteAt s 2)) (jobsIn k s)
   unfolding jobsOf
   jobs-fit =
-      cond-cases (Every (Fits (horizonIn s) (byteAt s 2))) (eqb (taskCount s) 0)
-      (λ z. listed-fit s (byteAt s 2) (horizonIn s) (byteAt s (jobsPlace s)) (jobsPlace s + 1) (ok .jobs .records))
-      (λ z. unfolded-fit s (byteAt s 2) (horizonIn s) (taskCount s) (tasksPlace s + 1) (ok .task-records) (periods-divide z) (horizonIn s) (le-refl (horizonIn s)))
+      cond-cases (Every (Fits (horizonIn k s) (byteAt s 2))) (eqb (taskCount k s) 0)
+      (λ z. listed-fit s (byteAt s 2) (horizonIn k s) (byteAt s (jobsPlace k s)) (jobsPlace k s + 1) (ok .jobs .records))
+      (λ z. unfolded-fit s (byteAt s 2) (horizonIn k s) (taskCount k s) (tasksPlace k s + 1) (ok .task-records) (periods-divide z) (horizonIn k s) (le-refl (horizonIn k s)))
 
-  held-fits : (j : ℕ) → j < length (jobsIn s) → Fits (horizonIn s) (byteAt s 2) (getD (padded 16 emptyJob (jobsIn s)) j noJob)
-  held-fits j l = rw (getD-held 16 emptyJob (jobsIn s) j noJob l) (every-at (Fits (horizonIn s) (byteAt s 2)) (jobsIn s) noJob jobs-fit j l)
+  held-fits : (j : ℕ) → j < length (jobsIn k s) → Fits (horizonIn k s) (byteAt s 2) (getD (padded 16 emptyJob (jobsIn k s)) j noJob)
+  held-fits j l = rw (getD-held 16 emptyJob (jobsIn k s) j noJob l) (every-at (Fits (horizonIn k s) (byteAt s 2)) (jobsIn k s) noJob jobs-fit j l)
 
-  valid : Valid (recorderIn s)
-  unfolding recorderIn
+  valid : Valid (recorderAs k s)
+  unfolding recorderAs
   valid =
       record {
         some-tick = ok .jobs .some-tick;
@@ -72,44 +76,64 @@ module _ (s : List ℕ) (ok : Faultless s) where
         runs = λ j l. held-fits j l .runs;
         fits = λ j l. held-fits j l .fits;
         ends = λ j l. held-fits j l .ends;
-        known = λ j k l m. held-fits j l .known k (rw length-upTo at m);
+        known = λ j i l m. held-fits j l .known i (rw length-upTo at m);
       }
 
 -- ---- what a reading tells of the file
 
-module _ (s : List ℕ) where
-  pub accepted-is : (R : Recorder) → readOf s ≡ accepted R → (0 ≡ faultOf s) × (recorderIn s ≡ R)
-  unfolding readOf
-  accepted-is R =
-      cond-cases (λ w. w ≡ accepted R → (0 ≡ faultOf s) × (recorderIn s ≡ R)) (eqb (faultOf s) 0)
-      (λ z e. (sym (eqb-true (faultOf s) 0 z), (cc)))
+module _ (k : Kind) (s : List ℕ) where
+  pub accepted-as : (R : Recorder) → readAs k s ≡ accepted R → (0 ≡ faultAs k s) × (recorderAs k s ≡ R)
+  unfolding readAs
+  accepted-as R =
+      cond-cases (λ w. w ≡ accepted R → (0 ≡ faultAs k s) × (recorderAs k s ≡ R)) (eqb (faultAs k s) 0)
+      (λ z e. (sym (eqb-true (faultAs k s) 0 z), (cc)))
       (λ z e. let never : _≡_ {A = ℕ} 0 1 = cc in absurd (omega arith))
 
-  refused-is : (n : ℕ) → readOf s ≡ refused n → (faultOf s ≡ n) × (n ≡ 0 → ⊥)
-  unfolding readOf
-  refused-is n =
-      cond-cases (λ w. w ≡ refused n → (faultOf s ≡ n) × (n ≡ 0 → ⊥)) (eqb (faultOf s) 0)
+  refused-as : (n : ℕ) → readAs k s ≡ refused n → (faultAs k s ≡ n) × (n ≡ 0 → ⊥)
+  unfolding readAs
+  refused-as n =
+      cond-cases (λ w. w ≡ refused n → (faultAs k s ≡ n) × (n ≡ 0 → ⊥)) (eqb (faultAs k s) 0)
       (λ z e. let never : _≡_ {A = ℕ} 0 1 = cc in absurd (omega arith))
-      (λ z e. let same : faultOf s ≡ n = cc in (same, λ y. eqb-false (faultOf s) 0 z (same ∙ y)))
+      (λ z e. let same : faultAs k s ≡ n = cc in (same, λ y. eqb-false (faultAs k s) 0 z (same ∙ y)))
 
-  -- An accepted file's recorder is within all ranges,
-  pub accepted-valid : (R : Recorder) → readOf s ≡ accepted R → Valid R
-  accepted-valid R e =
-      let p = accepted-is R e in
-      subst Valid (p .1) (valid s (faultless s (p .0)))
+  -- The recorder of what is accepted is within all ranges,
+  pub valid-as : (R : Recorder) → readAs k s ≡ accepted R → Valid R
+  valid-as R e =
+      let p = accepted-as R e in
+      subst Valid (p .1) (valid k s (faultless k s (p .0)))
 
-  -- and the file has at most 173 bytes.
-  pub accepted-short : (R : Recorder) → readOf s ≡ accepted R → length s ≤ 173
+  -- and there are few bytes.
+  pub short-as : (R : Recorder) → readAs k s ≡ accepted R → length s ≤ 117 + 8 * deviceMost k
   unfolding countOf
-  accepted-short R e =
-      let ok = faultless s (accepted-is R e .0) in
-      omega (arith, ok, ok .jobs .whole, jobs-end (taskCount s) (pairAt s 0) (byteAt s (jobsPlace s)) _ (jobsPlace s) (ok .few-tasks) (omega (arith, ok)) (ok .jobs .apart) (ok .jobs .few-jobs))
+  short-as R e =
+      let ok = faultless k s (accepted-as R e .0) in
+      let at = jobsPlace k s in
+      let start : at ≤ 4 + 8 * deviceMost k + taskCount k s * 5 = omega (arith, place-most k s (byteAt s 2) (ok .few-devices)) in
+      omega (arith, ok .jobs .whole, jobs-end (taskCount k s) (pairAt s 0) (byteAt s at) _ at (4 + 8 * deviceMost k) (ok .few-tasks) start (ok .jobs .apart) (ok .jobs .few-jobs))
 
-  -- A refusal of the file is one of the numbers 1 to 13.
+  -- A refusal is one of the numbers 1 to 13.
+  pub number-as : (n : ℕ) → readAs k s ≡ refused n → (1 ≤ n) × (n ≤ 13)
+  number-as n e =
+      let p = refused-as n e in
+      (pos-of-ne-zero (p .1), rw (← p .0) (fault-le k s))
+
+-- The same of a file, read by its own kind.
+module _ (s : List ℕ) where
+  pub accepted-valid : (R : Recorder) → readOf s ≡ accepted R → Valid R
+  unfolding readOf
+  accepted-valid R e = valid-as (kindOf s) (bodyOf s) R e
+
   pub refused-number : (n : ℕ) → readOf s ≡ refused n → (1 ≤ n) × (n ≤ 13)
-  refused-number n e =
-      let p = refused-is n e in
-      (pos-of-ne-zero (p .1), rw (← p .0) (fault-le s))
+  unfolding readOf
+  refused-number n e = number-as (kindOf s) (bodyOf s) n e
+
+-- The longest file of a kind that is accepted: 173 bytes in the first, 199 in the second.
+abbrev pub longest : Kind → ℕ
+longest k = length (marker k) + (117 + 8 * deviceMost k)
+
+pub accepted-short : (s : List ℕ) (R : Recorder) → readOf s ≡ accepted R → length s ≤ longest (kindOf s)
+unfolding readOf
+accepted-short s R e = omega (arith, short-as (kindOf s) (bodyOf s) R e, length-append (marker (kindOf s)) (bodyOf s), ap length (mark-front s))
 
 -- ---- what is handed on
 
@@ -125,9 +149,17 @@ handed-other (refused n) r e h = cc
 handed-other (accepted R) r e h = absurd (h (cc))
 
 -- Number 0 says that the file is accepted, with the recorder; any other is its refusal.
+module _ (k : Kind) (s : List ℕ) (r : Request) (e : r ≡ handedOn (readAs k s)) where
+  pub accepted-by : r .number ≡ 0 → readAs k s ≡ accepted (r .recorder)
+  accepted-by z = handed-zero (readAs k s) r (λ n q. refused-as k s n q .1) e z
+
+  pub refused-by : (r .number ≡ 0 → ⊥) → readAs k s ≡ refused (r .number)
+  refused-by h = handed-other (readAs k s) r e h
+
 module _ (s : List ℕ) (r : Request) (e : r ≡ handedOn (readOf s)) where
   pub read-accepted : r .number ≡ 0 → readOf s ≡ accepted (r .recorder)
-  read-accepted z = handed-zero (readOf s) r (λ n q. refused-is s n q .1) e z
+  unfolding readOf
+  read-accepted z = accepted-by (kindOf s) (bodyOf s) r e z
 
   pub read-refused : (r .number ≡ 0 → ⊥) → readOf s ≡ refused (r .number)
   read-refused h = handed-other (readOf s) r e h

@@ -9,36 +9,36 @@ use lib.ListN.{length}
 use lib.Dec.{ltb}
 use borrow.Author.Tests.{ltb-false, eqb-false}
 use Rattle.base.specs.Bytes.{pairAt}
-use Rattle.base.specs.Refusals.{firstThat}
+use Rattle.base.specs.Refusals.{firstThat, after}
 use Rattle.base.proofs.Clear.{allFalse, numbered, passed, clear}
 use Rattle.base.proofs.Paths.{lt-then, lt-else}
-use Rattle.base.proofs.Records.{first-room, first-each}
+use Rattle.base.proofs.Records.{first-room, first-even, after-even}
 use Rattle.request.specs.declared.Section.{Section}
-use Rattle.request.specs.declared.Section.the-variants.{TaskRecords}
+use Rattle.request.specs.declared.Section.the-variants.{TaskRecords, JobRecords}
 use Rattle.request.specs.Held.{SoundTasks}
 use Rattle.request.specs.Format.{taskTable, sizeOf, recordTable, recordFault, recordsFault}
 
 module _ (s : List ℕ) (k : Section) (at : ℕ) where
-  pub record-short : length s - at < sizeOf k → 1 ≡ recordFault s k at
+  pub record-short : length s - at < sizeOf s k at → 1 ≡ recordFault s k at
   unfolding recordFault
   record-short h = lt-then _ _ _ _ h refl
 
-  pub record-there : (r : ℕ) → sizeOf k ≤ length s - at → r ≡ firstThat (recordTable s k at) → r ≡ recordFault s k at
+  pub record-there : (r : ℕ) → sizeOf s k at ≤ length s - at → r ≡ firstThat (recordTable s k at) → r ≡ recordFault s k at
   unfolding recordFault
   record-there r h e = lt-else _ _ _ _ h e
 
   -- A record that is not refused lies within the file,
-  pub record-room : at ≤ length s → 0 ≡ recordFault s k at → at + sizeOf k ≤ length s
+  pub record-room : at ≤ length s → 0 ≡ recordFault s k at → at + sizeOf s k at ≤ length s
   unfolding recordFault
-  record-room h e = omega (arith, ltb-false (length s - at) (sizeOf k) (passed _ 1 _ tt e .0))
+  record-room h e = omega (arith, ltb-false (length s - at) (sizeOf s k at) (passed _ 1 _ tt e .0))
 
   -- and no test of its table holds.
   pub record-clear : numbered (recordTable s k at) → 0 ≡ recordFault s k at → allFalse (recordTable s k at)
   unfolding recordFault
-  record-clear n e = clear (recordTable s k at) n (passed (ltb (length s - at) (sizeOf k)) 1 _ tt e .1)
+  record-clear n e = clear (recordTable s k at) n (passed (ltb (length s - at) (sizeOf s k at)) 1 _ tt e .1)
 
-pub records-room : (s : List ℕ) (k : Section) (n at : ℕ) → at ≤ length s → 0 ≡ recordsFault s k n at → at + n * sizeOf k ≤ length s
-records-room s k = first-room (recordFault s k) (sizeOf k) (length s) (record-room s k)
+pub records-room : (s : List ℕ) (k : Section) (n at : ℕ) → at ≤ length s → 0 ≡ recordsFault s k n at → after (sizeOf s k) n at ≤ length s
+records-room s k = first-room (recordFault s k) (sizeOf s k) (length s) (record-room s k)
 
 -- A task that is not refused has a period from 1 to 4,096.
 task-period : (s : List ℕ) (d at : ℕ) → 0 ≡ recordFault s (TaskRecords d) at → (0 < pairAt s at) × (pairAt s at ≤ 4096)
@@ -50,9 +50,12 @@ task-period s d at e =
 pub tasks-sound : (s : List ℕ) (d n from : ℕ) → from ≤ length s → 0 ≡ recordsFault s (TaskRecords d) n from → SoundTasks s n from
 tasks-sound s d n from h e =
     record {
-      there = records-room s (TaskRecords d) n from h e;
-      periods = λ i l. task-period s d (from + i * 5) (first-each (recordFault s (TaskRecords d)) 5 n from i l e);
+      there = rw (after-even 5 n from) at (records-room s (TaskRecords d) n from h e);
+      periods = λ i l. task-period s d (from + i * 5) (first-even (recordFault s (TaskRecords d)) 5 n from i l e);
     }
+
+pub jobs-room : (s : List ℕ) (d h n from : ℕ) → from ≤ length s → 0 ≡ recordsFault s (JobRecords d h) n from → from + n * 7 ≤ length s
+jobs-room s d h n from l e = rw (after-even 7 n from) at (records-room s (JobRecords d h) n from l e)
 
 -- The first of them, and the others.
 pub sound-first : (s : List ℕ) (n at : ℕ) → 0 < n → SoundTasks s n at → (0 < pairAt s at) × (pairAt s at ≤ 4096)

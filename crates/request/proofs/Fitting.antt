@@ -12,7 +12,7 @@ use borrow.Author.Tests.{ltb-false, eqb-true, eqb-false}
 use Rattle.base.specs.Bytes.{byteAt, pairAt}
 use Rattle.base.proofs.Cases.{cond-cases}
 use Rattle.base.proofs.Every.{Every, every-append, every-upTo}
-use Rattle.base.proofs.Records.{first-each}
+use Rattle.base.proofs.Records.{first-even}
 use Rattle.schedule.specs.declared.Job.{Job}
 use Rattle.request.specs.declared.Section.the-variants.{TaskRecords, JobRecords}
 use Rattle.tables.specs.Records.{taskAt, jobAt}
@@ -43,7 +43,7 @@ job-fits s n h at e =
 
 pub listed-fit : (s : List ℕ) (n h count at : ℕ) → 0 ≡ recordsFault s (JobRecords n h) count at → Every (Fits h n) (listed s count at)
 listed-fit s n h count at e =
-    every-upTo (Fits h n) (λ (j : ℕ). listedJob (jobAt s (at + j * 7))) count (λ j l. job-fits s n h (at + j * 7) (first-each (recordFault s (JobRecords n h)) 7 count at j l e))
+    every-upTo (Fits h n) (λ (j : ℕ). listedJob (jobAt s (at + j * 7))) count (λ j l. job-fits s n h (at + j * 7) (first-even (recordFault s (JobRecords n h)) 7 count at j l e))
 
 -- ---- unfolded jobs
 
@@ -74,7 +74,7 @@ module _ (s : List ℕ) (n h : ℕ) where
     released-fit zero t b l = tt
     released-fit (suc i) t b l =
         let at = from + i * 5 in
-        let e = first-each (recordFault s (TaskRecords n)) 5 tasks from i (omega arith) ok in
+        let e = first-even (recordFault s (TaskRecords n)) 5 tasks from i (omega arith) ok in
         every-append (Fits h n) (releasedAt s i from t) (released (taskAt s at) t)
         (released-fit i t (omega arith) l)
         (cond-cases (Every (Fits h n)) (eqb (t % pairAt s at) 0) (λ z. (release-fits at t e (each i (omega arith)) l (eqb-true _ 0 z), tt)) (λ z. tt))

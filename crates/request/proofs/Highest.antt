@@ -8,9 +8,10 @@ use lib.Dec.{T, leb, ltb, eqb, leb→le}
 use lib.ListN.{length}
 use Rattle.base.specs.Refusals.{Refusal, firstThat, orElse, firstOf}
 use Rattle.base.proofs.Cases.{cond-cases}
+use Rattle.tables.specs.declared.Kind.{Kind}
 use Rattle.request.specs.declared.Section.{Section}
 use Rattle.request.specs.declared.Section.the-variants.{DeviceRecords, TaskRecords, JobRecords}
-use Rattle.request.specs.Format.{sizeOf, deviceTable, taskTable, jobTable, recordTable, recordFault, recordsFault, jobRecords, jobSection, taskSection, faultOf}
+use Rattle.request.specs.Format.{sizeOf, deviceTable, taskTable, jobTable, recordTable, recordFault, recordsFault, jobRecords, jobSection, taskSection, faultAs}
 
 -- One test, and the first of two refusals.
 stop-le : (t : Bool) (n rest : ℕ) → T (leb n 13) → rest ≤ 13 → cond t n rest ≤ 13
@@ -19,10 +20,10 @@ stop-le t n rest h l = cond-cases (λ x. x ≤ 13) t (λ _. leb→le n 13 h) (λ
 else-le : (f rest : ℕ) → f ≤ 13 → rest ≤ 13 → orElse f rest ≤ 13
 else-le f rest h l = cond-cases (λ x. x ≤ 13) (eqb f 0) (λ _. l) (λ _. h)
 
-first-le : (f : ℕ → ℕ) (size : ℕ) → ((at : ℕ) → f at ≤ 13) → (n at : ℕ) → firstOf f size n at ≤ 13
+first-le : (f : ℕ → ℕ) (size : ℕ → ℕ) → ((at : ℕ) → f at ≤ 13) → (n at : ℕ) → firstOf f size n at ≤ 13
 unfolding firstOf
 first-le f size h zero at = omega arith
-first-le f size h (suc n) at = else-le (f at) _ (h at) (first-le f size h n (at + size))
+first-le f size h (suc n) at = else-le (f at) _ (h at) (first-le f size h n (at + size at))
 
 -- A table whose numbers are not above 13: at a written-out table `(tt, (tt, .. tt))`.
 abbrev allLow : List Refusal → Type 0
@@ -35,14 +36,14 @@ table-le (r ∷ rs) h = stop-le (r .test) (r .number) (firstThat rs) (h .0) (tab
 
 tables-low : (s : List ℕ) (k : Section) (at : ℕ) → allLow (recordTable s k at)
 unfolding recordTable deviceTable taskTable jobTable
-tables-low s DeviceRecords at = (tt, (tt, (tt, tt)))
+tables-low s (DeviceRecords k) at = (tt, (tt, (tt, (tt, (tt, tt)))))
 tables-low s (TaskRecords n) at = (tt, (tt, (tt, (tt, (tt, tt)))))
 tables-low s (JobRecords n h) at = (tt, (tt, (tt, (tt, tt))))
 
 records-le : (s : List ℕ) (k : Section) (n at : ℕ) → recordsFault s k n at ≤ 13
 unfolding recordFault
 records-le s k n at =
-    first-le (recordFault s k) (sizeOf k) (λ i. stop-le (ltb (length s - i) (sizeOf k)) 1 _ tt (table-le (recordTable s k i) (tables-low s k i))) n at
+    first-le (recordFault s k) (sizeOf s k) (λ i. stop-le (ltb (length s - i) (sizeOf s k i)) 1 _ tt (table-le (recordTable s k i) (tables-low s k i))) n at
 
 none-le : 0 ≤ 13
 none-le = omega arith
@@ -61,6 +62,6 @@ tasks-le : (s : List ℕ) (n at : ℕ) → taskSection s n at ≤ 13
 unfolding taskSection
 tasks-le s n at = search (low, section-le)
 
-pub fault-le : (s : List ℕ) → faultOf s ≤ 13
-unfolding faultOf
-fault-le s = search (low, tasks-le)
+pub fault-le : (k : Kind) (s : List ℕ) → faultAs k s ≤ 13
+unfolding faultAs
+fault-le k s = search (low, tasks-le)

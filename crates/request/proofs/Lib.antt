@@ -10,4 +10,5 @@ pub mod Highest
 pub mod Accepted
 pub mod Alike
 pub mod Beyond
+pub mod Marks
 pub mod Cutting

@@ -112,10 +112,10 @@ le-lcm a b h =
 -- ---- of the periods of n tasks, of which the records begin at a place
 
 -- The places of the first and of the further records.
-first : (at : ℕ) → at + 0 * 5 ≡ at
+pub first : (at : ℕ) → at + 0 * 5 ≡ at
 first at = omega arith
 
-next : (at i : ℕ) → at + suc i * 5 ≡ at + 5 + i * 5
+pub next : (at i : ℕ) → at + suc i * 5 ≡ at + 5 + i * 5
 next at i = omega arith
 
 module _ (s : List ℕ) where

@@ -13,10 +13,11 @@ use Rattle.base.specs.Sums.{total, sum}
 use Rattle.base.proofs.Additions.{total-append, total-low, total-high, sum-same}
 use Rattle.base.proofs.Arrays.{length-upTo}
 use Rattle.schedule.specs.declared.Job.{Job}
+use Rattle.tables.specs.declared.Kind.{Kind}
 use Rattle.tables.specs.declared.TaskRecord.{TaskRecord}
 use Rattle.tables.specs.Records.{taskAt}
 use Rattle.tables.specs.Layout.{taskCount, tasksPlace}
-use Rattle.request.specs.Format.{jobOf, released, releasedAt, unfolded, horizonOf, jobsOf, faultOf, horizonIn, jobsIn}
+use Rattle.request.specs.Format.{jobOf, released, releasedAt, unfolded, horizonOf, jobsOf, faultAs, horizonIn, jobsIn}
 use Rattle.request.proofs.Checked.{tasks-sound}
 use Rattle.request.proofs.Faultless.{faultless}
 use Rattle.request.proofs.Multiples.{horizon-multiple}
@@ -87,16 +88,16 @@ module _ (f : Job → ℕ) (s : List ℕ) (from : ℕ) where
 
 -- The jobs of a file with tasks are those of its tasks,
 pub jobs-by-task :
-    (s : List ℕ) → 0 ≡ faultOf s → (taskCount s ≡ 0 → ⊥) → (f : Job → ℕ) →
-    total f (jobsIn s) ≡ sum (taskCount s) (λ i. total f (jobsOfTask (taskAt s (tasksPlace s + 1 + i * 5)) (horizonIn s)))
+    (k : Kind) (s : List ℕ) → 0 ≡ faultAs k s → (taskCount k s ≡ 0 → ⊥) → (f : Job → ℕ) →
+    total f (jobsIn k s) ≡ sum (taskCount k s) (λ i. total f (jobsOfTask (taskAt s (tasksPlace k s + 1 + i * 5)) (horizonIn k s)))
 unfolding jobsOf horizonOf
-jobs-by-task s e some f =
-    let ok = faultless s e in
-    let from = tasksPlace s + 1 in
-    let sound = tasks-sound s _ (taskCount s) from (omega (arith, ok .tasks-there)) (ok .task-records) in
-    rw (ne-eqb (taskCount s) 0 some)
-    (unfolded-total f s from (taskCount s) _ ∙
-    sum-same (taskCount s) _ _ (λ i l. ap (total f) (before-is (taskAt s (from + i * 5)) _ (sound .periods i l .0) (horizon-multiple s (taskCount s) from i l))))
+jobs-by-task k s e some f =
+    let ok = faultless k s e in
+    let from = tasksPlace k s + 1 in
+    let sound = tasks-sound s _ (taskCount k s) from (omega (arith, ok .tasks-there)) (ok .task-records) in
+    rw (ne-eqb (taskCount k s) 0 some)
+    (unfolded-total f s from (taskCount k s) _ ∙
+    sum-same (taskCount k s) _ _ (λ i l. ap (total f) (before-is (taskAt s (from + i * 5)) _ (sound .periods i l .0) (horizon-multiple s (taskCount k s) from i l))))
 
 -- of which task i gives H / p;
 pub jobs-of-task : (k : TaskRecord) (h : ℕ) → length (jobsOfTask k h) ≡ h / k .period
@@ -107,8 +108,8 @@ length-total l = omega (arith, total-low (λ j. 1) 1 (λ j. omega arith) l, tota
 
 -- so many there are.
 pub count-by-task :
-    (s : List ℕ) → 0 ≡ faultOf s → (taskCount s ≡ 0 → ⊥) →
-    length (jobsIn s) ≡ sum (taskCount s) (λ i. horizonIn s / pairAt s (tasksPlace s + 1 + i * 5))
-count-by-task s e some =
-    sym (length-total (jobsIn s)) ∙ jobs-by-task s e some (λ j. 1) ∙
-    sum-same (taskCount s) _ _ (λ i l. let k = taskAt s (tasksPlace s + 1 + i * 5) in length-total (jobsOfTask k (horizonIn s)) ∙ jobs-of-task k (horizonIn s))
+    (k : Kind) (s : List ℕ) → 0 ≡ faultAs k s → (taskCount k s ≡ 0 → ⊥) →
+    length (jobsIn k s) ≡ sum (taskCount k s) (λ i. horizonIn k s / pairAt s (tasksPlace k s + 1 + i * 5))
+count-by-task k s e some =
+    sym (length-total (jobsIn k s)) ∙ jobs-by-task k s e some (λ j. 1) ∙
+    sum-same (taskCount k s) _ _ (λ i l. let t = taskAt s (tasksPlace k s + 1 + i * 5) in length-total (jobsOfTask t (horizonIn k s)) ∙ jobs-of-task t (horizonIn k s))

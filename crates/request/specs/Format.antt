@@ -1,4 +1,4 @@
--- The request file (rules 8 to 15): from a list of bytes to the recorder, or to its refusal, one of the numbers 1 to 13. The bytes are looked at in their
+-- The request file (rules 8 to 15 and 75 to 77): from a list of bytes to the recorder, or to its refusal, one of the numbers 1 to 13. The bytes are looked at in their
 -- order, and whatever is wrong first gives the number: each section takes the place where it begins, and goes on with the next.
 -- Assumes nothing.
 use Prim.Native.Nat.{ℕ, zero, suc, _+_, _-_, _*_, _/_, _%_, _^_}
@@ -14,11 +14,12 @@ use Rattle.schedule.specs.declared.Job.{Job}
 use Rattle.schedule.specs.declared.Jobs.{Jobs}
 use Rattle.schedule.specs.declared.Devices.{Devices}
 use Rattle.schedule.specs.declared.Recorder.{Recorder}
+use Rattle.tables.specs.declared.Kind.{Kind}
 use Rattle.tables.specs.declared.DeviceRecord.{DeviceRecord}
 use Rattle.tables.specs.declared.TaskRecord.{TaskRecord}
 use Rattle.tables.specs.declared.JobRecord.{JobRecord}
-use Rattle.tables.specs.Records.{deviceAt, taskAt, jobAt}
-use Rattle.tables.specs.Layout.{tasksPlace, taskCount, jobsPlace}
+use Rattle.tables.specs.Records.{deviceAt, deviceSize, taskAt, jobAt}
+use Rattle.tables.specs.Layout.{kindOf, bodyOf, devicePlace, tasksPlace, taskCount, jobsPlace}
 use Rattle.request.specs.declared.Request.{Request}
 use Rattle.request.specs.declared.Section.{Section}
 use Rattle.request.specs.declared.Section.the-variants.{DeviceRecords, TaskRecords, JobRecords}
@@ -38,9 +39,9 @@ bit set k = eqb (set / 2 ^ k % 2) 1
 abbrev pub setOf : ℕ → List Bool
 setOf set = upTo (bit set) 8
 
--- The device of a record (rule 3): both moves have the same time and power, and there is one sleep level.
+-- The device of a record (rule 3), whatever the kind of its file: there is one sleep level.
 abbrev pub deviceOf : DeviceRecord → Device
-deviceOf d = record { shut = d .t; wake = d .t; pw = d .pw; pd = d .p0; pu = d .p0; levels = 1; powers = d .ps ∷ 0 ∷ 0 ∷ 0 ∷ [] }
+deviceOf d = record { shut = d .shut; wake = d .wake; pw = d .pw; pd = d .pshut; pu = d .pwake; levels = 1; powers = d .ps ∷ 0 ∷ 0 ∷ 0 ∷ [] }
 
 abbrev pub listedJob : JobRecord → Job
 listedJob j = record { release = j .release; deadline = j .deadline; run = j .run; uses = setOf (j .set) }
@@ -49,8 +50,10 @@ listedJob j = record { release = j .release; deadline = j .deadline; run = j .ru
 
 unfoldable pub deviceTable : DeviceRecord → List Refusal
 deviceTable d =
-    (eqb (d .t) 0 ⇒ 4)
-    ∷ (leb (d .p0) (d .ps) ⇒ 5)
+    (eqb (d .wake) 0 ⇒ 4)
+    ∷ (eqb (d .shut) 0 ⇒ 4)
+    ∷ (leb (d .pwake) (d .ps) ⇒ 5)
+    ∷ (leb (d .pshut) (d .ps) ⇒ 5)
     ∷ (leb (d .pw) (d .ps) ⇒ 5)
     ∷ []
 
@@ -75,23 +78,24 @@ jobTable n h j =
     ∷ (ltb h (j .deadline) ⇒ 13)
     ∷ []
 
--- The bytes of a section's record, and its table: the devices, the tasks of a file with n devices, the jobs of one with n devices and the horizon h.
-abbrev pub sizeOf : Section → ℕ
-sizeOf DeviceRecords = 7
-sizeOf (TaskRecords n) = 5
-sizeOf (JobRecords n h) = 7
+-- The bytes of a section's record, and its table: the devices of a file of a kind, the tasks of one with n devices, the jobs of one with n devices and the
+-- horizon h.
+abbrev pub sizeOf : List ℕ → Section → ℕ → ℕ
+sizeOf s (DeviceRecords k) at = deviceSize k s at
+sizeOf s (TaskRecords n) at = 5
+sizeOf s (JobRecords n h) at = 7
 
 unfoldable pub recordTable : List ℕ → Section → ℕ → List Refusal
-recordTable s DeviceRecords at = deviceTable (deviceAt s at)
+recordTable s (DeviceRecords k) at = deviceTable (deviceAt k s at)
 recordTable s (TaskRecords n) at = taskTable n (taskAt s at)
 recordTable s (JobRecords n h) at = jobTable n h (jobAt s at)
 
 -- A record that is not all there is 1, before anything in it is judged; and the records of a section in turn (rule 15).
 unfoldable pub recordFault : List ℕ → Section → ℕ → ℕ
-recordFault s k at = cond (ltb (length s - at) (sizeOf k)) 1 (firstThat (recordTable s k at))
+recordFault s k at = cond (ltb (length s - at) (sizeOf s k at)) 1 (firstThat (recordTable s k at))
 
 abbrev pub recordsFault : List ℕ → Section → ℕ → ℕ → ℕ
-recordsFault s k n at = firstOf (recordFault s k) (sizeOf k) n at
+recordsFault s k n at = firstOf (recordFault s k) (sizeOf s k) n at
 
 -- ---- the horizon: `from` is the place of the first task's record
 
@@ -165,24 +169,24 @@ taskSection s n at =
     (orElse (recordsFault s (TaskRecords n) (byteAt s at) (at + 1))
     (jobSection s n (byteAt s at) (at + 1) (at + 1 + byteAt s at * 5))))
 
--- The refusal number of a file, 0 for none.
-unfoldable pub faultOf : List ℕ → ℕ
-faultOf s =
+-- The refusal number, 0 for none, of what follows the mark of a file of a kind.
+unfoldable pub faultAs : Kind → List ℕ → ℕ
+faultAs k s =
     cond (ltb (length s) 3) 1
     (cond (ltb 8 (byteAt s 2)) 3
-    (orElse (recordsFault s DeviceRecords (byteAt s 2) 3)
-    (taskSection s (byteAt s 2) (3 + byteAt s 2 * 7))))
+    (orElse (recordsFault s (DeviceRecords k) (byteAt s 2) 3)
+    (taskSection s (byteAt s 2) (tasksPlace k s))))
 
--- ---- what a file without a fault says
+-- ---- what a file without a fault says, after the mark of its kind
 
-abbrev pub horizonIn : List ℕ → ℕ
-horizonIn s = horizonOf s (taskCount s) (tasksPlace s + 1)
+abbrev pub horizonIn : Kind → List ℕ → ℕ
+horizonIn k s = horizonOf s (taskCount k s) (tasksPlace k s + 1)
 
-abbrev pub devicesIn : List ℕ → List Device
-devicesIn s = upTo (λ k. deviceOf (deviceAt s (3 + k * 7))) (byteAt s 2)
+abbrev pub devicesIn : Kind → List ℕ → List Device
+devicesIn k s = upTo (λ i. deviceOf (deviceAt k s (devicePlace k s i))) (byteAt s 2)
 
-abbrev pub jobsIn : List ℕ → List Job
-jobsIn s = jobsOf s (taskCount s) (tasksPlace s + 1) (jobsPlace s)
+abbrev pub jobsIn : Kind → List ℕ → List Job
+jobsIn k s = jobsOf s (taskCount k s) (tasksPlace k s + 1) (jobsPlace k s)
 
 -- A list of devices and one of jobs in their arrays. The places that hold none are all 0.
 abbrev pub emptyDevice : Device
@@ -197,11 +201,18 @@ devicesHeld l = record { count = length l; list = padded 8 emptyDevice l }
 abbrev pub jobsHeld : List Job → Jobs
 jobsHeld l = record { count = length l; list = padded 16 emptyJob l }
 
-unfoldable pub recorderIn : List ℕ → Recorder
-recorderIn s = record { horizon = horizonIn s; devices = devicesHeld (devicesIn s); jobs = jobsHeld (jobsIn s) }
+unfoldable pub recorderAs : Kind → List ℕ → Recorder
+recorderAs k s = record { horizon = horizonIn k s; devices = devicesHeld (devicesIn k s); jobs = jobsHeld (jobsIn k s) }
+
+-- The reading of a kind, and that of a file: by its own kind (rule 75).
+unfoldable pub readAs : Kind → List ℕ → Reading
+readAs k s = cond (eqb (faultAs k s) 0) (accepted (recorderAs k s)) (refused (faultAs k s))
+
+abbrev pub recorderIn : List ℕ → Recorder
+recorderIn s = recorderAs (kindOf s) (bodyOf s)
 
 unfoldable pub readOf : List ℕ → Reading
-readOf s = cond (eqb (faultOf s) 0) (accepted (recorderIn s)) (refused (faultOf s))
+readOf s = readAs (kindOf s) (bodyOf s)
 
 -- What the code hands on of a reading: its number, with the recorder or an empty one.
 abbrev pub noRecorder : Recorder

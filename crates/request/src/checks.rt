@@ -12,10 +12,16 @@ use tables::TaskRecord;
 fn device_check(d: DeviceRecord) -> u8
     ensures { λ r. ⌜ r ≡ firstThat (deviceTable d) ⌝ }
 {
-    if d.t == 0 {
+    if d.wake == 0 {
         return 4;
     }
-    if d.p0 <= d.ps {
+    if d.shut == 0 {
+        return 4;
+    }
+    if d.pwake <= d.ps {
+        return 5;
+    }
+    if d.pshut <= d.ps {
         return 5;
     }
     if d.pw <= d.ps {
@@ -79,12 +85,12 @@ fn job_check(n: usize, h: u32, j: JobRecord) -> u8
     0
 }
 
-// The bytes of a section's record.
-fn size_of(k: Section) -> usize
-    ensures { λ r. ⌜ r ≡ sizeOf k ⌝ }
+// The bytes of a section's record that stands at a place.
+fn size_of(s: &[u8], k: Section, at: usize) -> usize
+    ensures { λ r. ⌜ r ≡ sizeOf (now (s .entry)) k at ⌝ }
 {
     match k {
-        Section::DeviceRecords => 7,
+        Section::DeviceRecords(kind) => tables::device_size(s, kind, at),
         Section::TaskRecords(_) => 5,
         Section::JobRecords(_, _) => 7,
     }
@@ -95,11 +101,11 @@ fn record_fault(s: &[u8], k: Section, at: usize) -> u8
     requires { ⌜ at ≤ length (now s) ⌝ }
     ensures { λ r. ⌜ r ≡ recordFault (now (s .entry)) k at ⌝ }
 {
-    if s.len() - at < size_of(k) {
+    if s.len() - at < size_of(s, k, at) {
         return 1;
     }
     match k {
-        Section::DeviceRecords => device_check(tables::device_at(s, at)),
+        Section::DeviceRecords(kind) => device_check(tables::device_at(s, kind, at)),
         Section::TaskRecords(n) => task_check(n, tables::task_at(s, at)),
         Section::JobRecords(n, h) => job_check(n, h, tables::job_at(s, at)),
     }
@@ -110,7 +116,6 @@ pub(crate) fn records_fault(s: &[u8], k: Section, count: usize, from: usize) -> 
     requires { ⌜ from ≤ length (now s) ⌝ }
     ensures { λ r. ⌜ r ≡ recordsFault (now (s .entry)) k count from ⌝ }
 {
-    let size = size_of(k);
     let mut left = count;
     let mut at = from;
     while 0 < left {
@@ -119,7 +124,7 @@ pub(crate) fn records_fault(s: &[u8], k: Section, count: usize, from: usize) -> 
             return f;
         }
         left -= 1;
-        at += size;
+        at += size_of(s, k, at);
     }
     0
 }

@@ -1,17 +1,19 @@
 // What a file without a fault says, laid out in arrays: the search reads devices and jobs at every vertex.
 ghost use mathlib.Core.Path.{_≡_};
 ghost use mathlib.Core.List.{[]};
-ghost use Prim.Native.Nat.{ℕ, _+_, _*_, _≤_};
+ghost use Prim.Native.Nat.{ℕ, _≤_};
 ghost use lib.ListN.{length};
 ghost use Rattle.base.specs.Lists.{upTo};
 ghost use Rattle.tables.specs.Records.{deviceAt};
-ghost use Rattle.request.specs.Format.{deviceOf, devicesHeld, faultOf, recorderIn, noRecorder};
+ghost use Rattle.tables.specs.Layout.{devicePlace};
+ghost use Rattle.request.specs.Format.{deviceOf, devicesHeld, faultAs, recorderAs, noRecorder};
 use super::horizon;
 use super::jobs;
 use super::records;
 use device::Device;
 use schedule::Devices;
 use schedule::Recorder;
+use tables::Kind;
 
 fn no_devices() -> Devices
     ensures { λ r. ⌜ r ≡ devicesHeld [] ⌝ }
@@ -31,15 +33,17 @@ fn no_devices() -> Devices
     }
 }
 
-// The first n devices of the file.
-fn devices_of(s: &[u8], n: usize) -> Devices
-    requires { ⌜ (n ≤ 8) × (3 + n * 7 ≤ length (now s)) ⌝ }
-    ensures { λ r. ⌜ r ≡ devicesHeld (upTo (λ k. deviceOf (deviceAt (now (s .entry)) (3 + k * 7))) n) ⌝ }
+// The first n devices of a file of a kind: each record stands after the one before it.
+fn devices_of(s: &[u8], kind: Kind, n: usize) -> Devices
+    requires { ⌜ (n ≤ 8) × (devicePlace kind (now s) n ≤ length (now s)) ⌝ }
+    ensures { λ r. ⌜ r ≡ devicesHeld (upTo (λ k. deviceOf (deviceAt kind (now (s .entry)) (devicePlace kind (now (s .entry)) k))) n) ⌝ }
 {
     let mut devices = no_devices();
+    let mut at: usize = 3;
     let mut k: usize = 0;
     while k < n {
-        devices.list[k] = records::device_of(tables::device_at(s, 3 + k * 7));
+        devices.list[k] = records::device_of(tables::device_at(s, kind, at));
+        at += tables::device_size(s, kind, at);
         k += 1;
     }
     devices.count = n;
@@ -47,15 +51,15 @@ fn devices_of(s: &[u8], n: usize) -> Devices
 }
 
 // The recorder of a file without a fault.
-pub(crate) fn recorder_in(s: &[u8]) -> Recorder
-    requires { ⌜ 0 ≡ faultOf (now s) ⌝ }
-    ensures { λ r. ⌜ r ≡ recorderIn (now (s .entry)) ⌝ }
+pub(crate) fn recorder_in(s: &[u8], kind: Kind) -> Recorder
+    requires { ⌜ 0 ≡ faultAs kind (now s) ⌝ }
+    ensures { λ r. ⌜ r ≡ recorderAs kind (now (s .entry)) ⌝ }
 {
     let n = s[2] as usize;
-    let place = 3 + n * 7;
+    let place = tables::device_place(s, kind, n);
     let tasks = s[place] as usize;
     let h = horizon::horizon_of(s, tasks, place + 1);
-    let devices = devices_of(s, n);
+    let devices = devices_of(s, kind, n);
     let jobs = jobs::jobs_of(s, tasks, place + 1, place + 1 + tasks * 5, h);
     Recorder {
         horizon: h as u16,

@@ -8,12 +8,16 @@ mod records; // records.rt: what is planned with, from the records of the file
 mod sections; // sections.rt: the sections in turn, and the first fault
 
 ghost use mathlib.Core.Path.{_≡_};
-ghost use Rattle.request.specs.Format.{readOf, handedOn};
+ghost use Prim.Native.Nat.{_≤_};
+ghost use lib.ListN.{length, drop};
+ghost use Rattle.tables.specs.Layout.{marker};
+ghost use Rattle.request.specs.Format.{readAs, readOf, handedOn};
 use schedule::Recorder;
+use tables::Kind;
 
-// The records of a section, and what one is checked against besides itself: the number of devices, and for jobs the horizon.
+// The records of a section, and what one is checked against besides itself: the kind of the file; the number of devices, and for jobs the horizon.
 pub enum Section {
-    DeviceRecords,
+    DeviceRecords(Kind),
     TaskRecords(usize),
     JobRecords(usize, u32),
 }
@@ -24,13 +28,30 @@ pub struct Request {
     pub recorder: Recorder,
 }
 
-// Reads a file of whatever bytes. A first pass looks for a fault; only a file without one is laid out, so that no loop carries both a fault and an array.
+// Reads a file of whatever bytes, by its own kind.
 pub fn read(s: &[u8]) -> Request
     ensures { λ r. ⌜ r ≡ handedOn (readOf (now (s .entry))) ⌝ }
 {
-    let number = sections::fault_of(s);
+    read_by(s, tables::kind_of(s))
+}
+
+// Reads a file by a kind, whatever its first bytes say: what stands in the place of the mark is passed over.
+pub fn read_by(s: &[u8], kind: Kind) -> Request
+    requires { ⌜ length (marker kind) ≤ length (now s) ⌝ }
+    ensures { λ r. ⌜ r ≡ handedOn (readAs kind (drop (length (marker kind)) (now (s .entry)))) ⌝ }
+{
+    let from = tables::marker_size(kind);
+    read_as(&s[from..], kind)
+}
+
+// Reads what follows the mark of a file of a kind. A first pass looks for a fault; only a file without one is laid out, so that no loop carries both a fault and
+// an array.
+fn read_as(s: &[u8], kind: Kind) -> Request
+    ensures { λ r. ⌜ r ≡ handedOn (readAs kind (now (s .entry))) ⌝ }
+{
+    let number = sections::fault_of(s, kind);
     if number == 0 {
-        let recorder = layout::recorder_in(s);
+        let recorder = layout::recorder_in(s, kind);
         Request {
             number: 0,
             recorder,

@@ -26,16 +26,16 @@ pub(crate) fn set_of(set: u8) -> [bool; 8]
     uses
 }
 
-// Both moves have the same time and power, and there is one sleep level (rule 3).
+// There is one sleep level (rule 3).
 pub(crate) fn device_of(d: DeviceRecord) -> Device
     ensures { λ r. ⌜ r ≡ deviceOf d ⌝ }
 {
     Device {
-        shut: d.t,
-        wake: d.t,
+        shut: d.shut,
+        wake: d.wake,
         pw: d.pw,
-        pd: d.p0,
-        pu: d.p0,
+        pd: d.pshut,
+        pu: d.pwake,
         levels: 1,
         powers: [d.ps, 0, 0, 0],
     }

@@ -3,12 +3,13 @@ ghost use mathlib.Core.Path.{_≡_};
 ghost use Prim.Native.Nat.{ℕ, _+_, _*_, _≤_, _<_, min};
 ghost use lib.ListN.{length};
 ghost use Rattle.base.specs.Bytes.{byteAt, pairAt};
-ghost use Rattle.request.specs.Format.{mixed, countOf, jobRecords, jobSection, taskSection, faultOf};
+ghost use Rattle.request.specs.Format.{mixed, countOf, jobRecords, jobSection, taskSection, faultAs};
 ghost use Rattle.request.specs.Held.{SoundTasks};
 use super::Section;
 use super::checks;
 use super::horizon;
 use super::jobs;
+use tables::Kind;
 
 // Tasks are given, and the horizon field or the job count, which stands at a place, is not 0.
 fn is_mixed(s: &[u8], tasks: usize, at: usize) -> bool
@@ -95,9 +96,9 @@ fn task_section(s: &[u8], n: usize, at: usize) -> u8
     job_section(s, n, tasks, at + 1, at + 1 + tasks * 5)
 }
 
-// The refusal number of a file.
-pub(crate) fn fault_of(s: &[u8]) -> u8
-    ensures { λ r. ⌜ r ≡ faultOf (now (s .entry)) ⌝ }
+// The refusal number of what follows the mark of a file of a kind.
+pub(crate) fn fault_of(s: &[u8], kind: Kind) -> u8
+    ensures { λ r. ⌜ r ≡ faultAs kind (now (s .entry)) ⌝ }
 {
     if s.len() < 3 {
         return 1;
@@ -106,9 +107,9 @@ pub(crate) fn fault_of(s: &[u8]) -> u8
     if 8 < n {
         return 3;
     }
-    let f = checks::records_fault(s, Section::DeviceRecords, n, 3);
+    let f = checks::records_fault(s, Section::DeviceRecords(kind), n, 3);
     if f != 0 {
         return f;
     }
-    task_section(s, n, 3 + n * 7)
+    task_section(s, n, tables::device_place(s, kind, n))
 }

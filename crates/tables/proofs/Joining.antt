@@ -2,15 +2,20 @@
 -- Assumes nothing.
 use mathlib.Core.Path.{_≡_, refl}
 use mathlib.Core.List.{List, _++_}
-use Prim.Native.Nat.{ℕ, zero, suc, _+_, _*_, _<_, _≤_}
+use Prim.Native.Nat.{ℕ, zero, suc, _+_, _*_, _<_, _≤_, min}
 use native.Mathlib.Omega.{arith}
-use native.Mathlib.Nat.{suc-mul}
+use native.Mathlib.Decide.{decLt}
+use native.Mathlib.Nat.{suc-mul, le-refl}
 use native.Mathlib.Numerals.{add-one}
 use lib.ListN.{length, length-append}
+use Rattle.tables.specs.declared.Kind.{Kind}
+use Rattle.tables.specs.declared.Kind.the-variants.{First, Second}
+use Rattle.tables.specs.declared.DeviceRecord.{DeviceRecord}
 use Rattle.tables.specs.declared.Tables.{Tables}
 use Rattle.tables.specs.declared.Part.{Part}
 use Rattle.tables.specs.declared.Part.the-variants.{Devices, Tasks, Jobs}
-use Rattle.tables.specs.Layout.{joined, countIn, recordIn, sizeIn, sectionOf, bytesOf}
+use Rattle.tables.specs.Records.{deviceBytes}
+use Rattle.tables.specs.Layout.{marker, deviceIn, joined, countIn, recordIn, sectionOf, layoutOf, bytesOf}
 use Rattle.tables.specs.Held.{cut}
 
 pub joined-more : (g : ℕ → List ℕ) (n : ℕ) → joined g (n + 1) ≡ joined g n ++ g n
@@ -22,24 +27,48 @@ unfolding joined
 length-joined g c zero h = omega arith
 length-joined g c (suc n) h = rw length-append (omega (arith, length-joined g c n (λ k l. h k (omega arith)), h n (omega arith), suc-mul n c))
 
--- A record has as many bytes as its table says.
-pub length-record : (T : Tables) (p : Part) (k : ℕ) → length (recordIn T p k) ≡ sizeIn p
-length-record T Devices k = refl
-length-record T Tasks k = refl
-length-record T Jobs k = refl
+-- Of unequal lengths: no more than so many each, and the more lists the longer.
+pub joined-most : (g : ℕ → List ℕ) (c n : ℕ) → ((k : ℕ) → length (g k) ≤ c) → length (joined g n) ≤ n * c
+unfolding joined
+joined-most g c zero h = omega arith
+joined-most g c (suc n) h = rw length-append (omega (arith, joined-most g c n h, h n, suc-mul n c))
 
-pub length-records : (T : Tables) (p : Part) (n : ℕ) → length (joined (recordIn T p) n) ≡ n * sizeIn p
-length-records T p n = length-joined (recordIn T p) (sizeIn p) n (λ k l. length-record T p k)
+pub joined-le : (g : ℕ → List ℕ) (m n : ℕ) → m ≤ n → length (joined g m) ≤ length (joined g n)
+unfolding joined
+joined-le g m zero h = let e : m ≡ 0 = omega arith in rw e (le-refl (length (joined g 0)))
+joined-le g m (suc n) h =
+    elim (decLt n m) [
+      | yes l ↦ let e : m ≡ suc n = omega arith in rw e (le-refl (length (joined g (suc n))))
+      | no l ↦ rw length-append (omega (arith, joined-le g m n (omega arith)))
+    ]
 
-pub length-section : (T : Tables) (p : Part) → length (sectionOf T p) ≡ 1 + countIn T p * sizeIn p
-unfolding sectionOf
-length-section T p = omega (arith, length-records T p (countIn T p))
+-- ---- the tables' records
 
-pub length-bytes : (T : Tables) → length (bytesOf T) ≡ 5 + T .devices .count * 7 + T .tasks .count * 5 + T .jobs .count * 7
-unfolding bytesOf
-length-bytes T =
-    let tail = sectionOf T Tasks ++ sectionOf T Jobs in
-    omega (arith, length-append (sectionOf T Devices) tail, length-append (sectionOf T Tasks) (sectionOf T Jobs), length-section T Devices, length-section T Tasks, length-section T Jobs)
+length-device : (k : Kind) (d : DeviceRecord) → length (deviceBytes k d) ≤ 10
+length-device First d = omega arith
+length-device Second d = omega arith
+
+pub length-marker : (k : Kind) → length (marker k) ≤ 2
+length-marker First = omega arith
+length-marker Second = omega arith
+
+module _ (T : Tables) where
+  pub length-devices : (n : ℕ) → length (joined (recordIn T Devices) n) ≤ n * 10
+  length-devices n = joined-most (recordIn T Devices) 10 n (λ k. length-device (T .kind) (deviceIn T k))
+
+  pub length-tasks : (n : ℕ) → length (joined (recordIn T Tasks) n) ≡ n * 5
+  length-tasks n = length-joined (recordIn T Tasks) 5 n (λ k l. refl)
+
+  pub length-jobs : (n : ℕ) → length (joined (recordIn T Jobs) n) ≡ n * 7
+  length-jobs n = length-joined (recordIn T Jobs) 7 n (λ k l. refl)
+
+  pub length-section : (p : Part) → length (sectionOf T p) ≡ 1 + length (joined (recordIn T p) (countIn T p))
+  unfolding sectionOf
+  length-section p = omega arith
+
+  pub length-layout : length (layoutOf T) ≡ 2 + length (sectionOf T Devices) + length (sectionOf T Tasks) + length (sectionOf T Jobs)
+  unfolding layoutOf
+  length-layout = omega (arith, length-append (sectionOf T Devices) (sectionOf T Tasks ++ sectionOf T Jobs), length-append (sectionOf T Tasks) (sectionOf T Jobs))
 
 -- Tables whose counts are cut have the same records, and fewer than 18 of each.
 pub record-cut : (T : Tables) (p : Part) → recordIn (cut T) p ≡ recordIn T p
@@ -48,13 +77,28 @@ record-cut T Devices = refl
 record-cut T Tasks = refl
 record-cut T Jobs = refl
 
--- So their bytes fit the array.
-pub cut-fits : (T : Tables) → length (bytesOf (cut T)) ≤ 232
-unfolding cut
-cut-fits T = omega (arith, length-bytes (cut T))
-
 pub count-cut : (T : Tables) (p : Part) → countIn (cut T) p ≤ 17
 unfolding cut
 count-cut T Devices = omega arith
 count-cut T Tasks = omega arith
 count-cut T Jobs = omega arith
+
+-- So each table of them is short,
+pub devices-short : (T : Tables) → length (sectionOf (cut T) Devices) ≤ 91
+unfolding cut
+devices-short T = omega (arith, length-section (cut T) Devices, length-devices (cut T) (min (T .devices .count) 9))
+
+pub tasks-short : (T : Tables) → length (sectionOf (cut T) Tasks) ≤ 46
+unfolding cut
+tasks-short T = omega (arith, length-section (cut T) Tasks, length-tasks (cut T) (min (T .tasks .count) 9))
+
+pub jobs-short : (T : Tables) → length (sectionOf (cut T) Jobs) ≤ 120
+unfolding cut
+jobs-short T = omega (arith, length-section (cut T) Jobs, length-jobs (cut T) (min (T .jobs .count) 17))
+
+-- and their bytes fit the array.
+pub cut-fits : (T : Tables) → length (bytesOf (cut T)) ≤ 261
+unfolding bytesOf
+cut-fits T =
+    rw length-append
+    (omega (arith, length-marker (cut T .kind), length-layout (cut T), devices-short T, tasks-short T, jobs-short T))

@@ -1,22 +1,24 @@
--- Parts of a list of bytes: where a section stands in the bytes of tables, and a file put together from its parts.
+-- Parts of a list of bytes: where a section stands in the layout of tables, and a file put together from its parts.
 -- Assumes nothing.
 use mathlib.Core.Path.{_≡_, refl, sym, ap, _∙_}
 use mathlib.Core.List.{List, [], _∷_, _++_, append-assoc, append-nil}
-use Prim.Native.Nat.{ℕ, zero, suc, _+_, _*_, _<_}
+use Prim.Native.Nat.{ℕ, zero, suc, _+_, _-_, _<_, _≤_}
 use native.Mathlib.Omega.{arith}
 use native.Mathlib.Decide.{decLt}
-use native.Mathlib.Nat.{suc-mul, zero-mul, suc-add, zero-add, add-zero, add-suc, mul-le-mul-right}
+use native.Mathlib.Nat.{suc-add, zero-add, add-zero, add-suc}
 use lib.ListN.{length, length-append, List·getD-append}
 use lib.Seq.{take-all}
 use Rattle.base.specs.Bytes.{byteAt}
 use Rattle.base.specs.Lists.{upTo}
+use Rattle.base.specs.Refusals as Refusals
 use Rattle.base.proofs.Arrays.{upTo-same, upTo-take}
+use Rattle.base.proofs.Records.{after-more, after-from}
 use Rattle.tables.specs.declared.Tables.{Tables}
 use Rattle.tables.specs.declared.Part.{Part}
 use Rattle.tables.specs.declared.Part.the-variants.{Devices, Tasks, Jobs}
 use Rattle.tables.specs.Records.{pairBytes}
-use Rattle.tables.specs.Layout.{joined, countIn, recordIn, sizeIn, sectionOf, bytesOf}
-use Rattle.tables.proofs.Joining.{length-joined, length-record, length-section}
+use Rattle.tables.specs.Layout.{joined, countIn, recordIn, sectionOf, layoutOf}
+use Rattle.tables.proofs.Joining.{joined-le, length-section}
 
 -- ---- a byte of lists that stand one after the other
 
@@ -27,24 +29,21 @@ byte-after (x ∷ a) b i = rw suc-add (byte-after a b i)
 byte-before : (a b : List ℕ) (i : ℕ) → i < length a → byteAt (a ++ b) i ≡ byteAt a i
 byte-before a b i h = List·getD-append a b 0 i h
 
--- A place in record k of those of a size c comes before record n.
-place-below : (c k n i : ℕ) → k < n → i < c → k * c + i < n * c
-place-below c k n i h l = omega (arith, mul-le-mul-right c h, suc-mul k c)
-
-byte-joined : (g : ℕ → List ℕ) (c : ℕ) → ((k : ℕ) → length (g k) ≡ c) → (n k i : ℕ) → k < n → i < c → byteAt (joined g n) (k * c + i) ≡ byteAt (g k) i
+-- A place in list k, of n that are joined, comes before their end; and byte i of it stands after those before it.
+joined-place : (g : ℕ → List ℕ) (n k i : ℕ) → k < n → i < length (g k) → length (joined g k) + i < length (joined g n)
 unfolding joined
-byte-joined g c s zero k i h l = absurd (omega arith)
-byte-joined g c s (suc n) k i h l =
-    let long : length (joined g n) ≡ n * c = length-joined g c n (λ j m. s j) in
+joined-place g n k i h l = omega (arith, joined-le g (suc k) n h, length-append (joined g k) (g k))
+
+byte-joined : (g : ℕ → List ℕ) (n k i : ℕ) → k < n → i < length (g k) → byteAt (joined g n) (length (joined g k) + i) ≡ byteAt (g k) i
+unfolding joined
+byte-joined g zero k i h l = absurd (omega arith)
+byte-joined g (suc n) k i h l =
     elim (decLt k n) [
-      | yes m ↦ byte-before (joined g n) (g n) (k * c + i) (rw long (place-below c k n i m l)) ∙ byte-joined g c s n k i m l
-      | no m ↦
-          let e : n ≡ k = omega arith in
-          let here : byteAt (joined g n ++ g n) (n * c + i) ≡ byteAt (g n) i = rw (← long) (byte-after (joined g n) (g n) i) in
-          rw (← e) here
+      | yes m ↦ byte-before (joined g n) (g n) (length (joined g k) + i) (joined-place g n k i m l) ∙ byte-joined g n k i m l
+      | no m ↦ let e : k ≡ n = omega arith in rw e (byte-after (joined g n) (g n) i)
     ]
 
--- ---- a section of the bytes of tables
+-- ---- a section of the layout of tables
 
 -- What stands before it and after it, and the place of its count.
 unfoldable before : Tables → Part → List ℕ
@@ -59,11 +58,11 @@ after T Jobs = []
 
 abbrev pub placeIn : Tables → Part → ℕ
 placeIn T Devices = 2
-placeIn T Tasks = 3 + T .devices .count * 7
-placeIn T Jobs = 3 + T .devices .count * 7 + 1 + T .tasks .count * 5
+placeIn T Tasks = 2 + length (sectionOf T Devices)
+placeIn T Jobs = 2 + length (sectionOf T Devices) + length (sectionOf T Tasks)
 
-parted : (T : Tables) (p : Part) → bytesOf T ≡ before T p ++ (sectionOf T p ++ after T p)
-unfolding bytesOf before after
+parted : (T : Tables) (p : Part) → layoutOf T ≡ before T p ++ (sectionOf T p ++ after T p)
+unfolding layoutOf before after
 parted T Devices = refl
 parted T Tasks = refl
 parted T Jobs =
@@ -75,33 +74,33 @@ parted T Jobs =
 length-before : (T : Tables) (p : Part) → length (before T p) ≡ placeIn T p
 unfolding before
 length-before T Devices = refl
-length-before T Tasks = omega (arith, length-section T Devices)
-length-before T Jobs = omega (arith, length-append (sectionOf T Devices) (sectionOf T Tasks), length-section T Devices, length-section T Tasks)
+length-before T Tasks = omega arith
+length-before T Jobs = omega (arith, length-append (sectionOf T Devices) (sectionOf T Tasks))
 
 -- Its count, and byte i of its record k.
-pub count-is : (T : Tables) (p : Part) → byteAt (bytesOf T) (placeIn T p) ≡ countIn T p
+pub count-is : (T : Tables) (p : Part) → byteAt (layoutOf T) (placeIn T p) ≡ countIn T p
 unfolding sectionOf
 count-is T p =
     let e : placeIn T p ≡ length (before T p) + 0 = omega (arith, length-before T p) in
     rw (parted T p, e) (byte-after (before T p) (sectionOf T p ++ after T p) 0)
 
 pub record-byte :
-    (T : Tables) (p : Part) (k i : ℕ) → k < countIn T p → i < sizeIn p
-    → byteAt (bytesOf T) (placeIn T p + 1 + k * sizeIn p + i) ≡ byteAt (recordIn T p k) i
+    (T : Tables) (p : Part) (k i : ℕ) → k < countIn T p → i < length (recordIn T p k)
+    → byteAt (layoutOf T) (placeIn T p + 1 + length (joined (recordIn T p) k) + i) ≡ byteAt (recordIn T p k) i
 unfolding sectionOf
 record-byte T p k i h l =
-    let n = countIn T p in
-    let records = joined (recordIn T p) n in
-    let e : placeIn T p + 1 + k * sizeIn p + i ≡ length (before T p) + suc (k * sizeIn p + i) = omega (arith, length-before T p) in
-    let long : length records ≡ n * sizeIn p = length-joined (recordIn T p) (sizeIn p) n (λ j m. length-record T p j) in
+    let g = recordIn T p in
+    let records = joined g (countIn T p) in
+    let at = length (joined g k) + i in
+    let e : placeIn T p + 1 + length (joined g k) + i ≡ length (before T p) + suc at = omega (arith, length-before T p) in
     rw (parted T p, e)
-    (byte-after (before T p) (sectionOf T p ++ after T p) (suc (k * sizeIn p + i)) ∙
-    byte-before records (after T p) (k * sizeIn p + i) (rw long (place-below (sizeIn p) k n i h l)) ∙
-    byte-joined (recordIn T p) (sizeIn p) (length-record T p) n k i h l)
+    (byte-after (before T p) (sectionOf T p ++ after T p) (suc at) ∙
+    byte-before records (after T p) at (joined-place g (countIn T p) k i h l) ∙
+    byte-joined g (countIn T p) k i h l)
 
 -- ---- two tables that begin alike: the same horizon field and the same records
 
-pub front-long : (T : Tables) (p : Part) → placeIn T p < length (bytesOf T)
+pub front-long : (T : Tables) (p : Part) → placeIn T p < length (layoutOf T)
 unfolding sectionOf
 front-long T p =
     rw (parted T p)
@@ -112,19 +111,26 @@ module _ (T U : Tables) (h : T .horizon ≡ U .horizon) (r : (p : Part) → reco
   unfolding sectionOf
   section-same p e = rw (e, r p)
 
-  front-same : (p : Part) → before T p ≡ before U p → (i : ℕ) → i < placeIn T p → byteAt (bytesOf T) i ≡ byteAt (bytesOf U) i
+  front-same : (p : Part) → before T p ≡ before U p → (i : ℕ) → i < placeIn T p → byteAt (layoutOf T) i ≡ byteAt (layoutOf U) i
   front-same p e i l =
       let m : i < length (before T p) = omega (arith, length-before T p) in
       rw (parted T p, parted U p, ← e)
       (byte-before (before T p) (sectionOf T p ++ after T p) i m ∙ sym (byte-before (before T p) (sectionOf U p ++ after U p) i m))
 
+  -- As many devices: the task count stands at the same place; as many tasks too: so does the job count.
+  pub tasks-at-same : T .devices .count ≡ U .devices .count → placeIn T Tasks ≡ placeIn U Tasks
+  tasks-at-same d = rw (section-same Devices d)
+
+  pub jobs-at-same : T .devices .count ≡ U .devices .count → T .tasks .count ≡ U .tasks .count → placeIn T Jobs ≡ placeIn U Jobs
+  jobs-at-same d k = rw (section-same Devices d, section-same Tasks k)
+
   -- As many devices: the same bytes up to the task count; as many tasks too: up to the job count.
-  pub tasks-front : T .devices .count ≡ U .devices .count → (i : ℕ) → i < placeIn T Tasks → byteAt (bytesOf T) i ≡ byteAt (bytesOf U) i
+  pub tasks-front : T .devices .count ≡ U .devices .count → (i : ℕ) → i < placeIn T Tasks → byteAt (layoutOf T) i ≡ byteAt (layoutOf U) i
   unfolding before
   tasks-front d = front-same Tasks (cc (h, section-same Devices d))
 
   pub jobs-front :
-      T .devices .count ≡ U .devices .count → T .tasks .count ≡ U .tasks .count → (i : ℕ) → i < placeIn T Jobs → byteAt (bytesOf T) i ≡ byteAt (bytesOf U) i
+      T .devices .count ≡ U .devices .count → T .tasks .count ≡ U .tasks .count → (i : ℕ) → i < placeIn T Jobs → byteAt (layoutOf T) i ≡ byteAt (layoutOf U) i
   unfolding before
   jobs-front d k = front-same Jobs (cc (h, section-same Devices d, section-same Tasks k))
 
@@ -142,12 +148,17 @@ module _ (s : List ℕ) where
       let e : at + m + n ≡ at + (m + n) = omega arith in
       rw (add-suc, e, ← append-assoc (part s at m) (part s (at + m) n) _, part-append at m n)
 
-  pub part-joined : (g : ℕ → List ℕ) (at c n : ℕ) → ((k : ℕ) → k < n → g k ≡ part s (at + k * c) c) → joined g n ≡ part s at (n * c)
+  pub part-joined :
+      (g : ℕ → List ℕ) (size : ℕ → ℕ) (at n : ℕ) → ((k : ℕ) → k < n → g k ≡ part s (Refusals.after size k at) (size (Refusals.after size k at)))
+      → joined g n ≡ part s at (Refusals.after size n at - at)
   unfolding joined upTo
-  part-joined g at c zero h = rw zero-mul
-  part-joined g at c (suc n) h =
-      let e : suc n * c ≡ n * c + c = suc-mul n c in
-      rw (part-joined g at c n (λ k l. h k (omega arith)), h n (omega arith), e) (part-append at (n * c) c)
+  part-joined g size at zero h = let e : at - at ≡ 0 = omega arith in rw e
+  part-joined g size at (suc n) h =
+      let p = Refusals.after size n at in
+      let low : at ≤ p = after-from size n at in
+      let e : Refusals.after size (suc n) at - at ≡ (p - at) + size p = omega (arith, after-more size n at) in
+      let f : at + (p - at) ≡ p = omega arith in
+      rw (part-joined g size at n (λ k l. h k (omega arith)), h n (omega arith), e) (rw f at (part-append at (p - at) (size p)))
 
   -- One byte, and those after it.
   pub part-cons : (at n : ℕ) → byteAt s at ∷ part s (at + 1) n ≡ part s at (1 + n)

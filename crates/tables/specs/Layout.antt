@@ -1,11 +1,16 @@
--- The tables of a request file and its bytes, one from the other (rule 10): the horizon field, then the devices, the tasks and the jobs, each table after its
--- count. Nothing is judged here. proofs/Back: reading the bytes of tables gives the tables again, and the bytes of the tables of a whole file are the file.
+-- The tables of a request file and its bytes, one from the other (rule 10): what marks its kind, the horizon field, then the devices, the tasks and the jobs,
+-- each table after its count. Nothing is judged here. proofs/Back: reading the bytes of tables gives the tables again, and the bytes of the tables of a whole file are the file.
 -- Assumes nothing.
 use Prim.Native.Nat.{ℕ, zero, suc, _+_, _*_, _<_}
 use mathlib.Core.List.{List, [], _∷_, _++_}
-use lib.ListN.{getD}
+use mathlib.Core.Bool.{cond}
+use lib.Dec.{eqb}
+use lib.ListN.{length, getD, drop}
 use Rattle.base.specs.Bytes.{byteAt, pairAt}
 use Rattle.base.specs.Lists.{upTo, padded}
+use Rattle.base.specs.Refusals.{after}
+use Rattle.tables.specs.declared.Kind.{Kind}
+use Rattle.tables.specs.declared.Kind.the-variants.{First, Second}
 use Rattle.tables.specs.declared.DeviceRecord.{DeviceRecord}
 use Rattle.tables.specs.declared.DeviceTable.{DeviceTable}
 use Rattle.tables.specs.declared.TaskRecord.{TaskRecord}
@@ -15,7 +20,21 @@ use Rattle.tables.specs.declared.JobTable.{JobTable}
 use Rattle.tables.specs.declared.Tables.{Tables}
 use Rattle.tables.specs.declared.Part.{Part}
 use Rattle.tables.specs.declared.Part.the-variants.{Devices, Tasks, Jobs}
-use Rattle.tables.specs.Records.{pairBytes, deviceAt, deviceBytes, taskAt, taskBytes, jobAt, jobBytes, blankDevice, blankTask, blankJob}
+use Rattle.tables.specs.Records.{pairBytes, deviceAt, deviceSize, deviceBytes, told, taskAt, taskBytes, jobAt, jobBytes, blankDevice, blankTask, blankJob}
+
+-- ---- the kind
+
+-- A file of the first kind has no mark, one of the second begins with FF 02 (rule 75).
+abbrev pub marker : Kind → List ℕ
+marker First = []
+marker Second = 255 ∷ 2 ∷ []
+
+unfoldable pub kindOf : List ℕ → Kind
+kindOf s = cond (eqb (byteAt s 0) 255) (cond (eqb (byteAt s 1) 2) Second First) First
+
+-- What follows the mark: the layout is the same in all kinds but for the device records.
+abbrev pub bodyOf : List ℕ → List ℕ
+bodyOf s = drop (length (marker (kindOf s))) s
 
 -- ---- from tables to bytes
 
@@ -29,21 +48,16 @@ taskIn T i = getD (T .tasks .list) i blankTask
 abbrev pub jobIn : Tables → ℕ → JobRecord
 jobIn T j = getD (T .jobs .list) j blankJob
 
--- Of each table its count, the bytes of one record, and how many they are.
+-- Of each table its count, and the bytes of one record.
 abbrev pub countIn : Tables → Part → ℕ
 countIn T Devices = T .devices .count
 countIn T Tasks = T .tasks .count
 countIn T Jobs = T .jobs .count
 
 abbrev pub recordIn : Tables → Part → ℕ → List ℕ
-recordIn T Devices k = deviceBytes (deviceIn T k)
+recordIn T Devices k = deviceBytes (T .kind) (deviceIn T k)
 recordIn T Tasks i = taskBytes (taskIn T i)
 recordIn T Jobs j = jobBytes (jobIn T j)
-
-abbrev pub sizeIn : Part → ℕ
-sizeIn Devices = 7
-sizeIn Tasks = 5
-sizeIn Jobs = 7
 
 -- The first n lists, one after the other.
 unfoldable pub joined : (ℕ → List ℕ) → ℕ → List ℕ
@@ -54,8 +68,11 @@ joined g (suc n) = joined g n ++ g n
 unfoldable pub sectionOf : Tables → Part → List ℕ
 sectionOf T p = countIn T p ∷ joined (recordIn T p) (countIn T p)
 
+unfoldable pub layoutOf : Tables → List ℕ
+layoutOf T = pairBytes (T .horizon) ++ (sectionOf T Devices ++ (sectionOf T Tasks ++ sectionOf T Jobs))
+
 unfoldable pub bytesOf : Tables → List ℕ
-bytesOf T = pairBytes (T .horizon) ++ (sectionOf T Devices ++ (sectionOf T Tasks ++ sectionOf T Jobs))
+bytesOf T = marker (T .kind) ++ layoutOf T
 
 -- ---- from bytes to tables
 
@@ -63,15 +80,18 @@ bytesOf T = pairBytes (T .horizon) ++ (sectionOf T Devices ++ (sectionOf T Tasks
 abbrev pub Bytes : List ℕ → Type 0
 Bytes s = (i : ℕ) → byteAt s i < 256
 
--- Where the task count and the job count stand, and the task count.
-abbrev pub tasksPlace : List ℕ → ℕ
-tasksPlace s = 3 + byteAt s 2 * 7
+-- Of what follows the mark, by kind: where device n's record stands, or would; where the task count and the job count stand, and the task count.
+abbrev pub devicePlace : Kind → List ℕ → ℕ → ℕ
+devicePlace k s n = after (deviceSize k s) n 3
 
-abbrev pub taskCount : List ℕ → ℕ
-taskCount s = byteAt s (tasksPlace s)
+abbrev pub tasksPlace : Kind → List ℕ → ℕ
+tasksPlace k s = devicePlace k s (byteAt s 2)
 
-abbrev pub jobsPlace : List ℕ → ℕ
-jobsPlace s = tasksPlace s + 1 + taskCount s * 5
+abbrev pub taskCount : Kind → List ℕ → ℕ
+taskCount k s = byteAt s (tasksPlace k s)
+
+abbrev pub jobsPlace : Kind → List ℕ → ℕ
+jobsPlace k s = tasksPlace k s + 1 + taskCount k s * 5
 
 -- The first n records of a table, and blank ones after them.
 abbrev pub devicesHeld : (ℕ → DeviceRecord) → ℕ → DeviceTable
@@ -83,25 +103,30 @@ tasksHeld f n = record { count = n; list = padded 8 blankTask (upTo f n) }
 abbrev pub jobsHeld : (ℕ → JobRecord) → ℕ → JobTable
 jobsHeld f n = record { count = n; list = padded 16 blankJob (upTo f n) }
 
-unfoldable pub tablesOf : List ℕ → Tables
-tablesOf s =
+unfoldable pub tablesAs : Kind → List ℕ → Tables
+tablesAs k s =
     record {
+      kind = k;
       horizon = pairAt s 0;
-      devices = devicesHeld (λ k. deviceAt s (3 + k * 7)) (byteAt s 2);
-      tasks = tasksHeld (λ i. taskAt s (tasksPlace s + 1 + i * 5)) (taskCount s);
-      jobs = jobsHeld (λ j. jobAt s (jobsPlace s + 1 + j * 7)) (byteAt s (jobsPlace s));
+      devices = devicesHeld (λ i. deviceAt k s (devicePlace k s i)) (byteAt s 2);
+      tasks = tasksHeld (λ i. taskAt s (tasksPlace k s + 1 + i * 5)) (taskCount k s);
+      jobs = jobsHeld (λ j. jobAt s (jobsPlace k s + 1 + j * 7)) (byteAt s (jobsPlace k s));
     }
 
--- Tables as they are read: what stands beyond a count does not count.
+abbrev pub tablesOf : List ℕ → Tables
+tablesOf s = tablesAs (kindOf s) (bodyOf s)
+
+-- Tables as they are read: what stands beyond a count does not count, nor what the kind does not tell.
 unfoldable pub counted : Tables → Tables
 counted T =
     record {
+      kind = T .kind;
       horizon = T .horizon;
-      devices = devicesHeld (deviceIn T) (T .devices .count);
+      devices = devicesHeld (λ k. told (T .kind) (deviceIn T k)) (T .devices .count);
       tasks = tasksHeld (taskIn T) (T .tasks .count);
       jobs = jobsHeld (jobIn T) (T .jobs .count);
     }
 
 -- No tables at all: what is handed on with a refusal.
 abbrev pub noTables : Tables
-noTables = record { horizon = 0; devices = devicesHeld (λ k. blankDevice) 0; tasks = tasksHeld (λ i. blankTask) 0; jobs = jobsHeld (λ j. blankJob) 0 }
+noTables = record { kind = First; horizon = 0; devices = devicesHeld (λ k. blankDevice) 0; tasks = tasksHeld (λ i. blankTask) 0; jobs = jobsHeld (λ j. blankJob) 0 }

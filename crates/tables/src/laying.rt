@@ -3,14 +3,15 @@ ghost use mathlib.Core.Path.{_≡_};
 ghost use mathlib.Core.List.{[], _∷_, _++_};
 ghost use Prim.Native.Nat.{ℕ, _+_, _*_, _≤_, _<_, min};
 ghost use lib.ListN.{length, drop, getD};
-ghost use Rattle.tables.specs.Records.{pairBytes, deviceBytes, taskBytes, jobBytes, blankDevice, blankTask, blankJob};
-ghost use Rattle.tables.specs.Layout.{countIn, recordIn, sizeIn, sectionOf, bytesOf};
+ghost use Rattle.tables.specs.Records.{pairBytes, firstBytes, secondBytes, deviceBytes, taskBytes, jobBytes, blankDevice, blankTask, blankJob};
+ghost use Rattle.tables.specs.Layout.{marker, countIn, recordIn, sectionOf, bytesOf};
 ghost use Rattle.tables.specs.Held.{cut, held, appended};
 use crate::DeviceRecord;
 use crate::DeviceTable;
 use crate::File;
 use crate::JobRecord;
 use crate::JobTable;
+use crate::Kind;
 use crate::Part;
 use crate::Tables;
 use crate::TaskRecord;
@@ -24,12 +25,12 @@ fn empty() -> File
 {
     File {
         count: 0,
-        bytes: [0; 232],
+        bytes: [0; 261],
     }
 }
 
 fn push(f: File, byte: u8) -> File
-    requires { ⌜ f .count < 232 ⌝ }
+    requires { ⌜ f .count < 261 ⌝ }
     ensures { λ r. ⌜ r ≡ appended f (byte ∷ []) ⌝ }
 {
     let n = f.count;
@@ -40,25 +41,60 @@ fn push(f: File, byte: u8) -> File
 }
 
 fn push_pair(f: File, number: u16) -> File
-    requires { ⌜ f .count + 2 ≤ 232 ⌝ }
+    requires { ⌜ f .count + 2 ≤ 261 ⌝ }
     ensures { λ r. ⌜ r ≡ appended f (pairBytes number) ⌝ }
 {
     let high = push(f, (number / 256) as u8);
     push(high, (number % 256) as u8)
 }
 
-fn push_device(f: File, d: DeviceRecord) -> File
-    requires { ⌜ f .count + 7 ≤ 232 ⌝ }
-    ensures { λ r. ⌜ r ≡ appended f (deviceBytes d) ⌝ }
+fn push_marker(f: File, kind: Kind) -> File
+    requires { ⌜ f .count + 2 ≤ 261 ⌝ }
+    ensures { λ r. ⌜ r ≡ appended f (marker kind) ⌝ }
 {
-    let a = push(f, d.t);
+    match kind {
+        Kind::First => f,
+        Kind::Second => {
+            let a = push(f, 255);
+            push(a, 2)
+        }
+    }
+}
+
+fn push_first(f: File, d: DeviceRecord) -> File
+    requires { ⌜ f .count + 7 ≤ 261 ⌝ }
+    ensures { λ r. ⌜ r ≡ appended f (firstBytes d) ⌝ }
+{
+    let a = push(f, d.wake);
     let b = push_pair(a, d.pw);
     let c = push_pair(b, d.ps);
-    push_pair(c, d.p0)
+    push_pair(c, d.pwake)
+}
+
+fn push_second(f: File, d: DeviceRecord) -> File
+    requires { ⌜ f .count + 10 ≤ 261 ⌝ }
+    ensures { λ r. ⌜ r ≡ appended f (secondBytes d) ⌝ }
+{
+    let a = push(f, d.wake);
+    let b = push(a, d.shut);
+    let c = push_pair(b, d.pw);
+    let e = push_pair(c, d.ps);
+    let g = push_pair(e, d.pwake);
+    push_pair(g, d.pshut)
+}
+
+fn push_device(f: File, kind: Kind, d: DeviceRecord) -> File
+    requires { ⌜ f .count + length (deviceBytes kind d) ≤ 261 ⌝ }
+    ensures { λ r. ⌜ r ≡ appended f (deviceBytes kind d) ⌝ }
+{
+    match kind {
+        Kind::First => push_first(f, d),
+        Kind::Second => push_second(f, d),
+    }
 }
 
 fn push_task(f: File, k: TaskRecord) -> File
-    requires { ⌜ f .count + 5 ≤ 232 ⌝ }
+    requires { ⌜ f .count + 5 ≤ 261 ⌝ }
     ensures { λ r. ⌜ r ≡ appended f (taskBytes k) ⌝ }
 {
     let a = push_pair(f, k.period);
@@ -67,7 +103,7 @@ fn push_task(f: File, k: TaskRecord) -> File
 }
 
 fn push_job(f: File, j: JobRecord) -> File
-    requires { ⌜ f .count + 7 ≤ 232 ⌝ }
+    requires { ⌜ f .count + 7 ≤ 261 ⌝ }
     ensures { λ r. ⌜ r ≡ appended f (jobBytes j) ⌝ }
 {
     let a = push_pair(f, j.release);
@@ -96,13 +132,14 @@ fn job_of(t: JobTable, j: usize) -> JobRecord
 }
 
 fn push_record(f: File, t: Tables, part: Part, k: usize) -> File
-    requires { ⌜ f .count + sizeIn part ≤ 232 ⌝ }
+    requires { ⌜ f .count + length (recordIn t part k) ≤ 261 ⌝ }
     ensures { λ r. ⌜ r ≡ appended f (recordIn t part k) ⌝ }
 {
     match part {
         Part::Devices => {
+            let kind = t.kind;
             let devices = t.devices;
-            push_device(f, device_of(devices, k))
+            push_device(f, kind, device_of(devices, k))
         }
         Part::Tasks => {
             let tasks = t.tasks;
@@ -134,7 +171,7 @@ fn count_of(t: Tables, part: Part) -> usize
 
 // A table after its count.
 fn push_section(f: File, t: Tables, part: Part) -> File
-    requires { ⌜ f .count + 1 + countIn (cut t) part * sizeIn part ≤ 232 ⌝ }
+    requires { ⌜ f .count + length (sectionOf (cut t) part) ≤ 261 ⌝ }
     ensures { λ r. ⌜ r ≡ appended f (sectionOf (cut t) part) ⌝ }
 {
     let n = count_of(t, part);
@@ -151,7 +188,9 @@ fn push_section(f: File, t: Tables, part: Part) -> File
 pub fn file_of(t: Tables) -> File
     ensures { λ r. ⌜ r ≡ held (bytesOf (cut t)) ⌝ }
 {
-    let a = push_pair(empty(), t.horizon);
+    let kind = t.kind;
+    let marked = push_marker(empty(), kind);
+    let a = push_pair(marked, t.horizon);
     let b = push_section(a, t, Part::Devices);
     let c = push_section(b, t, Part::Tasks);
     push_section(c, t, Part::Jobs)

@@ -1,22 +1,38 @@
 // What a request file says, as numbers: its tables. They are read from the bytes of a file and laid out as one; whether they can be planned with is for
 // crate request to judge, from the bytes.
+mod kinds; // kinds.rt: the kinds of files, and where their device records stand
 mod laying; // laying.rt: the bytes of tables, from the first to the last
 mod listing; // listing.rt: the tables of a file
 
+pub use crate::kinds::device_place;
+pub use crate::kinds::device_size;
+pub use crate::kinds::kind_of;
+pub use crate::kinds::marker_size;
 pub use crate::laying::copy;
 pub use crate::laying::file_of;
+pub use crate::listing::averaged;
 pub use crate::listing::device_at;
+pub use crate::listing::first_at;
 pub use crate::listing::job_at;
 pub use crate::listing::no_tables;
 pub use crate::listing::tables_in;
 pub use crate::listing::task_at;
 
-// A device as the file gives it: transition time, and the powers working, sleeping and moving.
+// The kind of a file: what its first bytes say of the device records in it (rule 75).
+pub enum Kind {
+    First,
+    Second,
+}
+
+// A device as a file gives it: the times of waking and of shutting down, the powers working and asleep, and those of the two moves. A file of the first kind has
+// one time and one power for both: there `wake` and `pwake` count, and `averaged` fills in all.
 pub struct DeviceRecord {
-    pub t: u8,
+    pub wake: u8,
+    pub shut: u8,
     pub pw: u16,
     pub ps: u16,
-    pub p0: u16,
+    pub pwake: u16,
+    pub pshut: u16,
 }
 
 // A task as the file gives it: period, running time, and its device set, a bit for each device.
@@ -52,6 +68,7 @@ pub struct JobTable {
 
 // The horizon field is 0 where there are tasks.
 pub struct Tables {
+    pub kind: Kind,
     pub horizon: u16,
     pub devices: DeviceTable,
     pub tasks: TaskTable,
@@ -68,5 +85,5 @@ pub enum Part {
 // A file in an array: its first `count` bytes.
 pub struct File {
     pub count: usize,
-    pub bytes: [u8; 232],
+    pub bytes: [u8; 261],
 }

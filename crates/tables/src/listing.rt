@@ -2,26 +2,70 @@
 ghost use mathlib.Core.Path.{_≡_};
 ghost use Prim.Native.Nat.{ℕ, _+_, _*_, _≤_, _<_};
 ghost use lib.ListN.{length};
-ghost use Rattle.tables.specs.Records.{deviceAt, taskAt, jobAt, blankDevice, blankTask, blankJob};
-ghost use Rattle.tables.specs.Layout.{devicesHeld, tasksHeld, jobsHeld, tablesOf, noTables};
+ghost use Rattle.tables.specs.Records as Records;
+ghost use Rattle.tables.specs.Records.{firstAt, secondAt, deviceAt, deviceSize, taskAt, jobAt, blankDevice, blankTask, blankJob};
+ghost use Rattle.tables.specs.Layout.{kindOf, bodyOf, devicePlace, devicesHeld, tasksHeld, jobsHeld, tablesAs, tablesOf, noTables};
 ghost use Rattle.tables.specs.Held.{Whole};
 use crate::DeviceRecord;
 use crate::DeviceTable;
 use crate::JobRecord;
 use crate::JobTable;
+use crate::Kind;
 use crate::Tables;
 use crate::TaskRecord;
 use crate::TaskTable;
+use crate::kinds::device_place;
+use crate::kinds::device_size;
+use crate::kinds::kind_of;
+use crate::kinds::marker_size;
 
-pub fn device_at(s: &[u8], at: usize) -> DeviceRecord
-    requires { ⌜ at + 6 < length (now s) ⌝ }
-    ensures { λ r. ⌜ r ≡ deviceAt (now (s .entry)) at ⌝ }
+// Both moves take the same time at the same power.
+pub fn averaged(t: u8, pw: u16, ps: u16, p0: u16) -> DeviceRecord
+    ensures { λ r. ⌜ r ≡ Records.averaged t pw ps p0 ⌝ }
 {
     DeviceRecord {
-        t: s[at],
-        pw: base::pair_at(s, at + 1),
-        ps: base::pair_at(s, at + 3),
-        p0: base::pair_at(s, at + 5),
+        wake: t,
+        shut: t,
+        pw,
+        ps,
+        pwake: p0,
+        pshut: p0,
+    }
+}
+
+pub fn first_at(s: &[u8], at: usize) -> DeviceRecord
+    requires { ⌜ at + 7 ≤ length (now s) ⌝ }
+    ensures { λ r. ⌜ r ≡ firstAt (now (s .entry)) at ⌝ }
+{
+    averaged(
+        s[at],
+        base::pair_at(s, at + 1),
+        base::pair_at(s, at + 3),
+        base::pair_at(s, at + 5),
+    )
+}
+
+fn second_at(s: &[u8], at: usize) -> DeviceRecord
+    requires { ⌜ at + 10 ≤ length (now s) ⌝ }
+    ensures { λ r. ⌜ r ≡ secondAt (now (s .entry)) at ⌝ }
+{
+    DeviceRecord {
+        wake: s[at],
+        shut: s[at + 1],
+        pw: base::pair_at(s, at + 2),
+        ps: base::pair_at(s, at + 4),
+        pwake: base::pair_at(s, at + 6),
+        pshut: base::pair_at(s, at + 8),
+    }
+}
+
+pub fn device_at(s: &[u8], kind: Kind, at: usize) -> DeviceRecord
+    requires { ⌜ at + deviceSize kind (now s) at ≤ length (now s) ⌝ }
+    ensures { λ r. ⌜ r ≡ deviceAt kind (now (s .entry)) at ⌝ }
+{
+    match kind {
+        Kind::First => first_at(s, at),
+        Kind::Second => second_at(s, at),
     }
 }
 
@@ -51,12 +95,7 @@ pub fn job_at(s: &[u8], at: usize) -> JobRecord
 pub(crate) fn blank_device() -> DeviceRecord
     ensures { λ r. ⌜ r ≡ blankDevice ⌝ }
 {
-    DeviceRecord {
-        t: 0,
-        pw: 0,
-        ps: 0,
-        p0: 0,
-    }
+    averaged(0, 0, 0, 0)
 }
 
 pub(crate) fn blank_task() -> TaskRecord
@@ -80,20 +119,23 @@ pub(crate) fn blank_job() -> JobRecord
     }
 }
 
-// The n records of a table, from a place on.
-fn devices_at(s: &[u8], n: usize, from: usize) -> DeviceTable
-    requires { ⌜ (n ≤ 8) × (from + n * 7 ≤ length (now s)) ⌝ }
-    ensures { λ r. ⌜ r ≡ devicesHeld (λ k. deviceAt (now (s .entry)) (from + k * 7)) n ⌝ }
+// The first n devices: each record stands after the one before it.
+fn devices_at(s: &[u8], kind: Kind, n: usize) -> DeviceTable
+    requires { ⌜ (n ≤ 8) × (devicePlace kind (now s) n ≤ length (now s)) ⌝ }
+    ensures { λ r. ⌜ r ≡ devicesHeld (λ k. deviceAt kind (now (s .entry)) (devicePlace kind (now (s .entry)) k)) n ⌝ }
 {
     let mut list = [blank_device(); 8];
+    let mut at: usize = 3;
     let mut k: usize = 0;
     while k < n {
-        list[k] = device_at(s, from + k * 7);
+        list[k] = device_at(s, kind, at);
+        at += device_size(s, kind, at);
         k += 1;
     }
     DeviceTable { count: n, list }
 }
 
+// The n records of a table, from a place on.
 fn tasks_at(s: &[u8], n: usize, from: usize) -> TaskTable
     requires { ⌜ (n ≤ 8) × (from + n * 5 ≤ length (now s)) ⌝ }
     ensures { λ r. ⌜ r ≡ tasksHeld (λ i. taskAt (now (s .entry)) (from + i * 5)) n ⌝ }
@@ -120,25 +162,36 @@ fn jobs_at(s: &[u8], n: usize, from: usize) -> JobTable
     JobTable { count: n, list }
 }
 
-// The tables of a file that has them all.
-pub fn tables_in(s: &[u8]) -> Tables
-    requires { ⌜ Whole (now s) ⌝ }
-    ensures { λ r. ⌜ r ≡ tablesOf (now (s .entry)) ⌝ }
+// The tables that follow the mark of a file of a kind, where they are all there.
+fn tables_as(s: &[u8], kind: Kind) -> Tables
+    requires { ⌜ Whole kind (now s) ⌝ }
+    ensures { λ r. ⌜ r ≡ tablesAs kind (now (s .entry)) ⌝ }
 {
     let n = s[2] as usize;
-    let at = 3 + n * 7;
+    let at = device_place(s, kind, n);
     let m = s[at] as usize;
     let place = at + 1 + m * 5;
     let count = s[place] as usize;
-    let devices = devices_at(s, n, 3);
+    let devices = devices_at(s, kind, n);
     let tasks = tasks_at(s, m, at + 1);
     let jobs = jobs_at(s, count, place + 1);
     Tables {
+        kind,
         horizon: base::pair_at(s, 0),
         devices,
         tasks,
         jobs,
     }
+}
+
+// The tables of a file that has them all.
+pub fn tables_in(s: &[u8]) -> Tables
+    requires { ⌜ Whole (kindOf (now s)) (bodyOf (now s)) ⌝ }
+    ensures { λ r. ⌜ r ≡ tablesOf (now (s .entry)) ⌝ }
+{
+    let kind = kind_of(s);
+    let from = marker_size(kind);
+    tables_as(&s[from..], kind)
 }
 
 // What is handed on with a refusal.
@@ -158,6 +211,7 @@ pub fn no_tables() -> Tables
         list: [blank_job(); 16],
     };
     Tables {
+        kind: Kind::First,
         horizon: 0,
         devices,
         tasks,

@@ -1,6 +1,12 @@
 -- `planner::tables_of` meets its contract.
 -- Assumes nothing.
 use borrow.Author.Needs.{needs}
+use mathlib.Core.List.{List}
+use Prim.Native.Nat.{ℕ}
+use Rattle.schedule.specs.declared.Recorder.{Recorder}
+use Rattle.tables.specs.Layout.{kindOf, bodyOf}
+use Rattle.tables.specs.Held.{Whole}
+use Rattle.request.specs.Format.{readOf}
 use Rattle.request.proofs.Accepted.{read-accepted, read-refused}
 use Rattle.request.proofs.Cutting.{accepted-whole}
 use Rattle.planner.specs.Promises.{Reads}
@@ -11,6 +17,10 @@ use Rattle.planner.proofs.tables_of.Tie as tie
 -- The file is read as the recorder.
 recorded : (c : tie.Else1) → Reads (c .before .before .before .before .args .file .now) (c .before .before .read .result .recorder)
 recorded c = read-accepted _ _ (c .before .before .read .ensures) (c .if1 .left)
+
+listed-whole : (s : List ℕ) (R : Recorder) → Reads s R → Whole (kindOf s) (bodyOf s)
+unfolding readOf
+listed-whole s R r = accepted-whole (kindOf s) (bodyOf s) R r
 
 read-requires : tie.Need-read-requires
 read-requires c κs = search needs
@@ -28,7 +38,7 @@ success-requires : tie.Need-success-requires
 success-requires c κs = search needs
 
 tables-in-requires : tie.Need-tables-in-requires
-tables-in-requires c κs = accepted-whole _ _ (recorded (c .before))
+tables-in-requires c κs = listed-whole _ _ (recorded (c .before))
 
 returns-2 : tie.Need-returns-2
 returns-2 c = rw (c .tables-in .ensures, c .before .success .ensures) (P.OfFile.read (recorded (c .before .before)) P.ListOf.listed)

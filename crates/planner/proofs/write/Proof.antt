@@ -5,19 +5,19 @@ use mathlib.Core.Path.{_≡_, sym, ap, _∙_}
 use mathlib.Core.List.{List, _++_}
 use Prim.Native.Nat.{ℕ, _≤_}
 use native.Mathlib.Omega.{arith}
-use lib.ListN.{length, take, drop}
+use lib.ListN.{length, take, drop, length-append}
 use lib.Seq.{length-take-le}
 use Rattle.schedule.specs.declared.Recorder.{Recorder}
 use Rattle.tables.specs.declared.Tables.{Tables}
 use Rattle.tables.specs.declared.File.{File}
-use Rattle.tables.specs.Layout.{bytesOf}
+use Rattle.tables.specs.Layout.{marker, layoutOf, bytesOf}
 use Rattle.tables.specs.Held.{cut, held}
 use Rattle.tables.proofs.Appending.{held-front, held-long}
+use Rattle.tables.proofs.Back.{unmarked}
 use Rattle.tables.proofs.Joining.{cut-fits}
-use Rattle.request.specs.Format.{readOf, handedOn}
-use Rattle.request.proofs.Accepted.{read-accepted, read-refused}
+use Rattle.request.specs.Format.{readAs, accepted, handedOn}
+use Rattle.request.proofs.Accepted.{accepted-by, refused-by}
 use Rattle.request.proofs.Cutting.{read-cut, accepted-cut}
-use Rattle.planner.specs.Promises.{Reads}
 use Rattle.planner.specs.Promises as P
 use Rattle.planner.proofs.write.Statement.{statement}
 use Rattle.planner.proofs.write.Tie as tie
@@ -26,7 +26,7 @@ use Rattle.planner.proofs.write.Tie as tie
 laid : (c : tie.After-file-of) → take (c .file-of .result .count) (c .file-of .result .bytes) ≡ bytesOf (cut (c .before .before .args .given))
 laid c = rw (c .file-of .ensures) (held-front (bytesOf (cut (c .before .before .args .given))))
 
-small : (c : tie.After-file-of) → c .file-of .result .count ≤ 232
+small : (c : tie.After-file-of) → c .file-of .result .count ≤ 261
 unfolding held
 small c = rw (c .file-of .ensures) (cut-fits (c .before .before .args .given))
 
@@ -36,12 +36,23 @@ fits c = rw (c .file-of .ensures) (held-long (bytesOf (cut (c .before .before .a
 long : (c : tie.After-file-of) → c .file-of .result .count ≡ length (take (c .file-of .result .count) (c .file-of .result .bytes))
 long c = sym (length-take-le (c .file-of .result .count) (c .file-of .result .bytes) (fits c))
 
--- It reads as the file of the tables does,
-reads : (c : tie.After-read) → c .read .result ≡ handedOn (readOf (bytesOf (c .before .before .before .before .before .args .given)))
-reads c = c .read .ensures ∙ ap (λ (s : List ℕ). handedOn (readOf s)) (laid (c .before .before .before)) ∙ ap handedOn (read-cut (c .before .before .before .before .before .args .given))
+-- The mark is that of the tables' kind, and what follows it reads as their layout does,
+cut-mark : (T : Tables) → (length (marker (T .kind)) ≤ length (bytesOf (cut T))) × (drop (length (marker (T .kind))) (bytesOf (cut T)) ≡ layoutOf (cut T))
+unfolding bytesOf cut
+cut-mark T = (omega (arith, length-append (marker (T .kind)) (layoutOf (cut T))), unmarked (T .kind) (layoutOf (cut T)))
 
-recorded : (c : tie.Else1) → Reads (bytesOf (c .before .before .before .before .before .before .args .given)) (c .before .read .result .recorder)
-recorded c = read-accepted _ _ (reads (c .before)) (c .if1 .left)
+read-as-cut : (T : Tables) → readAs (T .kind) (layoutOf (cut T)) ≡ readAs (T .kind) (layoutOf T)
+unfolding cut
+read-as-cut T = read-cut T
+
+reads : (c : tie.After-read-by) → (let T = c .before .before .before .before .before .args .given in c .read-by .result ≡ handedOn (readAs (T .kind) (layoutOf T)))
+reads c =
+    let T = c .before .before .before .before .before .args .given in
+    c .read-by .ensures ∙ ap (λ (s : List ℕ). handedOn (readAs (T .kind) (drop (length (marker (T .kind))) s))) (laid (c .before .before .before))
+    ∙ ap (λ (s : List ℕ). handedOn (readAs (T .kind) s)) (cut-mark T .1) ∙ ap handedOn (read-as-cut T)
+
+recorded : (c : tie.Else1) → (let T = c .before .before .before .before .before .before .args .given in readAs (T .kind) (layoutOf T) ≡ accepted (c .before .read-by .result .recorder))
+recorded c = accepted-by _ _ _ (reads (c .before)) (c .if1 .left)
 
 -- and it is that file where it is accepted.
 whole : (c : tie.Else1) → bytesOf (cut (c .before .before .before .before .before .before .args .given)) ≡ bytesOf (c .before .before .before .before .before .before .args .given)
@@ -53,9 +64,9 @@ size c = ap (λ (f : File). f .count) (c .before .before .before .before .file-o
 
 -- What is written, by other names.
 written-as :
-    (T : Tables) (lent : List ℕ) (R : Recorder) (s : List ℕ) (n : ℕ) → Reads (bytesOf T) R → s ≡ bytesOf T → n ≡ length (bytesOf T) → n ≤ length lent
+    (T : Tables) (lent : List ℕ) (R : Recorder) (s : List ℕ) (n : ℕ) → readAs (T .kind) (layoutOf T) ≡ accepted R → s ≡ bytesOf T → n ≡ length (bytesOf T) → n ≤ length lent
     → P.Written T lent (P.success (R .horizon) 0 n) (s ++ drop (length s) lent)
-written-as T lent R s n r e f h = rw (e, f) (P.OfFile.read r (P.WriteOf.written (omega arith)))
+written-as T lent R s n r e f h = rw (e, f) (P.Written.written r (omega arith))
 
 file-of-requires : tie.Need-file-of-requires
 file-of-requires c κs = search needs
@@ -63,23 +74,23 @@ file-of-requires c κs = search needs
 array-share-prefix-bytes : tie.Need-array-share-prefix-bytes
 array-share-prefix-bytes c = fits (c .before)
 
-slice-aggregate-read : tie.Need-slice-aggregate-read
-slice-aggregate-read c = long (c .before .before)
+slice-aggregate-read-by : tie.Need-slice-aggregate-read-by
+slice-aggregate-read-by c = long (c .before .before)
 
-read-requires : tie.Need-read-requires
-read-requires c κs = search needs
+read-by-requires : tie.Need-read-by-requires
+read-by-requires c κs = rw (laid (c .before .before)) (cut-mark (c .before .before .before .before .args .given) .0)
 
 refusal-requires : tie.Need-refusal-requires
 refusal-requires c κs = search needs
 
 returns : tie.Need-returns
-returns c = rw (c .refusal .ensures) (P.OfFile.refused (read-refused _ _ (reads (c .before .before)) (c .before .if1 .taken)))
+returns c = rw (c .refusal .ensures) (P.Written.refused (refused-by _ _ _ (reads (c .before .before)) (c .before .if1 .taken)))
 
 refusal-requires-2 : tie.Need-refusal-requires-2
 refusal-requires-2 c κs = search needs
 
 returns-2 : tie.Need-returns-2
-returns-2 c = rw (c .refusal2 .ensures) (P.OfFile.read (recorded (c .before .before)) (P.WriteOf.short (rw (size (c .before .before)) at (c .before .if2 .taken))))
+returns-2 c = rw (c .refusal2 .ensures) (P.Written.short (recorded (c .before .before)) (rw (size (c .before .before)) at (c .before .if2 .taken)))
 
 array-share-prefix-bytes-2 : tie.Need-array-share-prefix-bytes-2
 array-share-prefix-bytes-2 c = fits (c .before .before .before .before .before)
@@ -110,8 +121,8 @@ write-spec =
     (tie.spec
     file-of-requires
     array-share-prefix-bytes
-    slice-aggregate-read
-    read-requires
+    slice-aggregate-read-by
+    read-by-requires
     refusal-requires
     returns
     refusal-requires-2

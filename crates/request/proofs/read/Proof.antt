@@ -1,32 +1,35 @@
 -- `request::read` meets its contract.
 -- Assumes nothing.
 use borrow.Author.Needs.{needs}
-use mathlib.Core.Path.{sym, _∙_}
-use Rattle.request.specs.Format.{handedOn}
-use Rattle.request.proofs.Faultless.{read-faultless, read-fault}
+use mathlib.Core.Path.{_≡_}
+use Prim.Native.Nat.{ℕ}
+use mathlib.Core.List.{List}
+use lib.ListN.{length, drop}
+use Rattle.tables.specs.declared.Kind.{Kind}
+use Rattle.tables.specs.Layout.{marker, kindOf}
+use Rattle.tables.proofs.Back.{mark-fits}
+use Rattle.request.specs.declared.Request.{Request}
+use Rattle.request.specs.Format.{handedOn, readAs, readOf}
 use Rattle.request.proofs.read.Statement.{statement}
 use Rattle.request.proofs.read.Tie as tie
 
-fault-of-requires : tie.Need-fault-of-requires
-fault-of-requires c κs = search needs
+by-its-own : (s : List ℕ) (k : Kind) (r : Request) → k ≡ kindOf s → r ≡ handedOn (readAs k (drop (length (marker k)) s)) → r ≡ handedOn (readOf s)
+unfolding readOf
+by-its-own s k r e h = rw e at h
 
-recorder-in-requires : tie.Need-recorder-in-requires
-recorder-in-requires c κs = search needs
+kind-of-requires : tie.Need-kind-of-requires
+kind-of-requires c κs = search needs
 
-no-recorder-requires : tie.Need-no-recorder-requires
-no-recorder-requires c κs = search needs
+read-by-requires : tie.Need-read-by-requires
+read-by-requires c κs = rw (c .kind-of .ensures) (mark-fits _)
 
 returns : tie.Need-returns
-unfolding handedOn
-returns c = rw (read-faultless _ (sym (c .before .if1 .taken) ∙ c .before .before .fault-of .ensures), c .recorder-in .ensures)
-
-returns-2 : tie.Need-returns-2
-unfolding handedOn
-returns-2 c =
-    let f = c .before .before .fault-of .ensures in
-    rw (read-fault _ (λ e. c .before .if1 .left (f ∙ e)), c .no-recorder .ensures, f)
+returns c = by-its-own _ _ _ (c .before .kind-of .ensures) (c .read-by .ensures)
 
 pub read-spec : {M : Type 1} → statement M
 read-spec =
     tie.close
-    (tie.spec fault-of-requires recorder-in-requires no-recorder-requires returns returns-2)
+    (tie.spec
+    kind-of-requires
+    read-by-requires
+    returns)

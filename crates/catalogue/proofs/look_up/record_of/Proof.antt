@@ -10,14 +10,14 @@ use Rattle.catalogue.proofs.look_up.record_of.Tie as tie
 find-requires : tie.Need-find-requires
 find-requires c κs = search needs
 
-mul-device-at : tie.Need-mul-device-at
-mul-device-at c = search needs
+mul-first-at : tie.Need-mul-first-at
+mul-first-at c = search needs
 
-add-device-at : tie.Need-add-device-at
-add-device-at c = search needs
+add-first-at : tie.Need-add-first-at
+add-first-at c = search needs
 
-device-at-requires : tie.Need-device-at-requires
-device-at-requires c κs =
+first-at-requires : tie.Need-first-at-requires
+first-at-requires c κs =
     let start = c .before .before .before in
     let a = start .args in
     omega (arith, found-within (a .catalogue .now) (a .number .now) (c .find .result) (start .pre .0) (c .find .ensures) (start .pre .1))
@@ -29,7 +29,7 @@ returns c =
     let n = start .args .number .now in
     let found = c .before .find in
     let within = found-within s n (found .result) (start .pre .0) (found .ensures) (start .pre .1) in
-    c .device-at .ensures ∙ sym (found-record s n (found .result) (start .pre .0) (found .ensures) within)
+    c .first-at .ensures ∙ sym (found-record s n (found .result) (start .pre .0) (found .ensures) within)
 
 pub record-of-spec : {M : Type 1} → statement M
-record-of-spec = tie.close (tie.spec find-requires mul-device-at add-device-at device-at-requires returns)
+record-of-spec = tie.close (tie.spec find-requires mul-first-at add-first-at first-at-requires returns)

@@ -1,33 +1,34 @@
 -- `doors::table_bytes::devices_in` meets its contract.
 -- Assumes nothing.
-use Prim.Native.Nat.{_≤_, _-_}
 use borrow.Author.Needs.{needs}
+use Prim.Native.Nat.{_≤_, _-_}
+use lib.ListN.{length}
 use Rattle.doors.proofs.table_bytes.devices_in.Statement.{statement}
 use Rattle.doors.proofs.table_bytes.devices_in.Tie as tie
 
 abbrev Inv-loop : tie.InvT-loop
-Inv-loop s list₀ k₀ list k = k ≤ 8
+Inv-loop s kind n list₀ at₀ k₀ list at k = (k ≤ 8) × (at ≤ length s)
 
 abbrev μ-loop : tie.MeasureT-loop
-μ-loop s list₀ k₀ list k = 8 - k
+μ-loop s kind n list₀ at₀ k₀ list at k = 8 - k
+
+averaged-requires : tie.Need-averaged-requires Inv-loop μ-loop
+averaged-requires c κs = search needs
 
 loop-holds : tie.Need-loop-holds Inv-loop μ-loop
 loop-holds c = search needs
 
-mul-if1 : tie.Need-mul-if1 Inv-loop μ-loop
-mul-if1 c = search needs
+least-requires : tie.Need-least-requires Inv-loop μ-loop
+least-requires c κs = search needs
 
-add-if1 : tie.Need-add-if1 Inv-loop μ-loop
-add-if1 c = search needs
+device-size-requires : tie.Need-device-size-requires Inv-loop μ-loop
+device-size-requires c κs = search needs
 
-add-if1-2 : tie.Need-add-if1-2 Inv-loop μ-loop
-add-if1-2 c = search needs
+sub-if2 : tie.Need-sub-if2 Inv-loop μ-loop
+sub-if2 c = search needs
 
-mul-device-at : tie.Need-mul-device-at Inv-loop μ-loop
-mul-device-at c = search needs
-
-add-device-at : tie.Need-add-device-at Inv-loop μ-loop
-add-device-at c = search needs
+returns : tie.Need-returns Inv-loop μ-loop
+returns c = search needs
 
 device-at-requires : tie.Need-device-at-requires Inv-loop μ-loop
 device-at-requires c κs = search needs
@@ -38,6 +39,9 @@ mul-list c = search needs
 array-set-from-list : tie.Need-array-set-from-list Inv-loop μ-loop
 array-set-from-list c = search needs
 
+add-at : tie.Need-add-at Inv-loop μ-loop
+add-at c = search needs
+
 add-k : tie.Need-add-k Inv-loop μ-loop
 add-k c = search needs
 
@@ -46,9 +50,6 @@ loop-less c = search needs
 
 loop-again : tie.Need-loop-again Inv-loop μ-loop
 loop-again c = search needs
-
-returns : tie.Need-returns Inv-loop μ-loop
-returns c = search needs
 
 returns-2 : tie.Need-returns-2 Inv-loop μ-loop
 returns-2 c = search needs
@@ -59,17 +60,17 @@ devices-in-spec =
     (tie.spec
     Inv-loop
     μ-loop
+    averaged-requires
     loop-holds
-    mul-if1
-    add-if1
-    add-if1-2
-    mul-device-at
-    add-device-at
+    least-requires
+    device-size-requires
+    sub-if2
+    returns
     device-at-requires
     mul-list
     array-set-from-list
+    add-at
     add-k
     loop-less
     loop-again
-    returns
     returns-2)

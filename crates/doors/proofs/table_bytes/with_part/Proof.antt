@@ -1,7 +1,7 @@
 -- `doors::table_bytes::with_part` meets its contract.
 -- Assumes nothing.
-use Prim.Native.Nat.{_≤_, _-_}
 use borrow.Author.Needs.{needs}
+use Prim.Native.Nat.{_≤_, _-_}
 use Rattle.doors.proofs.table_bytes.with_part.Statement.{statement}
 use Rattle.doors.proofs.table_bytes.with_part.Tie as tie
 
@@ -13,6 +13,12 @@ abbrev μ-loop : tie.MeasureT-loop
 
 loop-holds : tie.Need-loop-holds Inv-loop μ-loop
 loop-holds c = search needs
+
+add-if1 : tie.Need-add-if1 Inv-loop μ-loop
+add-if1 c = search needs
+
+add-if2 : tie.Need-add-if2 Inv-loop μ-loop
+add-if2 c = search needs
 
 add-out : tie.Need-add-out Inv-loop μ-loop
 add-out c = search needs
@@ -38,6 +44,12 @@ loop-again c = search needs
 returns : tie.Need-returns Inv-loop μ-loop
 returns c = search needs
 
+returns-2 : tie.Need-returns-2 Inv-loop μ-loop
+returns-2 c = search needs
+
+returns-3 : tie.Need-returns-3 Inv-loop μ-loop
+returns-3 c = search needs
+
 pub with-part-spec : {M : Type 1} → statement M
 with-part-spec =
     tie.close
@@ -45,6 +57,8 @@ with-part-spec =
     Inv-loop
     μ-loop
     loop-holds
+    add-if1
+    add-if2
     add-out
     array-read-out
     add-out-2
@@ -52,4 +66,6 @@ with-part-spec =
     add-i
     loop-less
     loop-again
-    returns)
+    returns
+    returns-2
+    returns-3)

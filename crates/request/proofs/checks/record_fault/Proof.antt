@@ -3,6 +3,7 @@
 use borrow.Author.Needs.{needs}
 use mathlib.Core.Path.{ap, _∙_}
 use native.Mathlib.Omega.{arith}
+use Rattle.request.specs.declared.Section.{Section}
 use Rattle.request.specs.Format.{sizeOf, recordTable}
 use Rattle.request.proofs.Checked.{record-short, record-there}
 use Rattle.request.proofs.checks.record_fault.Statement.{statement}
@@ -17,29 +18,35 @@ size-of-requires c κs = search needs
 returns : tie.Need-returns
 returns c = record-short _ _ _ (rw (c .before .size-of .ensures) at (c .if1 .taken))
 
-enum-told : tie.Need-enum-told
-enum-told c = search needs
+enum-known-k : tie.Need-enum-known-k
+enum-known-k c = search needs
 
 device-at-requires : tie.Need-device-at-requires
-device-at-requires c κs = omega (arith, c .before .before .before .size-of .ensures ∙ ap sizeOf (c .enum-told .given .1))
+device-at-requires c κs =
+    let a = c .before .before .before .before .before .before .args in
+    omega (arith, c .before .before .before .before .size-of .ensures ∙ ap (λ (x : Section). sizeOf (a .s .now) x (a .at)) (c .before .k .given .1))
 
 device-check-requires : tie.Need-device-check-requires
 device-check-requires c κs = search needs
 
-enum-known-k : tie.Need-enum-known-k
-enum-known-k c = search needs
+enum-known-k-2 : tie.Need-enum-known-k-2
+enum-known-k-2 c = search needs
 
 task-at-requires : tie.Need-task-at-requires
-task-at-requires c κs = omega (arith, c .before .before .before .before .size-of .ensures ∙ ap sizeOf (c .before .k .given .1))
+task-at-requires c κs =
+    let a = c .before .before .before .before .before .before .args in
+    omega (arith, c .before .before .before .before .size-of .ensures ∙ ap (λ (x : Section). sizeOf (a .s .now) x (a .at)) (c .before .k2 .given .1))
 
 task-check-requires : tie.Need-task-check-requires
 task-check-requires c κs = search needs
 
-enum-known-k-2 : tie.Need-enum-known-k-2
-enum-known-k-2 c = search needs
+enum-known-k-3 : tie.Need-enum-known-k-3
+enum-known-k-3 c = search needs
 
 job-at-requires : tie.Need-job-at-requires
-job-at-requires c κs = omega (arith, c .before .before .before .before .size-of .ensures ∙ ap sizeOf (c .before .k2 .given .1))
+job-at-requires c κs =
+    let a = c .before .before .before .before .before .before .args in
+    omega (arith, c .before .before .before .before .size-of .ensures ∙ ap (λ (x : Section). sizeOf (a .s .now) x (a .at)) (c .before .k3 .given .1))
 
 job-check-requires : tie.Need-job-check-requires
 job-check-requires c κs = search needs
@@ -47,26 +54,23 @@ job-check-requires c κs = search needs
 returns-2 : tie.Need-returns-2
 unfolding recordTable
 returns-2 c =
-    let e = c .before .before .before .before in
     record-there _ _ _ _
-    (rw (e .before .size-of .ensures) at (e .if1 .left))
-    (rw (c .before .before .enum-told .given .1) (rw (c .before .device-at .ensures) at (c .device-check .ensures)))
+    (rw (c .before .before .before .before .before .before .size-of .ensures) at (c .before .before .before .before .before .if1 .left))
+    (rw (c .before .before .before .k .given .1) (rw (c .before .device-at .ensures) at (c .device-check .ensures)))
 
 returns-3 : tie.Need-returns-3
 unfolding recordTable
 returns-3 c =
-    let e = c .before .before .before .before .before in
     record-there _ _ _ _
-    (rw (e .before .size-of .ensures) at (e .if1 .left))
-    (rw (c .before .before .before .k .given .1) (rw (c .before .task-at .ensures) at (c .task-check .ensures)))
+    (rw (c .before .before .before .before .before .before .size-of .ensures) at (c .before .before .before .before .before .if1 .left))
+    (rw (c .before .before .before .k2 .given .1) (rw (c .before .task-at .ensures) at (c .task-check .ensures)))
 
 returns-4 : tie.Need-returns-4
 unfolding recordTable
 returns-4 c =
-    let e = c .before .before .before .before .before in
     record-there _ _ _ _
-    (rw (e .before .size-of .ensures) at (e .if1 .left))
-    (rw (c .before .before .before .k2 .given .1) (rw (c .before .job-at .ensures) at (c .job-check .ensures)))
+    (rw (c .before .before .before .before .before .before .size-of .ensures) at (c .before .before .before .before .before .if1 .left))
+    (rw (c .before .before .before .k3 .given .1) (rw (c .before .job-at .ensures) at (c .job-check .ensures)))
 
 pub record-fault-spec : {M : Type 1} → statement M
 record-fault-spec =
@@ -75,13 +79,13 @@ record-fault-spec =
     sub-if1
     size-of-requires
     returns
-    enum-told
+    enum-known-k
     device-at-requires
     device-check-requires
-    enum-known-k
+    enum-known-k-2
     task-at-requires
     task-check-requires
-    enum-known-k-2
+    enum-known-k-3
     job-at-requires
     job-check-requires
     returns-2

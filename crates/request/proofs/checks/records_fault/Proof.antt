@@ -12,16 +12,13 @@ use Rattle.request.proofs.checks.records_fault.Statement.{statement}
 use Rattle.request.proofs.checks.records_fault.Tie as tie
 
 abbrev Inv-loop : tie.InvT-loop
-Inv-loop s k count from size left₀ at₀ left at = (at ≤ length s) × (recordsFault s k count from ≡ recordsFault s k left at)
+Inv-loop s k count from left₀ at₀ left at = (at ≤ length s) × (recordsFault s k count from ≡ recordsFault s k left at)
 
 abbrev μ-loop : tie.MeasureT-loop
-μ-loop s k count from size left₀ at₀ left at = left
-
-size-of-requires : tie.Need-size-of-requires Inv-loop μ-loop
-size-of-requires c κs = search needs
+μ-loop s k count from left₀ at₀ left at = left
 
 loop-holds : tie.Need-loop-holds Inv-loop μ-loop
-loop-holds c = (c .before .before .pre, refl)
+loop-holds c = (c .before .pre, refl)
 
 record-fault-requires : tie.Need-record-fault-requires Inv-loop μ-loop
 record-fault-requires c κs = search needs
@@ -35,22 +32,24 @@ returns c =
 sub-left : tie.Need-sub-left Inv-loop μ-loop
 sub-left c = search needs
 
+size-of-requires : tie.Need-size-of-requires Inv-loop μ-loop
+size-of-requires c κs = search needs
+
 add-at : tie.Need-add-at Inv-loop μ-loop
 add-at c =
-    let l = c .before .before .before .loop in
-    let ok = sym (c .if1 .left) ∙ c .before .record-fault .ensures in
-    omega (arith, record-room _ _ _ (l .inv .0) ok)
+    let l = c .before .before .before .before .loop in
+    let ok = sym (c .before .if1 .left) ∙ c .before .before .record-fault .ensures in
+    rw (c .size-of .ensures) (omega (arith, record-room _ _ _ (l .inv .0) ok))
 
 loop-less : tie.Need-loop-less Inv-loop μ-loop
 loop-less c = search needs
 
 loop-again : tie.Need-loop-again Inv-loop μ-loop
 loop-again c =
-    let l = c .before .before .before .loop in
-    let ok = sym (c .if1 .left) ∙ c .before .record-fault .ensures in
+    let l = c .before .before .before .before .loop in
+    let ok = sym (c .before .if1 .left) ∙ c .before .before .record-fault .ensures in
     let more : 0 < l .left = omega arith in
-    rw (c .before .before .before .before .size-of .ensures)
-    (record-room _ _ _ (l .inv .0) ok, l .inv .1 ∙ first-pass _ _ _ _ more ok)
+    rw (c .size-of .ensures) (record-room _ _ _ (l .inv .0) ok, l .inv .1 ∙ first-pass _ _ _ _ more ok)
 
 returns-2 : tie.Need-returns-2 Inv-loop μ-loop
 returns-2 c =
@@ -64,11 +63,11 @@ records-fault-spec =
     (tie.spec
     Inv-loop
     μ-loop
-    size-of-requires
     loop-holds
     record-fault-requires
     returns
     sub-left
+    size-of-requires
     add-at
     loop-less
     loop-again

@@ -1,38 +1,38 @@
 -- `request::layout::devices_of` meets its contract.
 -- Assumes nothing.
 use borrow.Author.Needs.{needs}
-use mathlib.Core.Path.{_≡_}
-use Prim.Native.Nat.{ℕ, _≤_, _+_, _-_, _*_}
+use mathlib.Core.Path.{_≡_, refl, sym}
+use Prim.Native.Nat.{ℕ, _≤_, _+_, _-_}
 use native.Mathlib.Omega.{arith}
+use native.Mathlib.Numerals.{add-one}
 use Rattle.base.specs.Lists.{upTo, padded}
 use Rattle.base.proofs.Arrays.{upTo-fill, length-upTo}
-use Rattle.tables.specs.Records.{deviceAt}
+use Rattle.base.proofs.Records.{after-more, after-one}
+use Rattle.tables.specs.Records.{deviceAt, deviceSize}
+use Rattle.tables.specs.Layout.{devicePlace}
 use Rattle.request.specs.Format.{deviceOf, emptyDevice}
 use Rattle.request.proofs.layout.devices_of.Statement.{statement}
 use Rattle.request.proofs.layout.devices_of.Tie as tie
 
 abbrev Inv-loop : tie.InvT-loop
-Inv-loop s n devices₀ k₀ devices k =
-    (k ≤ n) × (devices ≡ record { count = 0; list = padded 8 emptyDevice (upTo (λ i. deviceOf (deviceAt s (3 + i * 7))) k) })
+Inv-loop s kind n devices₀ at₀ k₀ devices at k =
+    (k ≤ n) × (at ≡ devicePlace kind s k) × (devices ≡ record { count = 0; list = padded 8 emptyDevice (upTo (λ x. deviceOf (deviceAt kind s (devicePlace kind s x))) k) })
 
 abbrev μ-loop : tie.MeasureT-loop
-μ-loop s n devices₀ k₀ devices k = n - k
+μ-loop s kind n devices₀ at₀ k₀ devices at k = n - k
 
 no-devices-requires : tie.Need-no-devices-requires Inv-loop μ-loop
 no-devices-requires c κs = search needs
 
 loop-holds : tie.Need-loop-holds Inv-loop μ-loop
 unfolding upTo
-loop-holds c = (omega arith, c .no-devices .ensures)
-
-mul-device-at : tie.Need-mul-device-at Inv-loop μ-loop
-mul-device-at c = search needs
-
-add-device-at : tie.Need-add-device-at Inv-loop μ-loop
-add-device-at c = search needs
+loop-holds c = (omega arith, refl, c .no-devices .ensures)
 
 device-at-requires : tie.Need-device-at-requires Inv-loop μ-loop
-device-at-requires c κs = search needs
+device-at-requires c κs =
+    let l = c .before .loop in
+    let a = c .before .before .before .before .args in
+    rw (l .inv .1) (omega (arith, after-one (deviceSize (a .kind) (a .s .now)) (l .k) (a .n) 3 (c .loop-test .taken), c .before .before .before .before .pre))
 
 device-of-requires : tie.Need-device-of-requires Inv-loop μ-loop
 device-of-requires c κs = search needs
@@ -43,6 +43,15 @@ mul-t11 c = search needs
 element-set-from-devices : tie.Need-element-set-from-devices Inv-loop μ-loop
 element-set-from-devices c = search needs
 
+device-size-requires : tie.Need-device-size-requires Inv-loop μ-loop
+device-size-requires c κs = search needs
+
+add-at : tie.Need-add-at Inv-loop μ-loop
+add-at c =
+    let l = c .before .before .before .before .loop in
+    let a = c .before .before .before .before .before .before .before .args in
+    rw (c .device-size .ensures, l .inv .1) (omega (arith, after-one (deviceSize (a .kind) (a .s .now)) (l .k) (a .n) 3 (c .before .before .before .loop-test .taken), c .before .before .before .before .before .before .before .pre))
+
 add-k : tie.Need-add-k Inv-loop μ-loop
 add-k c = search needs
 
@@ -51,15 +60,18 @@ loop-less c = search needs
 
 loop-again : tie.Need-loop-again Inv-loop μ-loop
 loop-again c =
-    let l = c .before .before .before .loop in
-    let s = c .before .before .before .before .before .before .args .s .now in
-    (omega arith, rw (c .device-of .ensures, c .before .device-at .ensures, l .inv .1, upTo-fill 8 emptyDevice (λ (i : ℕ). deviceOf (deviceAt s (3 + i * 7))) (l .k) (omega arith)))
+    let l = c .before .before .before .before .loop in
+    let a = c .before .before .before .before .before .before .before .args in (
+      omega arith,
+      rw (c .device-size .ensures, l .inv .1, add-one (l .k)) (sym (after-more (deviceSize (a .kind) (a .s .now)) (l .k) 3)),
+      rw (c .before .device-of .ensures, c .before .before .device-at .ensures, l .inv .2, l .inv .1, upTo-fill 8 emptyDevice (λ (x : ℕ). deviceOf (deviceAt (a .kind) (a .s .now) (devicePlace (a .kind) (a .s .now) x))) (l .k) (omega arith)),
+    )
 
 returns : tie.Need-returns Inv-loop μ-loop
 returns c =
     let l = c .before .loop in
     let all : l .k ≡ c .before .before .before .before .args .n = omega arith in
-    rw (l .inv .1, all, length-upTo)
+    rw (l .inv .2, all, length-upTo)
 
 pub devices-of-spec : {M : Type 1} → statement M
 devices-of-spec =
@@ -69,12 +81,12 @@ devices-of-spec =
     μ-loop
     no-devices-requires
     loop-holds
-    mul-device-at
-    add-device-at
     device-at-requires
     device-of-requires
     mul-t11
     element-set-from-devices
+    device-size-requires
+    add-at
     add-k
     loop-less
     loop-again

@@ -2,27 +2,35 @@
 -- Assumes nothing.
 use borrow.Author.Needs.{needs}
 use mathlib.Core.Path.{_≡_}
-use Prim.Native.Nat.{_+_}
+use Prim.Native.Nat.{_+_, _≤_}
 use native.Mathlib.Omega.{arith}
-use Rattle.request.specs.declared.Section.the-variants.{DeviceRecords, JobRecords}
+use Rattle.base.specs.Bytes.{byteAt}
+use Rattle.base.proofs.Records.{after-from}
+use Rattle.tables.specs.Records.{deviceSize}
 use Rattle.tables.specs.Layout.{taskCount, tasksPlace}
-use Rattle.request.specs.Format.{horizonIn, recorderIn}
+use Rattle.request.specs.Format.{horizonIn, recorderAs}
 use Rattle.request.specs.Held.{SoundTasks}
-use Rattle.request.proofs.Checked.{records-room, tasks-sound}
+use Rattle.request.proofs.Checked.{tasks-sound, jobs-room}
 use Rattle.request.proofs.Faultless.{Faultless, faultless, length-jobs}
 use Rattle.request.proofs.Packed.{packed-held}
 use Rattle.request.proofs.layout.recorder_in.Statement.{statement}
 use Rattle.request.proofs.layout.recorder_in.Tie as tie
 
-ok : (c : tie.After-shared-slice-known2) → Faultless (c .before .before .args .s .now)
-ok c = faultless _ (c .before .before .pre)
+ok : (c : tie.After-shared-slice-known2) → Faultless (c .before .before .args .kind) (c .before .before .args .s .now)
+ok c = faultless _ _ (c .before .before .pre)
 
-sound : (c : tie.After-shared-slice-known3) → (let s = c .before .before .before .args .s .now in SoundTasks s (taskCount s) (tasksPlace s + 1))
-sound c = tasks-sound _ _ _ _ (omega (arith, ok (c .before))) (ok (c .before) .task-records)
+from-three : (c : tie.After-shared-slice-known2) → 3 ≤ tasksPlace (c .before .before .args .kind) (c .before .before .args .s .now)
+from-three c = let a = c .before .before .args in after-from (deviceSize (a .kind) (a .s .now)) (byteAt (a .s .now) 2) 3
+
+sound : (c : tie.After-shared-slice-known2) →
+    (let s = c .before .before .args .s .now in let k = c .before .before .args .kind in SoundTasks s (taskCount k s) (tasksPlace k s + 1))
+sound c = tasks-sound _ _ _ _ (omega (arith, ok c)) (ok c .task-records)
 
 -- the horizon is not capped
-same : (c : tie.After-horizon-of) → c .horizon-of .result ≡ horizonIn (c .before .before .before .before .args .s .now)
-same c = omega (arith, ok (c .before .before) .jobs)
+same : (c : tie.After-horizon-of) → c .horizon-of .result ≡ horizonIn (c .before .before .before .before .before .args .kind) (c .before .before .before .before .before .args .s .now)
+same c =
+    let e = rw (c .before .before .device-place .ensures) at (c .horizon-of .ensures) in
+    omega (arith, ok (c .before .before .before) .jobs)
 
 shared-slice-read-n : tie.Need-shared-slice-read-n
 shared-slice-read-n c = omega (arith, ok c)
@@ -30,55 +38,53 @@ shared-slice-read-n c = omega (arith, ok c)
 cast-n : tie.Need-cast-n
 cast-n c = omega (arith, ok c)
 
-mul-place : tie.Need-mul-place
-mul-place c = omega (arith, ok c)
-
-add-place : tie.Need-add-place
-add-place c = omega (arith, ok c)
+device-place-requires : tie.Need-device-place-requires
+device-place-requires c κs = omega (arith, ok c)
 
 shared-slice-read-tasks : tie.Need-shared-slice-read-tasks
-shared-slice-read-tasks c = omega (arith, ok (c .before))
+shared-slice-read-tasks c = rw (c .before .device-place .ensures) (ok (c .before .before) .tasks-there)
 
 cast-tasks : tie.Need-cast-tasks
-cast-tasks c = omega (arith, ok (c .before))
+cast-tasks c = rw (c .before .device-place .ensures) (omega (arith, ok (c .before .before)))
 
 add-horizon-of : tie.Need-add-horizon-of
-add-horizon-of c = omega (arith, ok (c .before))
+add-horizon-of c = rw (c .before .device-place .ensures) (omega (arith, ok (c .before .before)))
 
 horizon-of-requires : tie.Need-horizon-of-requires
-horizon-of-requires c κs = (sound c, omega arith)
+horizon-of-requires c κs = rw (c .before .device-place .ensures) (sound (c .before .before), omega (arith, from-three (c .before .before)))
 
 devices-of-requires : tie.Need-devices-of-requires
 devices-of-requires c κs =
-    let k = ok (c .before .before) in
-    (k .few-devices, records-room _ DeviceRecords _ 3 (k .head) (k .device-records))
+    let k = ok (c .before .before .before) in
+    (k .few-devices, omega (arith, k .tasks-there))
 
 add-jobs-of : tie.Need-add-jobs-of
-add-jobs-of c = omega (arith, ok (c .before .before .before))
+add-jobs-of c = rw (c .before .before .before .device-place .ensures) (omega (arith, ok (c .before .before .before .before)))
 
 add-jobs-of-2 : tie.Need-add-jobs-of-2
-add-jobs-of-2 c = omega (arith, ok (c .before .before .before))
+add-jobs-of-2 c = rw (c .before .before .before .device-place .ensures) (omega (arith, ok (c .before .before .before .before)))
 
 mul-jobs-of : tie.Need-mul-jobs-of
-mul-jobs-of c = omega (arith, ok (c .before .before .before))
+mul-jobs-of c = rw (c .before .before .before .device-place .ensures) (omega (arith, ok (c .before .before .before .before)))
 
 add-jobs-of-3 : tie.Need-add-jobs-of-3
-add-jobs-of-3 c = omega (arith, ok (c .before .before .before))
+add-jobs-of-3 c = rw (c .before .before .before .device-place .ensures) (omega (arith, ok (c .before .before .before .before) .jobs .there, ok (c .before .before .before .before)))
 
 jobs-of-requires : tie.Need-jobs-of-requires
 jobs-of-requires c κs =
-    let k = ok (c .before .before .before) in
-    let room = records-room _ (JobRecords _ _) _ _ (omega (arith, k .jobs .there)) (k .jobs .records) in
-    (sound (c .before .before), omega (arith, k .jobs), same (c .before), room)
+    let k = ok (c .before .before .before .before) in
+    let room = jobs-room _ _ _ _ _ (omega (arith, k .jobs .there)) (k .jobs .records) in
+    let h = same (c .before) in
+    rw (c .before .before .before .device-place .ensures) (sound (c .before .before .before .before), omega (arith, k .jobs), h, room)
 
-cast-t15 : tie.Need-cast-t15
-cast-t15 c = search needs
+cast-t16 : tie.Need-cast-t16
+cast-t16 c = search needs
 
 returns : tie.Need-returns
-unfolding recorderIn
+unfolding recorderAs
 returns c =
-    let few = length-jobs _ _ _ _ _ (ok (c .before .before .before .before) .jobs) in
-    rw (c .jobs-of .ensures, packed-held _ few, c .before .devices-of .ensures, same (c .before .before))
+    let few = length-jobs _ _ _ _ _ (ok (c .before .before .before .before .before) .jobs) in
+    rw (c .jobs-of .ensures, c .before .before .before .before .device-place .ensures, packed-held _ few, c .before .devices-of .ensures, same (c .before .before))
 
 pub recorder-in-spec : {M : Type 1} → statement M
 recorder-in-spec =
@@ -86,8 +92,7 @@ recorder-in-spec =
     (tie.spec
     shared-slice-read-n
     cast-n
-    mul-place
-    add-place
+    device-place-requires
     shared-slice-read-tasks
     cast-tasks
     add-horizon-of
@@ -98,5 +103,5 @@ recorder-in-spec =
     mul-jobs-of
     add-jobs-of-3
     jobs-of-requires
-    cast-t15
+    cast-t16
     returns)

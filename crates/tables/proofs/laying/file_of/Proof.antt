@@ -1,65 +1,78 @@
--- The horizon field, then the three tables.
+-- The mark of the kind, the horizon field, then the three tables.
 -- Assumes nothing.
 use borrow.Author.Needs.{needs}
 use mathlib.Core.Path.{_≡_, ap, _∙_}
-use mathlib.Core.List.{[]}
-use Prim.Native.Nat.{_+_, _*_}
+use mathlib.Core.List.{List, [], _++_}
+use Prim.Native.Nat.{_+_, _≤_}
 use native.Mathlib.Omega.{arith}
+use lib.ListN.{length}
 use Rattle.tables.specs.declared.File.{File}
 use Rattle.tables.specs.declared.Part.the-variants.{Devices, Tasks, Jobs}
 use Rattle.tables.specs.Records.{pairBytes}
-use Rattle.tables.specs.Layout.{sectionOf, bytesOf}
+use Rattle.tables.specs.Layout.{marker, sectionOf, layoutOf, bytesOf}
 use Rattle.tables.specs.Held.{cut, held, appended}
 use Rattle.tables.proofs.Appending.{appended-count, appended-more, held-all}
-use Rattle.tables.proofs.Joining.{length-section, cut-fits}
+use Rattle.tables.proofs.Joining.{length-marker, devices-short, tasks-short, jobs-short, cut-fits}
 use Rattle.tables.proofs.laying.file_of.Statement.{statement}
 use Rattle.tables.proofs.laying.file_of.Tie as tie
+
+-- the bytes so far
+marked : (c : tie.After-push-marker) → c .push-marker .result .count ≤ 2
+unfolding held
+marked c =
+    let a = c .before .before .args .t in
+    omega (arith, ap (λ (f : File). f .count) (c .push-marker .ensures), appended-count (c .before .empty .result) (marker (a .kind)), ap (λ (f : File). f .count) (c .before .empty .ensures), length-marker (a .kind))
+
+headed : (c : tie.After-push-pair) → c .push-pair .result .count ≤ 4
+headed c =
+    let a = c .before .before .before .args .t in
+    omega (arith, marked (c .before), ap (λ (f : File). f .count) (c .push-pair .ensures), appended-count (c .before .push-marker .result) (pairBytes (a .horizon)))
+
+after-devices : (c : tie.After-push-section) → c .push-section .result .count ≤ 95
+after-devices c =
+    let t = c .before .before .before .before .args .t in
+    omega (arith, headed (c .before), ap (λ (f : File). f .count) (c .push-section .ensures), appended-count (c .before .push-pair .result) (sectionOf (cut t) Devices), devices-short t)
+
+after-tasks : (c : tie.After-push-section2) → c .push-section2 .result .count ≤ 141
+after-tasks c =
+    let t = c .before .before .before .before .before .args .t in
+    omega (arith, after-devices (c .before), ap (λ (f : File). f .count) (c .push-section2 .ensures), appended-count (c .before .push-section .result) (sectionOf (cut t) Tasks), tasks-short t)
 
 empty-requires : tie.Need-empty-requires
 empty-requires c κs = search needs
 
-push-pair-requires : tie.Need-push-pair-requires
+push-marker-requires : tie.Need-push-marker-requires
 unfolding held
-push-pair-requires c κs = rw (c .empty .ensures) (omega arith)
+push-marker-requires c κs = rw (c .empty .ensures) (omega arith)
 
--- the bytes so far
-two : (c : tie.After-push-pair) → c .push-pair .result .count ≡ 2
-unfolding held appended
-two c = rw (c .push-pair .ensures, c .before .empty .ensures)
-
-after-devices : (c : tie.After-push-section) → c .push-section .result .count ≡ 3 + cut (c .before .before .before .args .t) .devices .count * 7
-after-devices c =
-    let T = cut (c .before .before .before .args .t) in
-    omega (arith, two (c .before), ap (λ (f : File). f .count) (c .push-section .ensures), appended-count (c .before .push-pair .result) (sectionOf T Devices), length-section T Devices)
+push-pair-requires : tie.Need-push-pair-requires
+push-pair-requires c κs = omega (arith, marked c)
 
 push-section-requires : tie.Need-push-section-requires
-unfolding cut
-push-section-requires c κs = omega (arith, two c)
+push-section-requires c κs = omega (arith, headed c, devices-short (c .before .before .before .args .t))
 
 push-section-requires-2 : tie.Need-push-section-requires-2
-unfolding cut
-push-section-requires-2 c κs = omega (arith, after-devices c)
+push-section-requires-2 c κs = omega (arith, after-devices c, tasks-short (c .before .before .before .before .args .t))
 
 push-section-requires-3 : tie.Need-push-section-requires-3
-unfolding cut
-push-section-requires-3 c κs =
-    let T = cut (c .before .before .before .before .args .t) in
-    omega (arith, after-devices (c .before), ap (λ (f : File). f .count) (c .push-section2 .ensures), appended-count (c .before .push-section .result) (sectionOf T Tasks), length-section T Tasks)
+push-section-requires-3 c κs = omega (arith, after-tasks c, jobs-short (c .before .before .before .before .before .args .t))
 
 returns : tie.Need-returns
-unfolding bytesOf cut
+unfolding bytesOf layoutOf cut
 returns c =
-    let T = cut (c .before .before .before .before .before .args .t) in
-    let first = c .before .before .before .push-pair .ensures ∙ ap (λ (f : File). appended f (pairBytes (T .horizon))) (c .before .before .before .before .empty .ensures) in
-    rw (c .push-section3 .ensures, c .before .push-section2 .ensures, c .before .before .push-section .ensures, first)
-    (appended-more _ (sectionOf T Tasks) (sectionOf T Jobs) ∙ appended-more _ (sectionOf T Devices) _ ∙ appended-more (held []) (pairBytes (T .horizon)) _ ∙
-    held-all (bytesOf T) (cut-fits (c .before .before .before .before .before .args .t)))
+    let t = c .before .before .before .before .before .before .args .t in
+    let T = cut t in
+    let first = c .before .before .before .before .push-marker .ensures ∙ ap (λ (f : File). appended f (marker (T .kind))) (c .before .before .before .before .before .empty .ensures) in
+    rw (c .push-section3 .ensures, c .before .push-section2 .ensures, c .before .before .push-section .ensures, c .before .before .before .push-pair .ensures, first)
+    (appended-more _ (sectionOf T Tasks) (sectionOf T Jobs) ∙ appended-more _ (sectionOf T Devices) _ ∙ appended-more _ (pairBytes (T .horizon)) _
+    ∙ appended-more (held []) (marker (T .kind)) _ ∙ held-all (bytesOf T) (cut-fits t))
 
 pub file-of-spec : {M : Type 1} → statement M
 file-of-spec =
     tie.close
     (tie.spec
     empty-requires
+    push-marker-requires
     push-pair-requires
     push-section-requires
     push-section-requires-2

@@ -1,31 +1,34 @@
 -- `tables::laying::push_device` meets its contract.
 -- Assumes nothing.
 use borrow.Author.Needs.{needs}
-use native.Mathlib.Omega.{arith}
-use Rattle.tables.specs.Held.{appended}
 use Rattle.tables.proofs.laying.push_device.Statement.{statement}
 use Rattle.tables.proofs.laying.push_device.Tie as tie
 
-push-requires : tie.Need-push-requires
-push-requires c κs = search needs
+enum-told : tie.Need-enum-told
+enum-told c = search needs
 
-push-pair-requires : tie.Need-push-pair-requires
-unfolding appended
-push-pair-requires c κs = rw (c .push .ensures) (omega arith)
+push-first-requires : tie.Need-push-first-requires
+push-first-requires c κs = rw (c .enum-told .given .1) at (c .before .before .pre)
 
-push-pair-requires-2 : tie.Need-push-pair-requires-2
-unfolding appended
-push-pair-requires-2 c κs = rw (c .push-pair .ensures, c .before .push .ensures) (omega arith)
+enum-told-2 : tie.Need-enum-told-2
+enum-told-2 c = search needs
 
-push-pair-requires-3 : tie.Need-push-pair-requires-3
-unfolding appended
-push-pair-requires-3 c κs = rw (c .push-pair2 .ensures, c .before .push-pair .ensures, c .before .before .push .ensures) (omega arith)
+push-second-requires : tie.Need-push-second-requires
+push-second-requires c κs = rw (c .enum-told2 .given .1) at (c .before .before .pre)
 
 returns : tie.Need-returns
-unfolding appended
-returns c = rw (c .push-pair3 .ensures, c .before .push-pair2 .ensures, c .before .before .push-pair .ensures, c .before .before .before .push .ensures)
+returns c = rw (c .before .enum-told .given .1) (c .push-first .ensures)
+
+returns-2 : tie.Need-returns-2
+returns-2 c = rw (c .before .enum-told2 .given .1) (c .push-second .ensures)
 
 pub push-device-spec : {M : Type 1} → statement M
 push-device-spec =
     tie.close
-    (tie.spec push-requires push-pair-requires push-pair-requires-2 push-pair-requires-3 returns)
+    (tie.spec
+    enum-told
+    push-first-requires
+    enum-told-2
+    push-second-requires
+    returns
+    returns-2)

@@ -11,7 +11,7 @@ device-of-requires : tie.Need-device-of-requires
 device-of-requires c κs = search needs
 
 push-device-requires : tie.Need-push-device-requires
-push-device-requires c κs = rw (c .before .before .enum-told .given .1) at (c .before .before .before .before .pre)
+push-device-requires c κs = rw (c .device-of .ensures) (rw (c .before .before .enum-told .given .1) at (c .before .before .before .before .pre))
 
 enum-told-2 : tie.Need-enum-told-2
 enum-told-2 c = search needs

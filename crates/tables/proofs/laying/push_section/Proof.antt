@@ -1,16 +1,18 @@
 -- After k records the file has the count and these.
 -- Assumes nothing.
 use borrow.Author.Needs.{needs}
-use mathlib.Core.Path.{_≡_, refl, ap}
+use mathlib.Core.Path.{_≡_, refl, ap, _∙_}
 use mathlib.Core.List.{[], _∷_}
-use Prim.Native.Nat.{ℕ, suc, _≤_, _-_, _*_}
+use Prim.Native.Nat.{ℕ, _≤_, _<_, _+_, _-_}
 use native.Mathlib.Omega.{arith}
-use native.Mathlib.Nat.{suc-mul, mul-le-mul-right}
+use lib.ListN.{length, length-append}
 use Rattle.tables.specs.Held.{cut, appended}
 use Rattle.tables.specs.declared.File.{File}
-use Rattle.tables.specs.Layout.{joined, sectionOf, countIn, recordIn, sizeIn}
+use Rattle.tables.specs.declared.Tables.{Tables}
+use Rattle.tables.specs.declared.Part.{Part}
+use Rattle.tables.specs.Layout.{joined, sectionOf, countIn, recordIn}
 use Rattle.tables.proofs.Appending.{appended-count, appended-more}
-use Rattle.tables.proofs.Joining.{joined-more, length-records, record-cut, count-cut}
+use Rattle.tables.proofs.Joining.{joined-more, joined-le, length-section, record-cut, count-cut}
 use Rattle.tables.proofs.laying.push_section.Statement.{statement}
 use Rattle.tables.proofs.laying.push_section.Tie as tie
 
@@ -20,6 +22,17 @@ Inv-loop t part n out₀ k₀ out k = (k ≤ n) × (out ≡ appended out₀ (joi
 abbrev μ-loop : tie.MeasureT-loop
 μ-loop t part n out₀ k₀ out k = n - k
 
+-- The next record has room in what the whole table asks for.
+fits :
+    (T : Tables) (p : Part) (f : File) (n k : ℕ) (start out : File) → n ≡ countIn (cut T) p → start ≡ appended f (n ∷ [])
+    → out ≡ appended start (joined (recordIn T p) k) → k < n → f .count + length (sectionOf (cut T) p) ≤ 261 → out .count + length (recordIn T p k) ≤ 261
+fits T p f n k start out e s o l room =
+    let g = recordIn T p in
+    let more : length (joined g (k + 1)) ≡ length (joined g k) + length (g k) = ap length (joined-more g k) ∙ length-append (joined g k) (g k) in
+    let whole : length (sectionOf (cut T) p) ≡ 1 + length (joined g (countIn (cut T) p)) = rw (record-cut T p) at (length-section (cut T) p) in
+    let most : length (joined g (k + 1)) ≤ length (joined g (countIn (cut T) p)) = joined-le g (k + 1) (countIn (cut T) p) (omega arith) in
+    omega (arith, ap (λ (x : File). x .count) o, appended-count start (joined g k), ap (λ (x : File). x .count) s, appended-count f (n ∷ []))
+
 count-of-requires : tie.Need-count-of-requires Inv-loop μ-loop
 count-of-requires c κs = search needs
 
@@ -27,7 +40,7 @@ cast-push : tie.Need-cast-push Inv-loop μ-loop
 cast-push c = omega (arith, c .count-of .ensures, count-cut (c .before .args .t) (c .before .args .part))
 
 push-requires : tie.Need-push-requires Inv-loop μ-loop
-push-requires c κs = omega arith
+push-requires c κs = omega (arith, length-section (cut (c .before .args .t)) (c .before .args .part))
 
 loop-holds : tie.Need-loop-holds Inv-loop μ-loop
 unfolding joined appended
@@ -38,10 +51,8 @@ push-record-requires c κs =
     let l = c .before .loop in
     let a = c .before .before .before .before .args in
     let n = c .before .before .before .count-of in
-    let size = sizeIn (a .part) in
-    let more : suc (l .k) * size ≤ n .result * size = mul-le-mul-right size (c .loop-test .taken) in
     let start = c .before .before .push in
-    omega (arith, ap (λ (f : File). f .count) (l .inv .1), appended-count (start .result) (joined (recordIn (a .t) (a .part)) (l .k)), length-records (a .t) (a .part) (l .k), ap (λ (f : File). f .count) (start .ensures), appended-count (a .f) (n .result ∷ []), suc-mul (l .k) size, ap (λ (m : ℕ). m * size) (n .ensures))
+    fits (a .t) (a .part) (a .f) (n .result) (l .k) (start .result) (l .out) (n .ensures) (start .ensures) (l .inv .1) (c .loop-test .taken) (c .before .before .before .before .pre)
 
 add-k : tie.Need-add-k Inv-loop μ-loop
 add-k c = search needs

@@ -1,42 +1,35 @@
 -- `tables::listing::device_at` meets its contract.
 -- Assumes nothing.
 use borrow.Author.Needs.{needs}
+use native.Mathlib.Omega.{arith}
 use Rattle.tables.proofs.listing.device_at.Statement.{statement}
 use Rattle.tables.proofs.listing.device_at.Tie as tie
 
-shared-slice-read-t4 : tie.Need-shared-slice-read-t4
-shared-slice-read-t4 c = search needs
+enum-told : tie.Need-enum-told
+enum-told c = search needs
 
-add-pair-at : tie.Need-add-pair-at
-add-pair-at c = search needs
+first-at-requires : tie.Need-first-at-requires
+first-at-requires c κs = rw (c .enum-told .given .1) at (c .before .before .before .pre)
 
-pair-at-requires : tie.Need-pair-at-requires
-pair-at-requires c κs = search needs
+enum-told-2 : tie.Need-enum-told-2
+enum-told-2 c = search needs
 
-add-pair-at-2 : tie.Need-add-pair-at-2
-add-pair-at-2 c = search needs
-
-pair-at-requires-2 : tie.Need-pair-at-requires-2
-pair-at-requires-2 c κs = search needs
-
-add-pair-at-3 : tie.Need-add-pair-at-3
-add-pair-at-3 c = search needs
-
-pair-at-requires-3 : tie.Need-pair-at-requires-3
-pair-at-requires-3 c κs = search needs
+second-at-requires : tie.Need-second-at-requires
+second-at-requires c κs = rw (c .enum-told2 .given .1) at (c .before .before .before .pre)
 
 returns : tie.Need-returns
-returns c = cc
+returns c = rw (c .before .enum-told .given .1) (c .first-at .ensures)
+
+returns-2 : tie.Need-returns-2
+returns-2 c = rw (c .before .enum-told2 .given .1) (c .second-at .ensures)
 
 pub device-at-spec : {M : Type 1} → statement M
 device-at-spec =
     tie.close
     (tie.spec
-    shared-slice-read-t4
-    add-pair-at
-    pair-at-requires
-    add-pair-at-2
-    pair-at-requires-2
-    add-pair-at-3
-    pair-at-requires-3
-    returns)
+    enum-told
+    first-at-requires
+    enum-told-2
+    second-at-requires
+    returns
+    returns-2)

@@ -1,84 +1,57 @@
 -- `tables::listing::tables_in` meets its contract.
 -- Assumes nothing.
 use borrow.Author.Needs.{needs}
-use Rattle.tables.specs.Layout.{tablesOf}
+use native.Mathlib.Omega.{arith}
+use mathlib.Core.Path.{_≡_, ap, _∙_}
+use mathlib.Core.List.{List}
+use Prim.Native.Nat.{ℕ, _-_, _≤_}
+use lib.ListN.{length, take, drop}
+use Rattle.tables.specs.declared.Kind.{Kind}
+use Rattle.tables.specs.declared.Tables.{Tables}
+use Rattle.tables.specs.Layout.{marker, kindOf, bodyOf, tablesAs, tablesOf}
+use Rattle.tables.specs.Held.{Whole}
+use Rattle.tables.proofs.Back.{mark-fits, part-rest}
 use Rattle.tables.proofs.listing.tables_in.Statement.{statement}
 use Rattle.tables.proofs.listing.tables_in.Tie as tie
 
-shared-slice-read-n : tie.Need-shared-slice-read-n
-shared-slice-read-n c = search needs
+fits : (c : tie.After-marker-size) → c .marker-size .result ≤ length (c .before .before .before .args .s .now)
+fits c = rw (c .marker-size .ensures, c .before .kind-of .ensures) (mark-fits _)
 
-cast-n : tie.Need-cast-n
-cast-n c = search needs
+whole-part : (s : List ℕ) (k : Kind) (n : ℕ) → k ≡ kindOf s → n ≡ length (marker k) → Whole (kindOf s) (bodyOf s) → Whole k (take (length s - n) (drop n s))
+whole-part s k n e m w = rw (part-rest s n, m, e) w
 
-mul-at : tie.Need-mul-at
-mul-at c = search needs
+by-its-own : (s : List ℕ) (k : Kind) (n : ℕ) (r : Tables) → k ≡ kindOf s → n ≡ length (marker k) → r ≡ tablesAs k (take (length s - n) (drop n s)) → r ≡ tablesOf s
+by-its-own s k n r e m h = rw (part-rest s n, m, e) at h
 
-add-at : tie.Need-add-at
-add-at c = search needs
+kind-of-requires : tie.Need-kind-of-requires
+kind-of-requires c κs = search needs
 
-shared-slice-read-m : tie.Need-shared-slice-read-m
-shared-slice-read-m c = search needs
+marker-size-requires : tie.Need-marker-size-requires
+marker-size-requires c κs = search needs
 
-cast-m : tie.Need-cast-m
-cast-m c = search needs
+sub-tables-as : tie.Need-sub-tables-as
+sub-tables-as c = fits c
 
-add-place : tie.Need-add-place
-add-place c = search needs
+part-tables-as-start : tie.Need-part-tables-as-start
+part-tables-as-start c = omega (arith, fits c)
 
-mul-place : tie.Need-mul-place
-mul-place c = search needs
+part-tables-as-end : tie.Need-part-tables-as-end
+part-tables-as-end c = omega (arith, fits c)
 
-add-place-2 : tie.Need-add-place-2
-add-place-2 c = search needs
-
-shared-slice-read-count : tie.Need-shared-slice-read-count
-shared-slice-read-count c = search needs
-
-cast-count : tie.Need-cast-count
-cast-count c = search needs
-
-devices-at-requires : tie.Need-devices-at-requires
-devices-at-requires c κs = search needs
-
-add-tasks-at : tie.Need-add-tasks-at
-add-tasks-at c = search needs
-
-tasks-at-requires : tie.Need-tasks-at-requires
-tasks-at-requires c κs = search needs
-
-add-jobs-at : tie.Need-add-jobs-at
-add-jobs-at c = search needs
-
-jobs-at-requires : tie.Need-jobs-at-requires
-jobs-at-requires c κs = search needs
-
-pair-at-requires : tie.Need-pair-at-requires
-pair-at-requires c κs = search needs
+tables-as-requires : tie.Need-tables-as-requires
+tables-as-requires c κs = whole-part _ _ _ (c .before .before .kind-of .ensures) (c .before .marker-size .ensures) (c .before .before .before .before .pre)
 
 returns : tie.Need-returns
-unfolding tablesOf
-returns c = rw (c .pair-at .ensures, c .before .jobs-at .ensures, c .before .before .tasks-at .ensures, c .before .before .before .devices-at .ensures)
+returns c = by-its-own _ _ _ _ (c .before .before .before .kind-of .ensures) (c .before .before .marker-size .ensures) (c .tables-as .ensures)
 
 pub tables-in-spec : {M : Type 1} → statement M
 tables-in-spec =
     tie.close
     (tie.spec
-    shared-slice-read-n
-    cast-n
-    mul-at
-    add-at
-    shared-slice-read-m
-    cast-m
-    add-place
-    mul-place
-    add-place-2
-    shared-slice-read-count
-    cast-count
-    devices-at-requires
-    add-tasks-at
-    tasks-at-requires
-    add-jobs-at
-    jobs-at-requires
-    pair-at-requires
+    kind-of-requires
+    marker-size-requires
+    sub-tables-as
+    part-tables-as-start
+    part-tables-as-end
+    tables-as-requires
     returns)
