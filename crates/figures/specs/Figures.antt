@@ -81,6 +81,22 @@ X3 = two 0 ++ 2 ∷ A ++ A ++ 2 ∷ two 4 ++ two 1 ++ 1 ∷ two 5 ++ two 3 ++ 2 
 abbrev E6 : List ℕ
 E6 = two 6 ++ 2 ∷ deviceFile 5 1 9 ++ A ++ 0 ∷ 2 ∷ jobFile 1 5 2 3 ++ jobFile 4 6 2 3
 
+-- A file of the second kind; a device that wakes in 1 tick at 4 and shuts down in 3 at 2, Pw 9, Ps 1; and device A in such a file.
+abbrev second : List ℕ → List ℕ
+second f = 255 ∷ 2 ∷ f
+
+abbrev B : List ℕ
+B = 1 ∷ 3 ∷ two 9 ++ two 1 ++ two 4 ++ two 2
+
+abbrev A′ : List ℕ
+A′ = 1 ∷ 1 ∷ two 5 ++ two 1 ++ two 3 ++ two 3
+
+abbrev H4 : List ℕ
+H4 = second (two 9 ++ 1 ∷ B ++ 0 ∷ 1 ∷ jobFile 2 7 2 1)
+
+abbrev H7 : List ℕ
+H7 = second (two 5 ++ 1 ∷ A′ ++ 0 ∷ 1 ∷ jobFile 0 5 2 1)
+
 -- ---- what a file has
 
 pub data Figure : Type 0 where
@@ -156,6 +172,19 @@ table =
     -- E6: a floor that took every gap of 2T ticks for slept would stand at 64 with start 2, and stay with 60
     ∷ E6 has search 1000 (replicate 3 9) (success 6 56 7) (2 ∷ 4 ∷ 9 ∷ [])
     ∷ E6 has verdict (1 ∷ 4 ∷ []) (success 6 60 0)
+    -- H1 to H3: slept from shut time + wake time on, 3 of D and 1 of U
+    ∷ second (two 8 ++ 1 ∷ B ++ idle) has rows [] (replicate 9 9) (success 8 14 0) (letters (D ∷ D ∷ D ∷ S ∷ S ∷ S ∷ S ∷ U ∷ []) ++ 9 ∷ [])
+    ∷ second (two 3 ++ 1 ∷ B ++ idle) has rows [] (replicate 4 9) (success 3 27 0) (letters (W ∷ W ∷ W ∷ []) ++ 9 ∷ [])
+    ∷ second (two 4 ++ 1 ∷ B ++ idle) has rows [] (replicate 5 9) (success 4 10 0) (letters (D ∷ D ∷ D ∷ U ∷ []) ++ 9 ∷ [])
+    ∷ H4 has search 1000 (replicate 2 9) (success 9 47 5) (2 ∷ 9 ∷ [])
+    ∷ H4 has rows (2 ∷ []) (replicate 10 9) (success 9 47 0) (letters (W ∷ W ∷ W ∷ W ∷ D ∷ D ∷ D ∷ S ∷ U ∷ []) ++ 9 ∷ [])
+    -- H7: device A's figures give P3's plan
+    ∷ H7 has search 1000 (9 ∷ 9 ∷ []) (success 5 17 5) (0 ∷ 9 ∷ [])
+    ∷ H7 has rows (0 ∷ []) (replicate 6 9) (success 5 17 0) (letters (W ∷ W ∷ D ∷ S ∷ U ∷ []) ++ 9 ∷ [])
+    -- H14 to H16: a mark cut short, a mark alone, a mark and nothing but zeros
+    ∷ (255 ∷ []) has check (refusal 1)
+    ∷ second [] has check (refusal 1)
+    ∷ second (replicate 5 0) has check (refusal 10)
     ∷ []
 
 -- ---- the statement
