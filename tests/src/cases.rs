@@ -3,12 +3,14 @@
 use crate::random::Random;
 use crate::request::{read, Job, Request};
 use crate::tables::Tables;
-use crate::{damage, faults, listing, valid};
+use crate::{damage, faults, listing, second, valid};
 
 #[derive(Clone, Copy, Debug, PartialEq, Eq, PartialOrd, Ord)]
 pub enum Kind {
     Jobs,
     Dear,
+    Second,
+    SecondFault,
     Tasks,
     Tight,
     OverBudget,
@@ -29,6 +31,8 @@ impl Kind {
         match self {
             Kind::Jobs => "valid job lists",
             Kind::Dear => "devices dear to move",
+            Kind::Second => "of the second kind",
+            Kind::SecondFault => "of the second kind, damaged",
             Kind::Tasks => "valid task lists",
             Kind::Tight => "tight windows, aimed at 19",
             Kind::OverBudget => "loose jobs, aimed at 20",
@@ -55,16 +59,18 @@ pub struct Case {
 
 /// The kinds in turn, so that any hundred cases have all of them. A case over the budget costs a
 /// million vertices on both sides, so there is only one.
-const ROUND: [(Kind, u64); 15] = [
-    (Kind::Jobs, 14),
-    (Kind::Dear, 8),
+const ROUND: [(Kind, u64); 17] = [
+    (Kind::Jobs, 8),
+    (Kind::Dear, 6),
+    (Kind::Second, 8),
+    (Kind::SecondFault, 6),
     (Kind::Tasks, 10),
     (Kind::Tight, 8),
     (Kind::OverBudget, 1),
     (Kind::NearLimits, 5),
     (Kind::CutShort, 8),
-    (Kind::Changed, 12),
-    (Kind::Added, 7),
+    (Kind::Changed, 8),
+    (Kind::Added, 5),
     (Kind::CountChanged, 5),
     (Kind::OneFault, 9),
     (Kind::TwoFaults, 6),
@@ -106,6 +112,8 @@ fn file_of(random: &mut Random, kind: Kind) -> Vec<u8> {
     match kind {
         Kind::Jobs => valid::job_list(random).bytes(),
         Kind::Dear => valid::dear_list(random).bytes(),
+        Kind::Second => second::accepted(random).bytes(),
+        Kind::SecondFault => second::damaged(random),
         Kind::Tasks => accepted_tasks(random).bytes(),
         Kind::Tight => tight(random).bytes(),
         Kind::OverBudget => over_budget(random).bytes(),
@@ -211,7 +219,8 @@ fn faulty(random: &mut Random, count: usize) -> Vec<u8> {
 fn is_small(request: &Request) -> bool {
     let ways = |job: &Job| u64::from(job.latest() - job.release + 2);
     let row_steps = |device: usize| {
-        let states = u64::from(2 * request.devices[device].transition + 2);
+        let powers = &request.devices[device];
+        let states = u64::from(powers.shut.ticks + powers.wake.ticks + 2);
         let jobs = request.jobs.iter().filter(|job| job.uses(device));
         jobs.fold(states * u64::from(request.horizon), |steps, job| {
             steps.saturating_mul(ways(job))
@@ -263,6 +272,7 @@ mod tests {
         let valid = [
             Kind::Jobs,
             Kind::Dear,
+            Kind::Second,
             Kind::Tasks,
             Kind::Tight,
             Kind::NearLimits,

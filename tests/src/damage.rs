@@ -47,7 +47,7 @@ pub fn lengthen(random: &mut Random, mut file: Vec<u8>) -> Vec<u8> {
     let more = if random.one_in(12) {
         random.within(70_000, 200_000)
     } else {
-        random.within(175, 6_000)
+        random.within(201, 6_000)
     };
     file.extend(random.bytes(more as usize));
     file

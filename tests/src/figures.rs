@@ -230,10 +230,13 @@ fn e4_and_e5_moving_or_working_at_the_power_of_sleep() {
 /// Each gap of at least 2T ticks slept, whatever that costs: the least energy only while moving costs
 /// less than work.
 fn slept_from_2t(device: &Device, uses: &[Use], length: u32) -> u64 {
-    let moves = 2 * device.transition;
+    let (shut, wake) = (device.shut, device.wake);
+    let moves = shut.ticks + wake.ticks;
     let gap = |ticks: u32| match ticks.checked_sub(moves) {
         None => ticks * device.working,
-        Some(asleep) => moves * device.moving + asleep * device.sleeping,
+        Some(asleep) => {
+            shut.ticks * shut.power + wake.ticks * wake.power + asleep * device.sleeping
+        }
     };
     let (mut energy, mut at) = (0, 0);
     for &(from, to) in uses.iter().chain(&[(length, length)]) {

@@ -1,6 +1,7 @@
-//! Cases that are not left to chance: the figures P1 to P12 and E1 to E6 as files, and counts that meet
+//! Cases that are not left to chance: the figures P1 to P12, E1 to E6 and H1 to H16 as files, and counts that meet
 //! the budget exactly or pass it by one.
 
+use crate::second::Second;
 use crate::tables::{device_a, job, task, DeviceRecord, JobRecord, Tables, TaskRecord};
 
 pub struct Fixed {
@@ -88,6 +89,45 @@ fn dear_moves() -> Vec<(&'static str, Vec<u8>)> {
     ]
 }
 
+/// Files of the second kind: a device that wakes in 1 tick and shuts down in 3, and device A; then marks
+/// that are none, or have too little behind them.
+fn second_kind() -> Vec<(&'static str, Vec<u8>)> {
+    let apart = |horizon, jobs| {
+        let device = DeviceRecord {
+            working: 9,
+            moving: 4,
+            ..device_a()
+        };
+        let tables = Tables {
+            horizon,
+            devices: vec![device],
+            tasks: Vec::new(),
+            jobs,
+        };
+        let shuts = vec![(3, 2)];
+        Second { tables, shuts }.bytes()
+    };
+    let alike = Tables {
+        horizon: 5,
+        devices: vec![device_a()],
+        tasks: Vec::new(),
+        jobs: vec![job(0, 5, 2, 1)],
+    };
+    vec![
+        ("H1", apart(8, vec![])),
+        ("H2", apart(3, vec![])),
+        ("H3", apart(4, vec![])),
+        ("H4", apart(9, vec![job(2, 7, 2, 1)])),
+        ("H7", Second::alike(alike).bytes()),
+        ("H14", vec![255]),
+        ("H15", vec![255, 2]),
+        ("H16", vec![255, 2, 0, 0, 0, 0, 0]),
+        ("FF 00", vec![255, 0, 0, 0, 0]),
+        ("FF 01", vec![255, 1, 0, 0, 0]),
+        ("FF 04", vec![255, 4, 0, 0, 0]),
+    ]
+}
+
 /// A device that no job uses is worth its sleep in the floor and more in any plan, so no floor ever
 /// cuts. Two jobs of one tick with m and n starts, k of them shared, then give 1 vertex for the
 /// root, m + n for one job placed, m n - k for both: (m + 1)(n + 1) - k in all.
@@ -134,7 +174,7 @@ fn eight_tasks() -> Vec<u8> {
 
 pub fn all() -> Vec<Fixed> {
     let mut all = figures();
-    all.extend(dear_moves());
+    all.extend(dear_moves().into_iter().chain(second_kind()));
     all.extend(budget_edges());
     all.push(("eight tasks", eight_tasks()));
     all.into_iter()

@@ -22,6 +22,7 @@ pub mod random;
 pub mod request;
 pub mod rows;
 pub mod runner;
+pub mod second;
 pub mod sheets;
 pub mod slow;
 pub mod streams;

@@ -17,20 +17,21 @@ const DEVICES: usize = MOST_DEVICES as usize;
 
 #[derive(Clone, Copy, Default)]
 struct Device {
-    transition: u32,
     working: u32,
     sleeping: u32,
+    /// The ticks of both moves, and what they cost.
+    moves: u32,
     moving: u32,
 }
 
 impl Device {
     /// The least energy of a stretch without use between two that work.
     fn gap(&self, ticks: u32) -> u32 {
-        let (moves, worked) = (2 * self.transition, ticks * self.working);
-        if ticks < moves {
+        let worked = ticks * self.working;
+        if ticks < self.moves {
             worked
         } else {
-            worked.min(moves * self.moving + (ticks - moves) * self.sleeping)
+            worked.min(self.moving + (ticks - self.moves) * self.sleeping)
         }
     }
 }
@@ -79,10 +80,10 @@ impl Problem {
             };
         }
         let device = |device: &crate::request::Device| Device {
-            transition: device.transition,
             working: device.working,
             sleeping: device.sleeping,
-            moving: device.moving,
+            moves: device.shut.ticks + device.wake.ticks,
+            moving: device.shut.ticks * device.shut.power + device.wake.ticks * device.wake.power,
         };
         Ok(Problem {
             horizon: request.horizon,

@@ -12,12 +12,43 @@ pub const MOST_TASKS: u8 = 8;
 pub const MOST_JOBS: usize = 16;
 pub const LONGEST_HORIZON: u32 = 4096;
 
+/// How the device records of a file are laid out: what its first bytes say (rule 75).
+#[derive(Clone, Copy, Debug, Default, PartialEq, Eq)]
+pub enum FileKind {
+    #[default]
+    First,
+    Second,
+}
+
+/// Going down or coming up.
+#[derive(Clone, Copy, Debug, PartialEq, Eq)]
+pub struct Move {
+    pub ticks: u32,
+    pub power: u32,
+}
+
 #[derive(Clone, Debug, PartialEq, Eq)]
 pub struct Device {
-    pub transition: u32,
     pub working: u32,
     pub sleeping: u32,
-    pub moving: u32,
+    pub shut: Move,
+    pub wake: Move,
+}
+
+impl Device {
+    /// Both moves take the same time at the same power.
+    pub fn averaged(transition: u32, working: u32, sleeping: u32, moving: u32) -> Device {
+        let both = Move {
+            ticks: transition,
+            power: moving,
+        };
+        Device {
+            working,
+            sleeping,
+            shut: both,
+            wake: both,
+        }
+    }
 }
 
 /// A task is known only to the reader: what is planned are the jobs that it unfolds into.
@@ -84,10 +115,24 @@ fn pair(record: &[u8], place: usize) -> u32 {
     u32::from(record[place]) * 256 + u32::from(record[place + 1])
 }
 
+/// The kind of a file and what follows its mark. Only FF 02 is one.
+pub fn unmarked(file: &[u8]) -> (FileKind, &[u8]) {
+    match file {
+        [0xFF, 2, rest @ ..] => (FileKind::Second, rest),
+        _ => (FileKind::First, file),
+    }
+}
+
 pub fn read(file: &[u8]) -> Result<Request, Refusal> {
-    let mut cursor = Cursor { rest: file };
+    let (kind, rest) = unmarked(file);
+    read_as(kind, rest)
+}
+
+/// Reads what follows the mark of a file of a kind.
+pub fn read_as(kind: FileKind, rest: &[u8]) -> Result<Request, Refusal> {
+    let mut cursor = Cursor { rest };
     let field = pair(cursor.take(2)?, 0);
-    let devices = read_devices(&mut cursor)?;
+    let devices = read_devices(&mut cursor, kind)?;
     let tasks = read_tasks(&mut cursor, devices.len())?;
     let job_count = cursor.byte()?;
     if !tasks.is_empty() && (field != 0 || job_count != 0) {
@@ -113,26 +158,48 @@ pub fn read(file: &[u8]) -> Result<Request, Refusal> {
     })
 }
 
-fn read_devices(cursor: &mut Cursor) -> Result<Vec<Device>, Refusal> {
+fn read_devices(cursor: &mut Cursor, kind: FileKind) -> Result<Vec<Device>, Refusal> {
     let count = cursor.byte()?;
     if count > MOST_DEVICES {
         return Err(3);
     }
-    (0..count).map(|_| read_device(cursor)).collect()
+    (0..count).map(|_| read_device(cursor, kind)).collect()
 }
 
-fn read_device(cursor: &mut Cursor) -> Result<Device, Refusal> {
-    let record = cursor.take(7)?;
-    let device = Device {
-        transition: u32::from(record[0]),
-        working: pair(record, 1),
-        sleeping: pair(record, 3),
-        moving: pair(record, 5),
+fn read_device(cursor: &mut Cursor, kind: FileKind) -> Result<Device, Refusal> {
+    let device = match kind {
+        FileKind::First => {
+            let record = cursor.take(7)?;
+            let transition = u32::from(record[0]);
+            Device::averaged(
+                transition,
+                pair(record, 1),
+                pair(record, 3),
+                pair(record, 5),
+            )
+        }
+        FileKind::Second => {
+            let record = cursor.take(10)?;
+            Device {
+                working: pair(record, 2),
+                sleeping: pair(record, 4),
+                shut: Move {
+                    ticks: u32::from(record[1]),
+                    power: pair(record, 8),
+                },
+                wake: Move {
+                    ticks: u32::from(record[0]),
+                    power: pair(record, 6),
+                },
+            }
+        }
     };
-    if device.transition == 0 {
+    let moves = [device.shut, device.wake];
+    if moves.iter().any(|one| one.ticks == 0) {
         return Err(4);
     }
-    if !(device.sleeping < device.moving && device.sleeping < device.working) {
+    let asleep = device.sleeping;
+    if device.working <= asleep || moves.iter().any(|one| one.power <= asleep) {
         return Err(5);
     }
     Ok(device)
@@ -261,6 +328,32 @@ mod tests {
         assert_eq!(refusal(&[&[0, 9, 0, 9]]), 6);
         assert_eq!(refusal(&[&[0, 9, 0, 0, 17]]), 12);
         assert_eq!(refusal(&[&[0, 9, 0, 0, 2, 0, 0, 0, 9, 0, 0, 0]]), 13);
+    }
+
+    /// A record of the second kind has ten bytes: all of them are called for before any is judged.
+    #[test]
+    fn a_record_of_the_second_kind() {
+        let head = [255, 2, 0, 9, 1];
+        assert_eq!(refusal(&[&[255]]), 1);
+        assert_eq!(refusal(&[&[255, 2]]), 1);
+        assert_eq!(refusal(&[&[255, 2, 0, 0, 0, 0, 0]]), 10);
+        assert_eq!(refusal(&[&head, &[0, 0, 0, 1, 0, 1, 0, 1, 0]]), 1);
+        assert_eq!(refusal(&[&head, &[0, 3, 0, 9, 0, 9, 0, 4, 0, 2]]), 4);
+        assert_eq!(refusal(&[&head, &[1, 0, 0, 9, 0, 1, 0, 4, 0, 2]]), 4);
+        assert_eq!(refusal(&[&head, &[1, 3, 0, 1, 0, 1, 0, 4, 0, 2]]), 5);
+        assert_eq!(refusal(&[&head, &[1, 3, 0, 9, 0, 1, 0, 1, 0, 2]]), 5);
+        assert_eq!(refusal(&[&head, &[1, 3, 0, 9, 0, 1, 0, 4, 0, 1]]), 5);
+        let device = [1, 3, 0, 9, 0, 1, 0, 4, 0, 2];
+        assert!(read(&[&head, &device[..], &[0, 0]].concat()).is_ok());
+    }
+
+    /// No other mark is one: what begins with FF is of the first kind, and refused.
+    #[test]
+    fn only_ff_02_is_a_mark() {
+        for second in (0..=255).filter(|&byte| byte != 2) {
+            let file = [255, second, 0, 0, 0];
+            assert_eq!(read(&file), Err(10), "{second}");
+        }
     }
 
     #[test]

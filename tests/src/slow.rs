@@ -4,6 +4,7 @@
 
 use crate::expect::{search, text, BUDGET};
 use crate::runner::Feed;
+use crate::second::Second;
 use crate::tables::{device_a, job, task, Tables};
 use std::time::Duration;
 
@@ -50,14 +51,13 @@ fn periodic() -> Vec<u8> {
 }
 
 /// As long as an accepted file can be: 8 devices, no task, 16 jobs.
-fn longest() -> Vec<u8> {
+fn longest() -> Tables {
     Tables {
         horizon: 16,
         devices: vec![device_a(); 8],
         tasks: Vec::new(),
         jobs: (0..16).map(|n| job(n, n + 1, 1, 1 << (n % 8))).collect(),
     }
-    .bytes()
 }
 
 fn with_a_tail() -> Vec<u8> {
@@ -76,7 +76,17 @@ pub fn all() -> Vec<Slow> {
         slow("the first byte alone", listed(), &[1]),
         slow("all but the last byte", listed(), &[18]),
         slow("a piece a section", periodic(), &[2, 8, 11]),
-        slow("the longest accepted file", longest(), &[100]),
+        slow("the longest of the first kind", longest().bytes(), &[100]),
+        slow(
+            "the longest accepted file",
+            Second::alike(longest()).bytes(),
+            &[100, 99],
+        ),
+        slow(
+            "a byte after the longest",
+            [Second::alike(longest()).bytes(), vec![0]].concat(),
+            &[199],
+        ),
         slow("a byte after the last section", with_a_tail(), &[19]),
     ]
 }
@@ -98,6 +108,6 @@ mod tests {
             );
             assert_eq!(slow.pieces.iter().sum::<usize>(), slow.file.len());
         }
-        assert_eq!(longest().len(), 173);
+        assert_eq!(longest().bytes().len(), 173);
     }
 }

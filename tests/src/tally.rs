@@ -32,14 +32,19 @@ pub struct Rows {
     moving: BTreeMap<Ordering, u64>,
     /// Those of them in which the tie decides.
     ties: u64,
+    /// Those of a device whose two moves are not alike.
+    apart: u64,
 }
 
 impl Rows {
     pub fn add(&mut self, request: &Request, starts: &[u32]) {
         for (number, device) in request.devices.iter().enumerate() {
             let uses = uses(request, starts, number);
-            let moving = device.moving.cmp(&device.working);
-            *self.moving.entry(moving).or_default() += 1;
+            for one in [device.shut, device.wake] {
+                let moving = one.power.cmp(&device.working);
+                *self.moving.entry(moving).or_default() += 1;
+            }
+            self.apart += u64::from(device.shut != device.wake);
             self.ties += u64::from(is_tied(device, &uses, request.horizon));
         }
     }
@@ -53,16 +58,20 @@ impl Rows {
         if self.ties == 0 {
             missed.push("a tie".to_string());
         }
+        if self.apart == 0 {
+            missed.push("moves apart".to_string());
+        }
         missed
     }
 
     pub fn report(&self) -> String {
-        let mut text = String::from("rows where moving costs:\n");
+        let mut text = String::from("moves of rows that cost, against work:\n");
         for (moving, name) in MOVING {
             let count = self.moving.get(&moving).copied().unwrap_or_default();
             text += &format!("{count:7}  {name}\n");
         }
-        text + &format!("rows in which the tie decides: {}\n", self.ties)
+        text += &format!("rows in which the tie decides: {}\n", self.ties);
+        text + &format!("rows of devices whose moves differ: {}\n", self.apart)
     }
 }
 
@@ -143,15 +152,9 @@ mod tests {
     /// A device that is not used, for 2 ticks: slept at 3, worked through at 5 and at 9, and at 5 both
     /// cost 10.
     fn alone(moving: u32) -> Request {
-        let device = Device {
-            transition: 1,
-            working: 5,
-            sleeping: 1,
-            moving,
-        };
         Request {
             horizon: 2,
-            devices: vec![device],
+            devices: vec![Device::averaged(1, 5, 1, moving)],
             jobs: Vec::new(),
         }
     }
@@ -165,9 +168,13 @@ mod tests {
         for moving in [3, 9] {
             tally.rows.add(&alone(moving), &[]);
         }
-        assert_eq!(tally.never_met(), ["19", "moving costs as much", "a tie"]);
+        let missed = ["19", "moving costs as much", "a tie", "moves apart"];
+        assert_eq!(tally.never_met(), missed);
         tally.add(Kind::Tight, 19, 2);
         tally.rows.add(&alone(5), &[]);
+        let mut apart = alone(9);
+        apart.devices[0].wake.power = 3;
+        tally.rows.add(&apart, &[]);
         assert!(tally.never_met().is_empty());
     }
 

@@ -3,13 +3,36 @@
 
 use crate::faults;
 use crate::random::Random;
-use crate::request::{read, Refusal};
+use crate::request::{read_as, unmarked, FileKind, Refusal};
+use crate::second::{apart, Second, MARK};
 use crate::tables::Tables;
 use crate::valid;
 
-/// Of devices, tasks and jobs: the bytes of a record, and how many records tables have at most.
-pub const SIZES: [usize; 3] = [7, 5, 7];
+/// Of devices, tasks and jobs: how many records tables have at most.
 pub const MOST: [usize; 3] = [8, 8, 16];
+
+/// The bytes of a record, by kind.
+fn sizes(kind: FileKind) -> [usize; 3] {
+    match kind {
+        FileKind::First => [7, 5, 7],
+        FileKind::Second => [10, 5, 7],
+    }
+}
+
+/// A kind as the doors have it, and the mark of a file.
+fn kind_byte(kind: FileKind) -> u8 {
+    match kind {
+        FileKind::First => 1,
+        FileKind::Second => 2,
+    }
+}
+
+fn mark(kind: FileKind) -> &'static [u8] {
+    match kind {
+        FileKind::First => &[],
+        FileKind::Second => &MARK,
+    }
+}
 
 /// A table by its true count, with the records that there is room for.
 #[derive(Clone, Debug, Default, PartialEq, Eq)]
@@ -18,9 +41,10 @@ pub struct Table {
     pub records: Vec<Vec<u8>>,
 }
 
-/// The horizon field, and the tables of devices, tasks and jobs.
+/// The kind, the horizon field, and the tables of devices, tasks and jobs.
 #[derive(Clone, Debug, Default, PartialEq, Eq)]
 pub struct Given {
+    pub kind: FileKind,
     pub horizon: u16,
     pub tables: [Table; 3],
 }
@@ -34,21 +58,31 @@ impl Given {
         let lengths = [tables.devices.len(), tables.tasks.len(), tables.jobs.len()];
         let table = |part: usize| {
             let from = tables.count_places()[part] + 1;
-            let records = file[from..].chunks(SIZES[part]).map(<[u8]>::to_vec);
+            let size = sizes(FileKind::First)[part];
+            let records = file[from..].chunks(size).map(<[u8]>::to_vec);
             Table {
                 count: lengths[part] as u16,
                 records: records.take(lengths[part].min(MOST[part])).collect(),
             }
         };
         Given {
+            kind: FileKind::First,
             horizon: tables.horizon,
             tables: [table(0), table(1), table(2)],
         }
     }
 
+    pub fn of_second(second: &Second) -> Given {
+        let mut given = Given::of(&second.tables);
+        given.kind = FileKind::Second;
+        given.tables[0].records = second.records();
+        given.tables[0].records.truncate(MOST[0]);
+        given
+    }
+
     /// As the doors take tables: kind, horizon field, counts, records.
     pub fn bytes(&self) -> Vec<u8> {
-        let mut bytes = vec![1];
+        let mut bytes = vec![kind_byte(self.kind)];
         bytes.extend(self.horizon.to_be_bytes());
         for table in &self.tables {
             bytes.extend(table.count.to_be_bytes());
@@ -59,9 +93,9 @@ impl Given {
         bytes
     }
 
-    /// The file that the tables make. A count that no byte holds stands as 255, which is refused as
+    /// What follows the mark in the file that the tables make. A count that no byte holds stands as 255, which is refused as
     /// it is, before any record that there would be.
-    fn file(&self) -> Vec<u8> {
+    fn layout(&self) -> Vec<u8> {
         let mut file = self.horizon.to_be_bytes().to_vec();
         for table in &self.tables {
             file.push(table.count.min(255) as u8);
@@ -71,26 +105,28 @@ impl Given {
     }
 }
 
-/// The file that the tables make, if the reader accepts it.
+/// The file that the tables make, if the reader of their kind accepts it: first-kind tables with the
+/// horizon field FF02 are of the first kind all the same.
 pub fn written(given: &Given) -> Written {
-    let file = given.file();
-    let request = read(&file)?;
-    Ok((request.horizon as u16, file))
+    let layout = given.layout();
+    let request = read_as(given.kind, &layout)?;
+    Ok((request.horizon as u16, [mark(given.kind), &layout].concat()))
 }
 
 /// The tables of a file, as bytes.
 pub fn listed(file: &[u8]) -> Written {
-    let request = read(file)?;
+    let (kind, file) = unmarked(file);
+    let request = read_as(kind, file)?;
     let mut at = 2;
     let mut counts = Vec::new();
     let mut records = Vec::new();
-    for size in SIZES {
+    for size in sizes(kind) {
         let end = at + 1 + usize::from(file[at]) * size;
         counts.extend([0, file[at]]);
         records.extend(&file[at + 1..end]);
         at = end;
     }
-    let bytes = [&[1], &file[..2], &counts, &records].concat();
+    let bytes = [&[kind_byte(kind)], &file[..2], &counts, &records].concat();
     Ok((request.horizon as u16, bytes))
 }
 
@@ -109,19 +145,29 @@ pub fn draw(random: &mut Random) -> Given {
         let number = random.pick(&faults::NUMBERS);
         faults::put(random, &mut tables, number);
     }
-    let mut given = Given::of(&tables);
+    let mut given = if random.one_in(3) {
+        Given::of_second(&apart(random, tables))
+    } else {
+        Given::of(&tables)
+    };
+    let sizes = sizes(given.kind);
     match random.within(1, 8) {
         1 => {
             let part = random.index(3);
             let count = random.pick(&[0, 1, 8, 9, 16, 17, 255, 256, 257, 264, 512, 65_535]);
-            recount(random, &mut given.tables[part], part, count);
+            recount(
+                random,
+                &mut given.tables[part],
+                (MOST[part], sizes[part]),
+                count,
+            );
         }
         2 => {
             let part = random.index(3);
             let table = &mut given.tables[part];
             if !table.records.is_empty() {
                 let place = random.index(table.records.len());
-                table.records[place][random.index(SIZES[part])] = random.u8(0, 255);
+                table.records[place][random.index(sizes[part])] = random.u8(0, 255);
             }
         }
         3 => given.horizon = random.pick(&[0, 1, 4_096, 4_097, 0xFF02, 0xFF03, 65_535]),
@@ -130,13 +176,13 @@ pub fn draw(random: &mut Random) -> Given {
     given
 }
 
-/// Another count, with the records that go with it.
-fn recount(random: &mut Random, table: &mut Table, part: usize, count: u16) {
+/// Another count, with the records that go with it: so many at most, of so many bytes.
+fn recount(random: &mut Random, table: &mut Table, (most, size): (usize, usize), count: u16) {
     table.count = count;
-    let length = usize::from(count).min(MOST[part]);
+    let length = usize::from(count).min(most);
     table.records.truncate(length);
     while table.records.len() < length {
-        table.records.push(random.bytes(SIZES[part]));
+        table.records.push(random.bytes(size));
     }
 }
 
@@ -166,12 +212,46 @@ mod tests {
         assert_eq!(written(&Given::of(&tasks)), Ok((12, tasks.bytes())));
     }
 
+    /// Figure a11; and a horizon field that looks like a mark: 10, or 11 with tasks.
+    #[test]
+    fn the_kind_is_what_the_tables_say() {
+        let mut devices = vec![device_a()];
+        (devices[0].working, devices[0].moving) = (9, 4);
+        let tables = Tables {
+            horizon: 5,
+            devices,
+            ..Tables::default()
+        };
+        let second = Second {
+            tables,
+            shuts: vec![(3, 2)],
+        };
+        let given = Given::of_second(&second);
+        assert_eq!(written(&given), Ok((5, second.bytes())));
+        assert_eq!(listed(&second.bytes()), Ok((5, given.bytes())));
+        let mut marked = Given::of(&small());
+        marked.horizon = 0xFF02;
+        assert_eq!(written(&marked), Err(10));
+        let tasks = Tables {
+            horizon: 0xFF02,
+            tasks: vec![task(4, 1, 0)],
+            ..Tables::default()
+        };
+        assert_eq!(written(&Given::of(&tasks)), Err(11));
+    }
+
     #[test]
     fn a_count_is_never_cut_to_a_byte() {
         for count in [17, 255, 256, 257, 264, 65_535] {
             for (part, number) in [(0, 3), (1, 6), (2, 12)] {
                 let mut given = Given::of(&small());
-                recount(&mut Random::new(1, 1), &mut given.tables[part], part, count);
+                let limits = (MOST[part], sizes(given.kind)[part]);
+                recount(
+                    &mut Random::new(1, 1),
+                    &mut given.tables[part],
+                    limits,
+                    count,
+                );
                 let first = given.tables[part].records[0].clone();
                 given.tables[part].records.fill(first);
                 assert_eq!(written(&given), Err(number), "{count}");

@@ -53,7 +53,7 @@ impl Tester {
             1 => tables.push(self.random.u8(0, 255)),
             2 => drop(tables.pop()),
             3 => tables.truncate(self.random.index(9)),
-            _ => tables[0] = self.random.pick(&[0, 2, 3, 255]),
+            _ => tables[0] = self.random.pick(&[0, 3, 4, 255]),
         }
         let mut after = self.buffers(300);
         let expected = after.untouched(SHUT);
