@@ -17,7 +17,7 @@ use Rattle.base.proofs.Clear.{clear}
 use Rattle.base.proofs.Records.{orElse-zero}
 use Rattle.tables.specs.declared.DeviceRecord.{DeviceRecord}
 use Rattle.tables.specs.declared.JobRecord.{JobRecord}
-use Rattle.tables.specs.Records.{deviceAt, deviceBytes, jobAt, jobBytes}
+use Rattle.tables.specs.Records.{firstAt, firstBytes, jobAt, jobBytes}
 use Rattle.catalogue.specs.Parts.{all, sign, space, front, wellFormed, malformed, repeated, Part, partsOf, numbers, whole, unfit}
 use Rattle.catalogue.proofs.PartNumbers.{both, neither, formed, all-front}
 use Rattle.text.specs.Grammar.{cr, comma, quote, then, linesOf, textOf, fieldsFrom, fieldsOf}
@@ -31,7 +31,7 @@ use Rattle.sheet.proofs.Tables.{parts-back, fit-sized}
 
 -- Numbers as their bytes hold them.
 abbrev pub FitsDevice : DeviceRecord → Type 0
-FitsDevice d = (d .t ≤ 255) × (d .pw ≤ 65535) × (d .ps ≤ 65535) × (d .p0 ≤ 65535)
+FitsDevice d = (d .wake ≤ 255) × (d .pw ≤ 65535) × (d .ps ≤ 65535) × (d .pwake ≤ 65535)
 
 abbrev pub FitsJob : JobRecord → Type 0
 FitsJob j = (j .release ≤ 65535) × (j .deadline ≤ 65535) × (j .run ≤ 65535) × (j .set ≤ 255)
@@ -39,8 +39,8 @@ FitsJob j = (j .release ≤ 65535) × (j .deadline ≤ 65535) × (j .run ≤ 655
 -- A part as a catalogue holds it: signs and then spaces, and a record whose bytes are those of its numbers.
 pub record Kept (p : Part) : Type 0 where
   pub spaced : p .number ≡ padded 8 space (front (p .number))
-  pub fits : FitsDevice (deviceAt (p .device) 0)
-  pub back : deviceBytes (deviceAt (p .device) 0) ≡ p .device
+  pub fits : FitsDevice (firstAt (p .device) 0)
+  pub back : firstBytes (firstAt (p .device) 0) ≡ p .device
 
 passes : (r : Rows) (l : List ℕ) (fs : List (List ℕ)) → fieldsOf l ≡ some fs → eqb (length fs) (layout r .texts + 4) ≡ true
     → areNumbers (layout r .most) (drop (layout r .texts) fs) ≡ true → lineFault r l ≡ 0
@@ -54,36 +54,36 @@ four m₁ m₂ m₃ m₄ a b c d h₁ h₂ h₃ h₄ k₁ k₂ k₃ k₄ = rw (i
 
 module _ (p : Part) (k : Kept p) where
   abbrev d : DeviceRecord
-  d = deviceAt (p .device) 0
+  d = firstAt (p .device) 0
 
   abbrev h : FitsDevice d
   h = k .fits
 
-  part-fields : fieldsOf (partLine p) ≡ some (front (p .number) ∷ map digitsOf (d .t ∷ d .pw ∷ d .ps ∷ d .p0 ∷ []))
+  part-fields : fieldsOf (partLine p) ≡ some (front (p .number) ∷ map digitsOf (d .wake ∷ d .pw ∷ d .ps ∷ d .pwake ∷ []))
   part-fields =
-      quoted-more (quote ∷ []) (front (p .number)) (numbersText (d .t ∷ d .pw ∷ d .ps ∷ d .p0 ∷ [])) (all-front (p .number))
-      ∙ ap (then (front (p .number))) (numbers-fields (quote ∷ []) (d .t) (d .pw ∷ d .ps ∷ d .p0 ∷ []) (omega (arith, h .0)) (omega (arith, h .1), (omega (arith, h .2), (omega (arith, h .3), tt))))
+      quoted-more (quote ∷ []) (front (p .number)) (numbersText (d .wake ∷ d .pw ∷ d .ps ∷ d .pwake ∷ [])) (all-front (p .number))
+      ∙ ap (then (front (p .number))) (numbers-fields (quote ∷ []) (d .wake) (d .pw ∷ d .ps ∷ d .pwake ∷ []) (omega (arith, h .0)) (omega (arith, h .1), (omega (arith, h .2), (omega (arith, h .3), tt))))
 
   part-passes : lineFault Devices (partLine p) ≡ 0
   part-passes =
       passes Devices (partLine p) _ part-fields refl
-      (four 255 65535 65535 65535 (d .t) (d .pw) (d .ps) (d .p0) (h .0) (h .1) (h .2) (h .3) (omega (arith, h .0)) (omega (arith, h .1)) (omega (arith, h .2)) (omega (arith, h .3)))
+      (four 255 65535 65535 65535 (d .wake) (d .pw) (d .ps) (d .pwake) (h .0) (h .1) (h .2) (h .3) (omega (arith, h .0)) (omega (arith, h .1)) (omega (arith, h .2)) (omega (arith, h .3)))
 
   part-unbroken : Unbroken (partLine p)
   part-unbroken = (
     refl,
-    every-append (λ b. eqb b cr ≡ false) (front (p .number)) (quote ∷ comma ∷ numbersText (d .t ∷ d .pw ∷ d .ps ∷ d .p0 ∷ []))
+    every-append (λ b. eqb b cr ≡ false) (front (p .number)) (quote ∷ comma ∷ numbersText (d .wake ∷ d .pw ∷ d .ps ∷ d .pwake ∷ []))
         (signs-unbroken (front (p .number)) (all-front (p .number)))
-        (refl, (refl, numbers-unbroken (d .t) (d .pw ∷ d .ps ∷ d .p0 ∷ []) (omega (arith, h .0)) (omega (arith, h .1), (omega (arith, h .2), (omega (arith, h .3), tt))))),
+        (refl, (refl, numbers-unbroken (d .wake) (d .pw ∷ d .ps ∷ d .pwake ∷ []) (omega (arith, h .0)) (omega (arith, h .1), (omega (arith, h .2), (omega (arith, h .3), tt))))),
   )
 
   part-again : partIn (fieldsIn (partLine p)) ≡ p
   part-again =
-      made part-fields (sym (k .spaced)) (value-digits 4 (d .t) (omega (arith, h .0))) (value-digits 4 (d .pw) (omega (arith, h .1)))
-      (value-digits 4 (d .ps) (omega (arith, h .2))) (value-digits 4 (d .p0) (omega (arith, h .3)))
+      made part-fields (sym (k .spaced)) (value-digits 4 (d .wake) (omega (arith, h .0))) (value-digits 4 (d .pw) (omega (arith, h .1)))
+      (value-digits 4 (d .ps) (omega (arith, h .2))) (value-digits 4 (d .pwake) (omega (arith, h .3)))
     where
-      made : {o : Option (List (List ℕ))} {f t pw ps p0 : List ℕ} → o ≡ some (f ∷ t ∷ pw ∷ ps ∷ p0 ∷ []) → padded 8 space f ≡ p .number → valueOf t ≡ d .t
-          → valueOf pw ≡ d .pw → valueOf ps ≡ d .ps → valueOf p0 ≡ d .p0 → partIn (Option·getD o []) ≡ p
+      made : {o : Option (List (List ℕ))} {f t pw ps p0 : List ℕ} → o ≡ some (f ∷ t ∷ pw ∷ ps ∷ p0 ∷ []) → padded 8 space f ≡ p .number → valueOf t ≡ d .wake
+          → valueOf pw ≡ d .pw → valueOf ps ≡ d .ps → valueOf p0 ≡ d .pwake → partIn (Option·getD o []) ≡ p
       made e n a b c g = rw (e, n, a, b, c, g, k .back)
 
 module _ (j : JobRecord) (h : FitsJob j) where

@@ -10,7 +10,7 @@ use Rattle.base.specs.Bytes.{byteAt, pairAt}
 use Rattle.base.specs.Lists.{upTo}
 use Rattle.base.proofs.Arrays.{length-upTo, getD-upTo, upTo-more}
 use Rattle.tables.specs.declared.DeviceRecord.{DeviceRecord}
-use Rattle.tables.specs.Records.{deviceAt, jobAt}
+use Rattle.tables.specs.Records.{firstAt, jobAt}
 use Rattle.base.proofs.Cases.{cond-cases}
 use Rattle.catalogue.specs.Parts.{sign, front, Part, partOf, pieces}
 use Rattle.catalogue.proofs.Scanning.{front-fits}
@@ -73,7 +73,7 @@ pub quoted-long : (n : List ℕ) → length (quote ∷ front n ++ quote ∷ comm
 quoted-long n = omega (arith, length-append (front n) (quote ∷ comma ∷ []))
 
 -- A device record behind the part number.
-device-behind : (s : List ℕ) → deviceAt (drop 8 s) 0 ≡ deviceAt s 8
+device-behind : (s : List ℕ) → firstAt (drop 8 s) 0 ≡ firstAt s 8
 device-behind s =
     let at : (i : ℕ) → byteAt (drop 8 s) i ≡ byteAt s (8 + i) = λ i. getD-drop 8 s i 0 in
     let a = at 0 in
@@ -87,21 +87,21 @@ device-behind s =
 
 module _ (s : List ℕ) where
   pub part-text : (quote ∷ front (take 8 s) ++ quote ∷ comma ∷ [])
-      ++ lineText (deviceAt s 8 .t ∷ deviceAt s 8 .pw ∷ deviceAt s 8 .ps ∷ deviceAt s 8 .p0 ∷ []) ≡ partText (partOf s)
+      ++ lineText (firstAt s 8 .wake ∷ firstAt s 8 .pw ∷ firstAt s 8 .ps ∷ firstAt s 8 .pwake ∷ []) ≡ partText (partOf s)
   part-text =
-      let ns = deviceAt s 8 .t ∷ deviceAt s 8 .pw ∷ deviceAt s 8 .ps ∷ deviceAt s 8 .p0 ∷ [] in
+      let ns = firstAt s 8 .wake ∷ firstAt s 8 .pw ∷ firstAt s 8 .ps ∷ firstAt s 8 .pwake ∷ [] in
       let f = front (take 8 s) in
       ap (λ (l : List ℕ). quote ∷ l)
       (append-assoc f (quote ∷ comma ∷ []) (lineText ns) ∙ sym (append-assoc f (quote ∷ comma ∷ numbersText ns) (cr ∷ lf ∷ [])))
-      ∙ ap (λ (d : DeviceRecord). ended (quote ∷ f ++ quote ∷ comma ∷ numbersText (d .t ∷ d .pw ∷ d .ps ∷ d .p0 ∷ []))) (sym (device-behind s))
+      ∙ ap (λ (d : DeviceRecord). ended (quote ∷ f ++ quote ∷ comma ∷ numbersText (d .wake ∷ d .pw ∷ d .ps ∷ d .pwake ∷ []))) (sym (device-behind s))
 
   pub front-eight : length s ≡ 15 → length (front (take 8 s)) ≤ 8
   front-eight h = omega (arith, front-fits (take 8 s), length-take 8 s)
 
   pub part-text-few : length s ≡ 15 → length (partText (partOf s)) ≤ 36
   part-text-few h =
-      let d = deviceAt s 8 in
-      omega (arith, ap length part-text, length-append (quote ∷ front (take 8 s) ++ quote ∷ comma ∷ []) (lineText (d .t ∷ d .pw ∷ d .ps ∷ d .p0 ∷ [])), quoted-long (take 8 s), front-eight h, four-few (d .t) (d .pw) (d .ps) (d .p0))
+      let d = firstAt s 8 in
+      omega (arith, ap length part-text, length-append (quote ∷ front (take 8 s) ++ quote ∷ comma ∷ []) (lineText (d .wake ∷ d .pw ∷ d .ps ∷ d .pwake ∷ [])), quoted-long (take 8 s), front-eight h, four-few (d .wake) (d .pw) (d .ps) (d .pwake))
 
   pub record-text-few : length (recordText s) ≤ 25
   record-text-few = let j = jobAt s 0 in four-few (j .release) (j .deadline) (j .run) (j .set)

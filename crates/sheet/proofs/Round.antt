@@ -16,7 +16,8 @@ use Rattle.base.specs.Refusals.{firstThat, orElse, _⇒_}
 use Rattle.base.proofs.Arrays.{upTo-take, upTo-same}
 use Rattle.base.proofs.Clear.{clear}
 use Rattle.base.proofs.Every.{Every, every-upTo}
-use Rattle.tables.specs.Records.{deviceAt, deviceBytes, jobAt, jobBytes}
+use Rattle.tables.specs.declared.Kind.the-variants.{First}
+use Rattle.tables.specs.Records.{firstAt, firstBytes, jobAt, jobBytes}
 use Rattle.tables.specs.Layout.{Bytes}
 use Rattle.tables.proofs.Parts.{part}
 use Rattle.tables.proofs.Reading.{device-part, job-part}
@@ -32,7 +33,7 @@ whole-part : (s : List ℕ) → length s ≡ 7 → part s 0 7 ≡ s
 whole-part s h =
     upTo-same _ (λ i. byteAt s i) 7 (λ i l. ap (byteAt s) (zero-add i)) ∙ upTo-take s 0 7 (omega arith) ∙ take-all 7 s (omega arith)
 
-fits-device : (s : List ℕ) → Bytes s → FitsDevice (deviceAt s 0)
+fits-device : (s : List ℕ) → Bytes s → FitsDevice (firstAt s 0)
 fits-device s b = (omega (arith, b 0), omega (arith, b 1, b 2), omega (arith, b 3, b 4), omega (arith, b 5, b 6))
 
 fits-job : (s : List ℕ) → Bytes s → FitsJob (jobAt s 0)
@@ -73,7 +74,7 @@ kept-all (p ∷ ps) b f w =
       record {
         spaced = formed (p .number) (x .0) .2;
         fits = fits-device (p .device) (b .0);
-        back = device-part (p .device) 0 (b .0) ∙ whole-part (p .device) (eqb-true (length (p .device)) 7 (y .0));
+        back = device-part (p .device) 0 (b .0) First ∙ whole-part (p .device) (eqb-true (length (p .device)) 7 (y .0));
       },
       kept-all ps (b .1) (x .1) (y .1),
     )

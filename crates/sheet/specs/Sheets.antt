@@ -11,7 +11,7 @@ use Rattle.base.specs.Lists.{upTo, padded}
 use Rattle.base.specs.Refusals.{Refusal, _⇒_, firstThat, orElse}
 use Rattle.tables.specs.declared.JobRecord.{JobRecord}
 use Rattle.tables.specs.declared.DeviceRecord.{DeviceRecord}
-use Rattle.tables.specs.Records.{deviceAt, deviceBytes, jobAt, jobBytes}
+use Rattle.tables.specs.Records.{averaged, firstAt, firstBytes, jobAt, jobBytes}
 use Rattle.catalogue.specs.Parts.{all, space, front, Part, numbers, unfit, repeated, pieces}
 use Rattle.text.specs.Grammar.{quote, comma, linesOf, textOf, fieldsOf, unread}
 use Rattle.text.specs.Numerals.{valueOf, isNumber, numbersText}
@@ -65,7 +65,7 @@ abbrev pub partIn : List (List ℕ) → Part
 partIn fs = record {
   number = padded 8 space (fieldIn fs 0);
   device =
-      deviceBytes (record { t = valueOf (fieldIn fs 1); pw = valueOf (fieldIn fs 2); ps = valueOf (fieldIn fs 3); p0 = valueOf (fieldIn fs 4) });
+      firstBytes (averaged (valueOf (fieldIn fs 1)) (valueOf (fieldIn fs 2)) (valueOf (fieldIn fs 3)) (valueOf (fieldIn fs 4)));
 }
 
 abbrev pub jobIn : List (List ℕ) → JobRecord
@@ -114,8 +114,8 @@ recordsOf js = inRow (map jobBytes js)
 -- A part number stands in quotes, without its padding.
 abbrev pub partLine : Part → List ℕ
 partLine p =
-    let d = deviceAt (p .device) 0 in
-    quote ∷ front (p .number) ++ quote ∷ comma ∷ numbersText (d .t ∷ d .pw ∷ d .ps ∷ d .p0 ∷ [])
+    let d = firstAt (p .device) 0 in
+    quote ∷ front (p .number) ++ quote ∷ comma ∷ numbersText (d .wake ∷ d .pw ∷ d .ps ∷ d .pwake ∷ [])
 
 abbrev pub jobLine : JobRecord → List ℕ
 jobLine j = numbersText (j .release ∷ j .deadline ∷ j .run ∷ j .set ∷ [])

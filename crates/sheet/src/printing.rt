@@ -11,7 +11,7 @@ ghost use Rattle.writing.specs.Putting.{Put};
 ghost use Rattle.sheet.specs.Sheets.{devicesText, jobsText, jobsOf, planText};
 ghost use Rattle.sheet.specs.Printing.{partText, recordText, Spare};
 use catalogue::signs_of;
-use tables::device_at;
+use tables::first_at;
 use tables::job_at;
 use writing::put_byte;
 use writing::put_bytes;
@@ -36,8 +36,8 @@ fn put_part_line(out: &mut [u8], at: usize, part: &[u8]) -> usize
     ensures { λ r. ⌜ Put (partText (partOf (now (part .entry)))) at (now (out .entry)) r (now (out .exit)) ⌝ }
 {
     let next = put_quoted(out, at, &part[..8]);
-    let d = device_at(part, 8);
-    put_four(out, next, d.t as u16, d.pw, d.ps, d.p0)
+    let d = first_at(part, 8);
+    put_four(out, next, d.wake as u16, d.pw, d.ps, d.pwake)
 }
 
 pub(crate) fn put_part_lines(out: &mut [u8], catalogue: &[u8]) -> usize

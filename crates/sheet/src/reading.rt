@@ -5,7 +5,7 @@ ghost use mathlib.Core.List.{map};
 ghost use Prim.Native.Nat.{_+_, _*_, _≤_};
 ghost use lib.ListN.{length};
 ghost use Rattle.base.specs.Lists.{padded};
-ghost use Rattle.tables.specs.Records.{deviceBytes, jobBytes};
+ghost use Rattle.tables.specs.Records.{averaged, firstBytes, jobBytes};
 ghost use Rattle.catalogue.specs.Parts.{all, space, wellFormed};
 ghost use Rattle.text.specs.Grammar.{linesOf, unread};
 ghost use Rattle.text.specs.Numerals.{valueOf, isNumber};
@@ -81,7 +81,7 @@ pub(crate) fn has_bad_number(text: &[u8], lines: usize) -> bool
 
 fn put_device(out: &mut [u8], at: usize, t: u8, pw: u16, ps: u16, p0: u16) -> usize
     requires { ⌜ at + 7 ≤ length (now out) ⌝ }
-    ensures { λ r. ⌜ Put (deviceBytes (record { t = t; pw = pw; ps = ps; p0 = p0 })) at (now (out .entry)) r (now (out .exit)) ⌝ }
+    ensures { λ r. ⌜ Put (firstBytes (averaged t pw ps p0)) at (now (out .entry)) r (now (out .exit)) ⌝ }
 {
     let work = put_byte(out, at, t);
     let sleep = put_pair(out, work, pw);

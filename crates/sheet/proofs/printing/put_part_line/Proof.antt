@@ -5,7 +5,7 @@ use native.Mathlib.Omega.{arith}
 use mathlib.Core.List.{[], _∷_}
 use lib.ListN.{length, take}
 use lib.Seq.{length-take-le}
-use Rattle.tables.specs.Records.{deviceAt}
+use Rattle.tables.specs.Records.{firstAt}
 use Rattle.writing.proofs.Puts.{put-more}
 use Rattle.sheet.proofs.Printed.{quoted-long, front-eight, four-few, part-text}
 use borrow.Author.Needs.{needs}
@@ -28,8 +28,8 @@ put-quoted-requires c κs =
     let front-few = front-eight s (start .pre .1) in
     omega (arith, start .pre .0)
 
-device-at-requires : tie.Need-device-at-requires
-device-at-requires c κs = search needs
+first-at-requires : tie.Need-first-at-requires
+first-at-requires c κs = search needs
 
 cast-put-four : tie.Need-cast-put-four
 cast-put-four c = search needs
@@ -40,8 +40,8 @@ put-four-requires c κs =
     let s = start .args .part .now in
     let eight = length-take-le 8 s (omega (arith, start .pre .1)) in
     let front-few = front-eight s (start .pre .1) in
-    let d = c .before .before .device-at .result in
-    omega (arith, start .pre .0, quoted-long (take 8 s), c .before .before .before .before .before .put-quoted .ensures .next, four-few (d .t) (d .pw) (d .ps) (d .p0))
+    let d = c .before .before .first-at .result in
+    omega (arith, start .pre .0, quoted-long (take 8 s), c .before .before .before .before .before .put-quoted .ensures .next, four-few (d .wake) (d .pw) (d .ps) (d .pwake))
 
 same-length : tie.Need-same-length
 same-length c = search needs
@@ -52,10 +52,10 @@ returns c =
     let s = start .args .part .now in
     let eight = length-take-le 8 s (omega (arith, start .pre .1)) in
     let front-few = front-eight s (start .pre .1) in
-    let d = c .before .before .before .before .before .device-at .result in
+    let d = c .before .before .before .before .before .first-at .result in
     let first = c .before .before .before .before .before .before .before .before .put-quoted .ensures in
-    let second = rw (c .before .before .before .before .before .device-at .ensures) at (c .before .before .put-four .ensures) in
-    rw (← part-text s) (put-more first second (omega (arith, start .pre .0, quoted-long (take 8 s), first .next, c .before .before .put-four .ensures .next, four-few (d .t) (d .pw) (d .ps) (d .p0))))
+    let second = rw (c .before .before .before .before .before .first-at .ensures) at (c .before .before .put-four .ensures) in
+    rw (← part-text s) (put-more first second (omega (arith, start .pre .0, quoted-long (take 8 s), first .next, c .before .before .put-four .ensures .next, four-few (d .wake) (d .pw) (d .ps) (d .pwake))))
 
 pub put-part-line-spec : {M : Type 1} → statement M
 put-part-line-spec =
@@ -63,7 +63,7 @@ put-part-line-spec =
     (tie.spec
     slice-aggregate-put-quoted
     put-quoted-requires
-    device-at-requires
+    first-at-requires
     cast-put-four
     put-four-requires
     same-length
