@@ -2,6 +2,7 @@
 //! misses, and the file or the number that each has to give.
 
 use crate::random::Random;
+use crate::request::FileKind;
 use crate::valid;
 use crate::writing::{self, written, Given, Table, Written, MOST};
 use std::collections::BTreeMap;
@@ -65,9 +66,10 @@ fn built_by(rules: &Rules, call: &Call) -> Written {
     written(&given)
 }
 
-/// A catalogue with the devices of drawn tables, which are wanted in their order; then near misses.
+/// A catalogue with the devices of drawn tables, which are wanted in their order; then near misses. The
+/// parts of a catalogue are devices of the first kind.
 pub fn draw(random: &mut Random) -> Call {
-    let mut others = writing::draw(random);
+    let mut others = writing::draw_of(random, FileKind::First);
     let devices = std::mem::take(&mut others.tables[0]);
     let more = random.pick(&[0, 0, 1, 3, 20, MOST_PARTS]);
     let count = (devices.records.len() + more).min(MOST_PARTS - random.index(2));

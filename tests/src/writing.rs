@@ -130,8 +130,15 @@ pub fn listed(file: &[u8]) -> Written {
     Ok((request.horizon as u16, bytes))
 }
 
-/// Tables, valid ones and such with faults: in a record, in a count, in the horizon field.
+/// Tables of either kind, valid ones and such with faults: in a record, in a count, in the horizon
+/// field.
 pub fn draw(random: &mut Random) -> Given {
+    let kind = random.pick(&[FileKind::First, FileKind::First, FileKind::Second]);
+    draw_of(random, kind)
+}
+
+/// Of one kind only.
+pub fn draw_of(random: &mut Random, kind: FileKind) -> Given {
     let mut tables = match random.within(1, 7) {
         1 => valid::job_list(random),
         2 => valid::task_list(random),
@@ -145,12 +152,11 @@ pub fn draw(random: &mut Random) -> Given {
         let number = random.pick(&faults::NUMBERS);
         faults::put(random, &mut tables, number);
     }
-    let mut given = if random.one_in(3) {
-        Given::of_second(&apart(random, tables))
-    } else {
-        Given::of(&tables)
+    let mut given = match kind {
+        FileKind::First => Given::of(&tables),
+        FileKind::Second => Given::of_second(&apart(random, tables)),
     };
-    let sizes = sizes(given.kind);
+    let sizes = sizes(kind);
     match random.within(1, 8) {
         1 => {
             let part = random.index(3);
