@@ -18,6 +18,8 @@ pub struct Kind {
     /// What a file of this kind begins with, before the horizon.
     pub marker: &'static [u8],
     device: &'static [Field],
+    /// The fields of a device that are times, with what they are called in full.
+    times: &'static [(&'static str, usize)],
     /// Each letter of a row, with the field of the device that says its power.
     letters: &'static [(u8, usize)],
 }
@@ -31,10 +33,27 @@ pub static FIRST: Kind = Kind {
         field("Ps", 2),
         field("P0", 2),
     ],
+    times: &[("transition time", 0)],
     letters: &[(b'W', 1), (b'S', 2), (b'D', 3), (b'U', 3)],
 };
 
-pub static KINDS: [&Kind; 1] = [&FIRST];
+/// Waking and shutting down take times and powers of their own.
+pub static SECOND: Kind = Kind {
+    number: 2,
+    marker: &[0xFF, 2],
+    device: &[
+        field("wake", 1),
+        field("shut", 1),
+        field("Pw", 2),
+        field("Ps", 2),
+        field("Pwake", 2),
+        field("Pshut", 2),
+    ],
+    times: &[("wake time", 0), ("shut time", 1)],
+    letters: &[(b'W', 2), (b'S', 3), (b'D', 5), (b'U', 4)],
+};
+
+pub static KINDS: [&Kind; 2] = [&FIRST, &SECOND];
 
 /// Tasks and jobs are the same in every kind; their last field is a device set.
 pub static TASK: [Field; 3] = [
@@ -85,6 +104,14 @@ impl Kind {
         let fields = self.device.iter().enumerate();
         fields
             .map(|(place, field)| (field.name, value(self.device, device, place)))
+            .collect()
+    }
+
+    /// The times of a device, by what they are called in full.
+    pub fn times(&self, device: &[u8]) -> Vec<(&'static str, u32)> {
+        let times = self.times.iter();
+        times
+            .map(|&(name, place)| (name, value(self.device, device, place)))
             .collect()
     }
 
@@ -148,5 +175,34 @@ mod tests {
             .map(|&letter| FIRST.power(&record, letter))
             .collect();
         assert_eq!(powers, [Some(5), Some(3), Some(1), Some(3), None]);
+    }
+
+    /// A device of 1 and 3 ticks, and of the powers 9, 1, 4 and 2, in the order of its record.
+    #[test]
+    fn waking_and_shutting_down_are_told_apart() {
+        let record = [1, 3, 0, 9, 0, 1, 0, 4, 0, 2];
+        assert_eq!(SECOND.device_size(&record), record.len());
+        assert_eq!(SECOND.times(&record), [("wake time", 1), ("shut time", 3)]);
+        let named = |letter| SECOND.named_power(&record, letter);
+        assert_eq!(named(b'U'), Some(("Pwake", 4)));
+        assert_eq!(named(b'D'), Some(("Pshut", 2)));
+        assert_eq!(
+            (named(b'W'), named(b'S')),
+            (Some(("Pw", 9)), Some(("Ps", 1)))
+        );
+    }
+
+    #[test]
+    fn a_file_has_the_kind_of_its_mark() {
+        for (file, number) in [
+            (&[0xFF, 2][..], 2),
+            (&[0xFF, 2, 0, 5], 2),
+            (&[0xFF], 1),
+            (&[0xFF, 3, 0, 5], 1),
+            (&[2, 0xFF], 1),
+            (&[], 1),
+        ] {
+            assert_eq!(Kind::of_file(file).number, number, "{file:?}");
+        }
     }
 }

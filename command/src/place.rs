@@ -2,7 +2,7 @@
 //! prefix ends for which the library no longer says that bytes are missing (1). What stands there
 //! follows from the counts.
 
-use crate::calls::planner;
+use crate::calls::planner::{self, Refused};
 use crate::kinds::{self, Kind, JOB, TASK};
 use crate::text::reader::Places;
 
@@ -27,79 +27,116 @@ pub struct Place {
     pub to: usize,
 }
 
-/// The parts of a file one after the other, as its counts say. The last may end after the file.
-fn parts(file: &[u8]) -> Vec<Place> {
-    let kind = Kind::of_file(file);
-    let mut parts = Vec::new();
-    let mut at = kind.marker.len();
-    let mut add = |part, at: &mut usize, size: usize| {
-        let from = *at;
-        *at += size;
-        parts.push(Place {
-            part,
-            from,
-            to: *at,
-        });
-    };
-    add(Part::Horizon, &mut at, 2);
-    type Numbered = fn(usize) -> Part;
-    type Size<'a> = &'a dyn Fn(&[u8]) -> usize;
-    let sections: [(Part, Numbered, Size); 3] = [
-        (Part::DeviceCount, Part::Device, &|rest| {
-            kind.device_size(rest)
-        }),
-        (Part::TaskCount, Part::Task, &|_| kinds::size(&TASK)),
-        (Part::JobCount, Part::Job, &|_| kinds::size(&JOB)),
-    ];
-    for (count, numbered, size) in sections {
-        let records = file.get(at).copied().unwrap_or(0);
-        add(count, &mut at, 1);
-        for number in 0..usize::from(records) {
-            let size = size(file.get(at..).unwrap_or(&[]));
-            add(numbered(number), &mut at, size);
+/// The bytes of a file, and the kind that they are laid out in.
+#[derive(Clone, Copy, Debug)]
+pub struct File<'a> {
+    pub kind: &'static Kind,
+    pub bytes: &'a [u8],
+}
+
+impl<'a> File<'a> {
+    /// Bytes that were given as a file, whose mark tells the kind.
+    pub fn new(bytes: &'a [u8]) -> File<'a> {
+        let kind = Kind::of_file(bytes);
+        File { kind, bytes }
+    }
+
+    /// What the library says of the first bytes. A text of the first kind may have a horizon that
+    /// reads like a mark: it is looked at with another, refused like it, that does not.
+    fn check(&self, length: usize) -> Result<usize, Refused> {
+        let mut bytes = self.bytes[..length].to_vec();
+        if Kind::of_file(&bytes).marker.len() > self.kind.marker.len() {
+            bytes[1] = u8::MAX;
         }
+        planner::check(&bytes)
     }
-    parts
-}
 
-/// The number in a part of a file, as far as it is there.
-fn number(file: &[u8], part: Part) -> u32 {
-    let place = parts(file).into_iter().find(|place| place.part == part);
-    let bytes = place.and_then(|place| file.get(place.from..place.to.min(file.len())));
-    let bytes = bytes.unwrap_or(&[]).iter();
-    bytes.fold(0, |number, &byte| number << 8 | u32::from(byte))
-}
-
-/// The horizon field, and how many devices and tasks a file says that it has.
-pub fn horizon(file: &[u8]) -> u32 {
-    number(file, Part::Horizon)
-}
-
-pub fn device_count(file: &[u8]) -> u32 {
-    number(file, Part::DeviceCount)
-}
-
-pub fn task_count(file: &[u8]) -> u32 {
-    number(file, Part::TaskCount)
-}
-
-/// The place of the first fault of a file that is not accepted.
-pub fn of_fault(file: &[u8]) -> Option<Place> {
-    let is_cut_short = |length: &usize| {
-        let prefix = planner::check(&file[..*length]);
-        prefix.is_err_and(|refused| refused.number == 1)
-    };
-    let Some(end) = (0..=file.len()).find(|length| !is_cut_short(length)) else {
-        return parts(file).into_iter().find(|place| place.to > file.len());
-    };
-    if planner::check(&file[..end]).is_ok() {
-        return Some(Place {
-            part: Part::Tail,
-            from: end,
-            to: file.len(),
-        });
+    /// Whether the file is refused with this number.
+    pub fn is_refused(&self, number: u8) -> bool {
+        let checked = self.check(self.bytes.len());
+        checked.is_err_and(|refused| refused.number == number)
     }
-    parts(file).into_iter().find(|place| place.to == end)
+
+    /// The parts one after the other, as the counts say. The last may end after the file.
+    fn parts(&self) -> Vec<Place> {
+        let File { kind, bytes } = *self;
+        let mut parts = Vec::new();
+        let mut at = kind.marker.len();
+        let mut add = |part, at: &mut usize, size: usize| {
+            let from = *at;
+            *at += size;
+            parts.push(Place {
+                part,
+                from,
+                to: *at,
+            });
+        };
+        add(Part::Horizon, &mut at, 2);
+        type Numbered = fn(usize) -> Part;
+        type Size<'a> = &'a dyn Fn(&[u8]) -> usize;
+        let sections: [(Part, Numbered, Size); 3] = [
+            (Part::DeviceCount, Part::Device, &|rest| {
+                kind.device_size(rest)
+            }),
+            (Part::TaskCount, Part::Task, &|_| kinds::size(&TASK)),
+            (Part::JobCount, Part::Job, &|_| kinds::size(&JOB)),
+        ];
+        for (count, numbered, size) in sections {
+            let records = bytes.get(at).copied().unwrap_or(0);
+            add(count, &mut at, 1);
+            for number in 0..usize::from(records) {
+                let size = size(bytes.get(at..).unwrap_or(&[]));
+                add(numbered(number), &mut at, size);
+            }
+        }
+        parts
+    }
+
+    /// The bytes of a place, as far as they are there.
+    pub fn record(&self, place: &Place) -> Option<&'a [u8]> {
+        self.bytes.get(place.from..place.to.min(self.bytes.len()))
+    }
+
+    /// The number in a part, as far as it is there.
+    fn number(&self, part: Part) -> u32 {
+        let place = self.parts().into_iter().find(|place| place.part == part);
+        let bytes = place.and_then(|place| self.record(&place));
+        let bytes = bytes.unwrap_or(&[]).iter();
+        bytes.fold(0, |number, &byte| number << 8 | u32::from(byte))
+    }
+
+    /// The horizon field, and how many devices and tasks the file says that it has.
+    pub fn horizon(&self) -> u32 {
+        self.number(Part::Horizon)
+    }
+
+    pub fn device_count(&self) -> u32 {
+        self.number(Part::DeviceCount)
+    }
+
+    pub fn task_count(&self) -> u32 {
+        self.number(Part::TaskCount)
+    }
+
+    /// The place of the first fault, if the file is not accepted.
+    pub fn fault(&self) -> Option<Place> {
+        let all = self.bytes.len();
+        let is_cut_short = |length: usize| {
+            let prefix = self.check(length);
+            prefix.is_err_and(|refused| refused.number == 1)
+        };
+        let Some(end) = (0..=all).find(|&length| !is_cut_short(length)) else {
+            return self.parts().into_iter().find(|place| place.to > all);
+        };
+        if self.check(end).is_ok() {
+            return Some(Place {
+                part: Part::Tail,
+                from: end,
+                to: all,
+            });
+        }
+        self.parts().into_iter().find(|place| place.to == end)
+    }
 }
 
 impl Place {
@@ -118,7 +155,7 @@ impl Place {
 
     /// The line that brought the fault, where the file came as text. A count is at fault by the
     /// first record too many; once the jobs are counted the horizon is judged too (rule 15).
-    fn line(&self, number: u8, file: &[u8], places: &Places) -> Option<usize> {
+    fn line(&self, number: u8, file: &File, places: &Places) -> Option<usize> {
         let line = match self.part {
             Part::Horizon => places.horizon.as_ref(),
             Part::DeviceCount => places.devices.last(),
@@ -127,7 +164,7 @@ impl Place {
             Part::Task(number) => places.tasks.get(number),
             Part::JobCount => match number {
                 10 => places.horizon.as_ref(),
-                11 if horizon(file) == 0 => places.jobs.first(),
+                11 if file.horizon() == 0 => places.jobs.first(),
                 11 => places.horizon.as_ref(),
                 _ => places.jobs.last(),
             },
@@ -138,7 +175,7 @@ impl Place {
     }
 
     /// As `job 4 (bytes 31 to 37)`, with the line in front where there is one.
-    pub fn describe(&self, number: u8, file: &[u8], places: Option<&Places>) -> String {
+    pub fn describe(&self, number: u8, file: &File, places: Option<&Places>) -> String {
         let line = places.and_then(|places| self.line(number, file, places));
         let line = line.map_or(String::new(), |line| format!("line {line}, "));
         let bytes = if self.to == self.from + 1 {

@@ -1,11 +1,11 @@
 //! Refusals in words. The number is the library's; the words say what it means for the record at
 //! hand.
 
-use crate::calls::planner::{self, Refused};
+use crate::calls::planner::Refused;
 use crate::failure::Failure;
 use crate::jobs::Job;
 use crate::kinds::{members, value, Kind, JOB, TASK};
-use crate::place::{self, Part, Place};
+use crate::place::{File, Part, Place};
 use crate::text::reader::Places;
 
 /// What each number says by itself (README.md lists them).
@@ -15,7 +15,7 @@ fn meaning(number: u8) -> &'static str {
         2 => "bytes follow the last section",
         3 => "more than 8 devices",
         4 => "a transition time of 0",
-        5 => "the powers asleep, moving and working do not rise",
+        5 => "the power asleep is not the lowest",
         6 => "more than 8 tasks",
         7 => "a period outside 1 to 4096",
         8 => "a running time outside 1 to the period",
@@ -57,27 +57,24 @@ pub fn at(number: u8, place: String) -> Failure {
 }
 
 /// A file that is refused, with the place of its fault and, where it came as text, the line.
-pub fn of_file(number: u8, file: &[u8], places: Option<&Places>) -> Failure {
+pub fn of_file(number: u8, file: File, places: Option<&Places>) -> Failure {
     // The place is that of this number, or it is not told.
-    let is_same = planner::check(file).is_err_and(|refused| refused.number == number);
-    let place = place::of_fault(file).filter(|_| is_same);
+    let place = file.fault().filter(|_| file.is_refused(number));
     match place {
         Some(place) => failure(
             number,
-            Some(place.describe(number, file, places)),
-            fault(number, file, &place).unwrap_or_else(|| meaning(number).to_string()),
+            Some(place.describe(number, &file, places)),
+            fault(number, &file, &place).unwrap_or_else(|| meaning(number).to_string()),
         ),
         None => plain(number),
     }
 }
 
 /// What is wrong with the record at a place, by its own numbers.
-fn fault(number: u8, file: &[u8], place: &Place) -> Option<String> {
-    let record = file.get(place.from..place.to.min(file.len()))?;
-    let kind = Kind::of_file(file);
-    let horizon = place::horizon(file);
-    let device_count = place::device_count(file);
-    let has_tasks = place::task_count(file) > 0;
+fn fault(number: u8, file: &File, place: &Place) -> Option<String> {
+    let record = file.record(place)?;
+    let (horizon, device_count) = (file.horizon(), file.device_count());
+    let has_tasks = file.task_count() > 0;
     let task = |field| value(&TASK, record, field);
     let job = |field| value(&JOB, record, field);
     let count = record.first().copied().unwrap_or(0);
@@ -94,7 +91,8 @@ fn fault(number: u8, file: &[u8], place: &Place) -> Option<String> {
             format!("{more} {} after the last section", plural(more, "byte"))
         }
         (3, Part::DeviceCount) => format!("{} devices, at most 8", counted(count)),
-        (5, Part::Device(_)) => powers(kind, record)?,
+        (4, Part::Device(_)) => no_time(file.kind, record)?,
+        (5, Part::Device(_)) => powers(file.kind, record)?,
         (6, Part::TaskCount) => format!("{} tasks, at most 8", counted(count)),
         (7, Part::Task(_)) => format!("period {} is outside 1 to 4096", task(0)),
         (8, Part::Task(_)) if task(1) == 0 => "running time 0".to_string(),
@@ -128,13 +126,20 @@ fn counted(count: u8) -> String {
     }
 }
 
-/// The first two powers that do not rise, by the letters whose powers they are.
+/// The first time that is 0.
+fn no_time(kind: &Kind, record: &[u8]) -> Option<String> {
+    let mut times = kind.times(record).into_iter();
+    let (name, _) = times.find(|(_, ticks)| *ticks == 0)?;
+    Some(format!("a {name} of 0"))
+}
+
+/// The first power that is not above that of sleep, by the letters whose powers they are.
 fn powers(kind: &Kind, record: &[u8]) -> Option<String> {
     let named = |letter| kind.named_power(record, letter);
-    let pairs = [b"SD", b"SU", b"SW", b"DW", b"UW"];
-    pairs.into_iter().find_map(|&[low, high]| {
-        let ((low, less), (high, more)) = (named(low)?, named(high)?);
-        (less >= more).then(|| format!("{low} {less} is not below {high} {more}"))
+    let (asleep, least) = named(b'S')?;
+    b"UDW".iter().find_map(|&letter| {
+        let (name, power) = named(letter)?;
+        (power <= least).then(|| format!("{asleep} {least} is not below {name} {power}"))
     })
 }
 

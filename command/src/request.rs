@@ -3,6 +3,7 @@
 use crate::calls::planner::{self, Refused};
 use crate::failure::Failure;
 use crate::jobs::{jobs, Job};
+use crate::place::File;
 use crate::refusal;
 use crate::streams;
 use crate::tables::Tables;
@@ -52,8 +53,11 @@ impl Request {
                 places: Some(places),
             }),
             Err(refused) => {
-                let file = tables.laid_out();
-                Err(refusal::of_file(refused.number, &file, Some(&places)))
+                let file = File {
+                    kind: tables.kind,
+                    bytes: &tables.laid_out(),
+                };
+                Err(refusal::of_file(refused.number, file, Some(&places)))
             }
         }
     }
@@ -72,7 +76,8 @@ impl Request {
 
     /// A refusal of the file itself.
     fn refused(&self, refused: Refused) -> Failure {
-        refusal::of_file(refused.number, &self.file, self.places.as_ref())
+        let file = File::new(&self.file);
+        refusal::of_file(refused.number, file, self.places.as_ref())
     }
 
     /// A refusal by an operation without start times.

@@ -115,6 +115,7 @@ fn number(rest: &mut &[u8], count: usize) -> u32 {
 #[cfg(test)]
 mod tests {
     use super::*;
+    use crate::kinds::SECOND;
 
     #[test]
     fn tables_come_back_from_their_bytes() {
@@ -125,6 +126,19 @@ mod tests {
         let back = Tables::of_bytes(&tables.bytes());
         assert_eq!(back.bytes(), tables.bytes());
         assert_eq!(back.laid_out().len(), 19);
+    }
+
+    #[test]
+    fn the_kind_says_how_long_a_device_is() {
+        let mut tables = Tables::empty();
+        tables.kind = &SECOND;
+        let device = vec![1, 3, 0, 9, 0, 1, 0, 4, 0, 2];
+        tables.devices.add(device.clone(), MOST_DEVICES);
+        tables.tasks.add(vec![0, 4, 0, 1, 0], MOST_TASKS);
+        let back = Tables::of_bytes(&tables.bytes());
+        assert_eq!(back.bytes(), tables.bytes());
+        assert_eq!(back.devices.records, [device]);
+        assert_eq!(back.laid_out()[..5], [0xFF, 2, 0, 0, 1]);
     }
 
     #[test]

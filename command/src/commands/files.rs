@@ -3,6 +3,8 @@
 use crate::arguments::Arguments;
 use crate::calls::planner;
 use crate::failure::Failure;
+use crate::kinds::FIRST;
+use crate::place::File;
 use crate::refusal;
 use crate::request::{malformed, Request};
 use crate::sheets;
@@ -61,10 +63,22 @@ fn without_devices(path: &OsStr, horizon: Option<u16>) -> Result<Text, Failure> 
         return Err(Failure::Usage(message.to_string()));
     }
     let text = reader::read(&bytes).map_err(|fault| malformed(path, &fault))?;
-    match text.places.devices.first() {
+    let number = text.tables.kind.number;
+    let fault = match (text.places.kind, text.places.devices.first()) {
+        (Some(line), _) if number != FIRST.number => Some((
+            line,
+            format!("kind {number}, and the parts of a catalogue are of kind 1"),
+        )),
+        (_, Some(&line)) => {
+            let message = "a device, and the catalogue brings the devices";
+            Some((line, message.to_string()))
+        }
+        _ => None,
+    };
+    match fault {
         None => Ok(text),
-        Some(line) => Err(Failure::Refused(format!(
-            "floe: {}: line {line}, column 1: a device, and the catalogue brings the devices",
+        Some((line, message)) => Err(Failure::Refused(format!(
+            "floe: {}: line {line}, column 1: {message}",
             streams::name(path)
         ))),
     }
@@ -116,5 +130,9 @@ fn of_the_file(number: u8, catalogue: &Catalogue, wanted: &[Vec<u8>], text: &Tex
         let record = part.map_or(&[][..], |part| &part[NUMBER..]);
         tables.devices.add(record.to_vec(), MOST_DEVICES);
     }
-    refusal::of_file(number, &tables.laid_out(), Some(&text.places))
+    let file = File {
+        kind: tables.kind,
+        bytes: &tables.laid_out(),
+    };
+    refusal::of_file(number, file, Some(&text.places))
 }

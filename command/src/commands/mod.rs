@@ -115,6 +115,8 @@ pub fn overview() -> String {
   task 4 1 0,1      period, running time, the devices used or -
   job 0 5 2 0       release, deadline, running time, the devices used or -
   # a comment\n
+After a first line `kind 2` waking and shutting down have times and powers of their own:\n
+  device 1 3 9 1 4 2    wake time, shut time, Pw, Ps, wake power, shut power\n
 START is a start time for each job, in job order. CATALOGUE has lines `part NUMBER T Pw Ps P0`;
 build takes the horizon, the tasks and the jobs from its REQUEST. Both may be comma-separated sheets
 instead, NUMBER,T,Pw,Ps,P0 and release,deadline,running time,device set; then --horizon N gives the

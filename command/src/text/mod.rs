@@ -7,6 +7,9 @@
 //! job 0 5 2 -        # release, deadline, running time, devices; - for none
 //! ```
 //!
+//! A request of the second kind has a line `kind 2` before all others, and its devices are
+//! `device 1 3 9 1 4 2`: wake, shut, Pw, Ps, Pwake, Pshut.
+//!
 //! Nothing is judged here but what has no place in a file: the library refuses the rest.
 
 pub mod catalogue;

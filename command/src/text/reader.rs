@@ -7,6 +7,7 @@ use crate::tables::{Table, Tables, MOST_DEVICES, MOST_JOBS, MOST_TASKS};
 /// Where the records stand: the line of each, up to one more than a request can have.
 #[derive(Clone, Debug, Default)]
 pub struct Places {
+    pub kind: Option<usize>,
     pub horizon: Option<usize>,
     pub devices: Vec<usize>,
     pub tasks: Vec<usize>,
@@ -49,6 +50,7 @@ fn take(read: &mut Text, line: &Line, is_first: bool) -> Result<(), Fault> {
                 return Err(word.fault("the kind stands before all other lines".to_string()));
             }
             tables.kind = kind;
+            places.kind = Some(line.number);
         }
         "horizon" => {
             let field = numbers(line, std::slice::from_ref(&HORIZON))?.concat();
@@ -78,7 +80,7 @@ fn take(read: &mut Text, line: &Line, is_first: bool) -> Result<(), Fault> {
         }
         other => {
             let message = format!(
-                "a line begins with horizon, device, task or job, not with {}",
+                "a line begins with kind, horizon, device, task or job, not with {}",
                 quoted(other)
             );
             return Err(word.fault(message));
