@@ -37,7 +37,8 @@ int main(void) {
 
     floe_rows(file, size, starts, 2 * jobs, rows, sizeof rows, result, sizeof result);
     unsigned horizon = number(result + 1, 2);
-    for (unsigned device = 0; device < file[2]; device++)
+    const uint8_t *sections = file[0] == 0xFF ? file + 2 : file; /* after the mark of the second kind */
+    for (unsigned device = 0; device < sections[2]; device++)
         printf("device %u %.*s\n", device, (int)horizon, (const char *)rows + device * horizon);
     return 0;
 }

@@ -1,5 +1,7 @@
 //! The example files: requests as text, whose comment lines say what the program prints.
 
+use crate::request::FileKind;
+use crate::second::{Second, Shut};
 use crate::tables::{job, task, DeviceRecord, Tables};
 use std::fs;
 use std::path::{Path, PathBuf};
@@ -35,7 +37,7 @@ pub fn all(folder: &Path) -> Result<Vec<Example>, String> {
 }
 
 fn parse(name: &str, text: &str) -> Result<Example, String> {
-    let mut tables = Tables::default();
+    let mut request = Request::default();
     let mut expected = String::new();
     for line in text.lines() {
         if let Some(printed) = line.strip_prefix("#> ") {
@@ -48,28 +50,69 @@ fn parse(name: &str, text: &str) -> Result<Example, String> {
             .into_iter()
             .flat_map(str::split_whitespace)
             .collect();
-        add(&mut tables, &words).ok_or(format!("{name}: not a line of a request: {line}"))?;
+        add(&mut request, &words).ok_or(format!("{name}: not a line of a request: {line}"))?;
     }
     Ok(Example {
         name: name.to_string(),
-        file: tables.bytes(),
+        file: request.bytes(),
         expected,
     })
 }
 
+/// What the lines say so far. Shutting down is told apart in the second kind alone.
+#[derive(Default)]
+struct Request {
+    kind: FileKind,
+    tables: Tables,
+    shuts: Vec<Shut>,
+}
+
+impl Request {
+    fn bytes(self) -> Vec<u8> {
+        let Request {
+            kind,
+            tables,
+            shuts,
+        } = self;
+        match kind {
+            FileKind::First => tables.bytes(),
+            FileKind::Second => Second { tables, shuts }.bytes(),
+        }
+    }
+}
+
 /// One line more of a request, if it is one. A number that does not fit its field is none.
-fn add(tables: &mut Tables, words: &[&str]) -> Option<()> {
+fn add(request: &mut Request, words: &[&str]) -> Option<()> {
     let number = |word: &str| word.parse::<u16>().ok();
     let byte = |word: &str| word.parse::<u8>().ok();
+    let Request {
+        kind,
+        tables,
+        shuts,
+    } = request;
     match *words {
         [] => {}
+        ["kind", "2"] if tables.devices.is_empty() => *kind = FileKind::Second,
         ["horizon", ticks] => tables.horizon = number(ticks)?,
-        ["device", transition, working, sleeping, moving] => tables.devices.push(DeviceRecord {
-            transition: byte(transition)?,
-            working: number(working)?,
-            sleeping: number(sleeping)?,
-            moving: number(moving)?,
-        }),
+        ["device", transition, working, sleeping, moving] if *kind == FileKind::First => {
+            tables.devices.push(DeviceRecord {
+                transition: byte(transition)?,
+                working: number(working)?,
+                sleeping: number(sleeping)?,
+                moving: number(moving)?,
+            })
+        }
+        ["device", wake, shut, working, sleeping, waking, shutting]
+            if *kind == FileKind::Second =>
+        {
+            tables.devices.push(DeviceRecord {
+                transition: byte(wake)?,
+                working: number(working)?,
+                sleeping: number(sleeping)?,
+                moving: number(waking)?,
+            });
+            shuts.push((byte(shut)?, number(shutting)?));
+        }
         ["task", period, running, devices] => {
             let devices = set(devices)?;
             tables
@@ -107,7 +150,7 @@ mod tests {
     fn each_example_prints_what_it_says() {
         let examples = all(&folder()).unwrap();
         let names: Vec<&str> = examples.iter().map(|each| each.name.as_str()).collect();
-        let wanted = ["budget", "none", "p3", "p9", "table2", "table3"];
+        let wanted = ["budget", "h4", "none", "p3", "p9", "table2", "table3"];
         assert_eq!(names, wanted);
         for example in &examples {
             let printed = text(&search(&example.file, BUDGET));
@@ -122,6 +165,9 @@ mod tests {
             "horizon 65536",
             "device 256 5 1 3",
             "job 0 5 2 8",
+            "device 1 3 9 1 4 2",
+            "kind 2\ndevice 1 5 1 3",
+            "device 1 5 1 3\nkind 2",
         ] {
             assert!(parse("wrong", line).is_err(), "{line}");
         }
@@ -129,5 +175,10 @@ mod tests {
             .unwrap()
             .file;
         assert_eq!(file, [0, 5, 0, 0, 1, 0, 0, 0, 5, 0, 2, 0]);
+        let file = parse("second", "kind 2\nhorizon 5\ndevice 1 3 9 1 4 2")
+            .unwrap()
+            .file;
+        let device = [1, 3, 0, 9, 0, 1, 0, 4, 0, 2];
+        assert_eq!(file, [&[0xFF, 2, 0, 5, 1][..], &device, &[0, 0]].concat());
     }
 }

@@ -99,10 +99,7 @@ pub fn damaged(random: &mut Random) -> Vec<u8> {
             file
         }
         5 => {
-            let number = random.pick(&faults::NUMBERS);
-            faults::put(random, &mut second.tables, number);
-            let devices = second.tables.devices.len();
-            second.shuts.resize(devices, (1, 65_535));
+            put_any(random, &mut second);
             second.bytes()
         }
         _ => {
@@ -112,8 +109,16 @@ pub fn damaged(random: &mut Random) -> Vec<u8> {
     }
 }
 
+/// A fault that the first kind has too.
+pub fn put_any(random: &mut Random, second: &mut Second) {
+    let number = random.pick(&faults::NUMBERS);
+    faults::put(random, &mut second.tables, number);
+    let devices = second.tables.devices.len();
+    second.shuts.resize(devices, (1, 65_535));
+}
+
 /// A time of 0, or a power that is not above that of sleep.
-fn spoil(random: &mut Random, second: &mut Second) {
+pub fn spoil(random: &mut Random, second: &mut Second) {
     if second.shuts.is_empty() {
         second.tables.devices.push(valid::device(random));
         second.shuts.push((1, 65_535));

@@ -10,6 +10,7 @@ mod malformed;
 mod parts;
 mod pictures;
 mod planning;
+mod second;
 mod sentences;
 mod sheets;
 mod streams;
@@ -24,9 +25,10 @@ use std::thread;
 
 type Test = fn(&Floe) -> Tried;
 
-const TESTS: [(&str, Test); 15] = [
+const TESTS: [(&str, Test); 16] = [
     ("plans and refusals of files", planning::test),
     ("write and show", both_ways::test),
+    ("the second kind", second::test),
     ("verdicts and rows", judging::verdicts),
     ("mended start times", judging::mends),
     ("any plan at all", judging::possible),

@@ -3,7 +3,7 @@
 use crate::floe::{same, Floe, Tried};
 
 /// A text, the line and the column, and some of the words.
-const TEXTS: [(&str, usize, usize, &str); 52] = [
+const TEXTS: [(&str, usize, usize, &str); 61] = [
     ("horizont 5\n", 1, 1, "not with 'horizont'"),
     ("Horizon 5\n", 1, 1, "not with 'Horizon'"),
     ("horizon 5\n\n  devise 1 5 1 3\n", 3, 3, "not with 'devise'"),
@@ -70,6 +70,35 @@ const TEXTS: [(&str, usize, usize, &str); 52] = [
     ),
     ("kind 4\nhorizon 5\n", 1, 6, "there is no kind 4"),
     ("horizon 5\nkind 1\n", 2, 1, "before all other lines"),
+    ("horizon 5\nkind 2\n", 2, 1, "before all other lines"),
+    ("kind 2\nkind 2\n", 2, 1, "before all other lines"),
+    ("kind 0\n", 1, 6, "there is no kind 0"),
+    ("kind two\n", 1, 6, "'two' is not a number (kind)"),
+    ("kind\n", 1, 6, "kind is missing"),
+    (
+        "kind 2\ndevice 1 5 1 3\n",
+        2,
+        16,
+        "Pwake is missing: device takes wake, shut, Pw, Ps, Pwake, Pshut",
+    ),
+    (
+        "kind 2\ndevice 1 3 9 1 4 2 7\n",
+        2,
+        20,
+        "'7' is a word too many",
+    ),
+    (
+        "kind 2\ndevice 1 256 9 1 4 2\n",
+        2,
+        10,
+        "'256' is too large for shut: at most 255",
+    ),
+    (
+        "kind 1\ndevice 1 3 9 1 4 2\n",
+        2,
+        16,
+        "'4' is a word too many: device takes T, Pw, Ps, P0",
+    ),
     ("horizon 5\nä ö job\n", 2, 1, "not with 'ä'"),
 ];
 
@@ -92,6 +121,12 @@ const RIGHT: [&str; 9] = [
     "###\nhorizon 5#6",
     "\t \thorizon\t \t5 ",
     "horizon 5\n#\n\n\n",
+];
+
+const RIGHT_SECOND: [&str; 3] = [
+    "kind 2\nhorizon 5",
+    "\u{FEFF}# kind 1\r\n\r\n\tkind  2\r\nhorizon 5\r\n",
+    "kind 002#\nhorizon 5",
 ];
 
 pub fn test(floe: &Floe) -> Tried {
@@ -119,9 +154,11 @@ pub fn test(floe: &Floe) -> Tried {
             runs += 1;
         }
     }
-    for text in RIGHT {
+    let right = RIGHT.map(|text| (text, vec![0, 5, 0, 0, 0]));
+    let second = RIGHT_SECOND.map(|text| (text, vec![0xFF, 2, 0, 5, 0, 0, 0]));
+    for (text, expected) in right.into_iter().chain(second) {
         let file = floe.output(&["write", "-"], text.as_bytes())?;
-        same(file, vec![0, 5, 0, 0, 0], || format!("{text:?}"))?;
+        same(file, expected, || format!("{text:?}"))?;
         runs += 1;
     }
     // A long word is not repeated at length.

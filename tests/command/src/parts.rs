@@ -55,7 +55,7 @@ fn in_folder(floe: &Floe, folder: &Path) -> Tried {
 fn places(floe: &Floe, catalogue: &Path, others: &Path) -> Tried {
     let good = "part 00417 1 5 1 3\npart 417 2 9 2 4\n";
     let request = "horizon 5\njob 0 5 2 0\n";
-    let table: [(&str, &str, &[&str], &str); 9] = [
+    let table: [(&str, &str, &[&str], &str); 10] = [
         (good, request, &["418"], "refused 23: part '418': "),
         (good, request, &["417", "0417"], "refused 23: part '0417': "),
         (
@@ -99,6 +99,12 @@ fn places(floe: &Floe, catalogue: &Path, others: &Path) -> Tried {
             "horizon 5\ndevice 1 5 1 3\n",
             &["417"],
             ": line 2, column 1: ",
+        ),
+        (
+            good,
+            "\nkind 2\nhorizon 5\njob 0 5 2 0\n",
+            &["417"],
+            ": line 2, column 1: kind 2, and the parts of a catalogue are of kind 1",
         ),
     ];
     let mut runs = 0;

@@ -5,6 +5,7 @@ use crate::floe::{same, Floe, Tried};
 use outside::cases::{draw, Kind};
 use outside::expect::{search, BUDGET};
 use outside::listing::uses;
+use outside::request::{unmarked, Device, FileKind};
 use outside::rows::least_row;
 use std::collections::BTreeSet;
 use std::fs;
@@ -62,10 +63,15 @@ pub fn test(floe: &Floe) -> Tried {
                 let ticks = ticks(start, start + record.running);
                 titles.insert(format!("device {device}: working for job {job}, {ticks}"));
             }
+            let label = label(&case.file, figures);
+            same(shapes.texts.contains(&label), true, || {
+                named(&format!("{label:?} is not told"))
+            })?;
             let power = |letter: u8| match letter {
                 b'W' => figures.working,
                 b'S' => figures.sleeping,
-                _ => figures.moving,
+                b'D' => figures.shut.power,
+                _ => figures.wake.power,
             };
             energies.push(
                 row.bytes()
@@ -97,6 +103,24 @@ pub fn test(floe: &Floe) -> Tried {
         runs += 2;
     }
     Ok(runs)
+}
+
+/// What stands below the name of a device: the numbers of its line.
+fn label(file: &[u8], device: &Device) -> String {
+    let Device {
+        working,
+        sleeping,
+        shut,
+        wake,
+    } = device;
+    let powers = format!("Pw {working}, Ps {sleeping}");
+    match unmarked(file).0 {
+        FileKind::First => format!("T {}, {powers}, P0 {}", wake.ticks, wake.power),
+        FileKind::Second => format!(
+            "wake {}, shut {}, {powers}, Pwake {}, Pshut {}",
+            wake.ticks, shut.ticks, wake.power, shut.power
+        ),
+    }
 }
 
 /// The picture in README is what is drawn today; and the longest example is drawn.

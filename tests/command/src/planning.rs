@@ -2,7 +2,7 @@
 //! number and its place.
 
 use crate::floe::{same, Floe, Tried};
-use crate::texts::{end_of_fault, is_text, part_before};
+use crate::texts::{end_of_fault, is_text, layout, part_before};
 use outside::cases::{draw, Kind};
 use outside::example;
 use outside::expect::{search, text, BUDGET};
@@ -102,7 +102,8 @@ fn examples(floe: &Floe) -> Tried {
 fn checked(file: &[u8]) -> Vec<u8> {
     let request = read(file).expect("an accepted file");
     let devices = request.devices.len();
-    let tasks = file[3 + 7 * devices];
+    let (from, size) = layout(file);
+    let tasks = file[from + 3 + size * devices];
     let (horizon, jobs) = (request.horizon, request.jobs.len());
     format!("horizon {horizon}\ndevices {devices}\ntasks {tasks}\njobs {jobs}\n").into_bytes()
 }
@@ -132,7 +133,7 @@ fn place(file: &[u8], number: u8) -> (String, usize, usize) {
                 whole.resize(*end, 0);
                 *end > file.len() && is_end(&whole)
             };
-            let end = (file.len() + 1..file.len() + 9).find(longer).unwrap_or(0);
+            let end = (file.len() + 1..file.len() + 11).find(longer).unwrap_or(0);
             let mut whole = file.to_vec();
             whole.resize(end, 0);
             let (name, from) = part_before(&whole, end);
@@ -143,8 +144,9 @@ fn place(file: &[u8], number: u8) -> (String, usize, usize) {
 
 /// Whether a part of the file ends where the file does.
 fn is_end(file: &[u8]) -> bool {
-    let mut at = 2;
-    for size in [7, 5, 7] {
+    let (from, device) = layout(file);
+    let mut at = from + 2;
+    for size in [device, 5, 7] {
         if file.len() <= at + 1 {
             return file.len() >= at;
         }

@@ -5,7 +5,7 @@ use crate::floe::{same, Floe, Tried};
 const A: &str = "device 1 5 1 3\n";
 
 /// A text, the words after `floe COMMAND -`, and the line on standard error.
-const REFUSALS: [(&str, &str, &str); 32] = [
+const REFUSALS: [(&str, &str, &str); 45] = [
     (
         "9 of A",
         "check",
@@ -166,9 +166,76 @@ const REFUSALS: [(&str, &str, &str); 32] = [
         "plan --budget 1",
         "20: the search has more than 1 vertex, which is the budget",
     ),
+    // Of the second kind.
+    (
+        "kind 2\nhorizon 5\ndevice 0 3 9 1 4 2",
+        "check",
+        "4: device 0 (line 3, bytes 5 to 14): a wake time of 0",
+    ),
+    (
+        "kind 2\nhorizon 5\ndevice 1 0 9 9 4 2",
+        "check",
+        "4: device 0 (line 3, bytes 5 to 14): a shut time of 0",
+    ),
+    (
+        "kind 2\nhorizon 5\ndevice 1 3 9 1 4 2\ndevice 1 3 9 4 4 2",
+        "plan",
+        "5: device 1 (line 4, bytes 15 to 24): Ps 4 is not below Pwake 4",
+    ),
+    (
+        "kind 2\nhorizon 5\ndevice 1 3 9 2 4 1",
+        "check",
+        "5: device 0 (line 3, bytes 5 to 14): Ps 2 is not below Pshut 1",
+    ),
+    (
+        "kind 2\nhorizon 5\ndevice 1 3 3 3 4 9",
+        "write",
+        "5: device 0 (line 3, bytes 5 to 14): Ps 3 is not below Pw 3",
+    ),
+    (
+        "kind 2\nhorizon 0",
+        "show",
+        "10: job count (line 2, byte 6): no horizon and no tasks",
+    ),
+    (
+        "kind 2\ntask 4 5 -",
+        "check",
+        "8: task 0 (line 2, bytes 6 to 10): running time 5 > period 4",
+    ),
+    (
+        "kind 2\nhorizon 5\ndevice 1 3 9 1 4 2\njob 0 6 1 0",
+        "draw",
+        "13: job 0 (line 4, bytes 17 to 23): deadline 6 > horizon 5",
+    ),
+    (
+        "kind 2\nhorizon 65282",
+        "check",
+        "10: job count (line 2, byte 6): horizon 65282 is outside 1 to 4096",
+    ),
+    // Of the first, though the horizon's bytes are those of a mark.
+    (
+        "horizon 65282",
+        "check",
+        "10: job count (line 1, byte 4): horizon 65282 is outside 1 to 4096",
+    ),
+    (
+        "horizon 65282\ntask 4 1 -",
+        "check",
+        "11: job count (line 1, byte 9): tasks and a horizon, 65282",
+    ),
+    (
+        "horizon 65282\ndevice 0 5 1 3",
+        "check",
+        "4: device 0 (line 2, bytes 3 to 9): a transition time of 0",
+    ),
+    (
+        "horizon 65282\njob 0 5 2 0",
+        "check",
+        "10: job count (line 1, byte 4): horizon 65282 is outside 1 to 4096",
+    ),
 ];
 
-const FILES: [(&[u8], &str); 8] = [
+const FILES: [(&[u8], &str); 16] = [
     (
         &[],
         "1: horizon (bytes 0 to 1): the file ends here, with 0 of 2 bytes",
@@ -200,6 +267,39 @@ const FILES: [(&[u8], &str); 8] = [
     (
         &[0, 5, 0, 0, 1, 0, 3, 0, 4, 0, 2, 0],
         "13: job 0 (bytes 5 to 11): release 3 + running time 2 > deadline 4",
+    ),
+    // Of the second kind; a mark that is cut short or another is none.
+    (
+        &[0xFF],
+        "1: horizon (bytes 0 to 1): the file ends here, with 1 of 2 bytes",
+    ),
+    (
+        &[0xFF, 2],
+        "1: horizon (bytes 2 to 3): the file ends here, with 0 of 2 bytes",
+    ),
+    (
+        &[0xFF, 2, 0],
+        "1: horizon (bytes 2 to 3): the file ends here, with 1 of 2 bytes",
+    ),
+    (
+        &[0xFF, 2, 0, 5, 1, 1, 3, 0, 9, 0, 1, 0],
+        "1: device 0 (bytes 5 to 14): the file ends here, with 7 of 10 bytes",
+    ),
+    (
+        &[0xFF, 2, 0, 5, 1, 1, 0, 0, 9, 0, 9, 0, 4, 0, 2],
+        "4: device 0 (bytes 5 to 14): a shut time of 0",
+    ),
+    (
+        &[0xFF, 2, 0, 5, 1, 1, 3, 0, 9, 0, 1, 0, 4, 0, 1],
+        "5: device 0 (bytes 5 to 14): Ps 1 is not below Pshut 1",
+    ),
+    (
+        &[0xFF, 2, 0, 5, 0, 0, 0, 0],
+        "2: end (byte 7): 1 byte after the last section",
+    ),
+    (
+        &[0xFF, 3, 0, 0, 0],
+        "10: job count (byte 4): horizon 65283 is outside 1 to 4096",
     ),
 ];
 

@@ -2,8 +2,54 @@
 //! file is at fault.
 
 use outside::random::Random;
-use outside::request::read;
-use outside::tables::Tables;
+use outside::request::{read, read_as, unmarked, FileKind, Request};
+use outside::second::Second;
+use outside::tables::{DeviceRecord, Tables};
+
+/// Tables and the kind of their file; only in the second is shutting down told apart.
+pub struct Drawn {
+    pub kind: FileKind,
+    pub second: Second,
+}
+
+impl Drawn {
+    pub fn tables(&self) -> &Tables {
+        &self.second.tables
+    }
+
+    pub fn bytes(&self) -> Vec<u8> {
+        match self.kind {
+            FileKind::First => self.tables().bytes(),
+            FileKind::Second => self.second.bytes(),
+        }
+    }
+
+    /// By the reader of the kind: in the first a horizon field FF02 is no mark.
+    pub fn read(&self) -> Result<Request, u8> {
+        match self.kind {
+            FileKind::First => read_as(self.kind, &self.bytes()),
+            FileKind::Second => read(&self.bytes()),
+        }
+    }
+
+    /// The numbers of a device line.
+    fn numbers(&self, place: usize) -> Vec<u16> {
+        let DeviceRecord {
+            transition,
+            working,
+            sleeping,
+            moving,
+        } = self.tables().devices[place];
+        let transition = transition.into();
+        match self.kind {
+            FileKind::First => vec![transition, working, sleeping, moving],
+            FileKind::Second => {
+                let (time, power) = self.second.shuts[place];
+                vec![transition, time.into(), working, sleeping, moving, power]
+            }
+        }
+    }
+}
 
 /// A text, and the line of each record.
 #[derive(Default)]
@@ -31,7 +77,8 @@ fn set(random: &mut Random, devices: u8) -> String {
 }
 
 /// The lines of tables, of which those of one section keep their order.
-pub fn write(random: &mut Random, tables: &Tables) -> Text {
+pub fn write(random: &mut Random, drawn: &Drawn) -> Text {
+    let tables = drawn.tables();
     let mut sections: [Vec<Vec<String>>; 4] = Default::default();
     let line = |word: &str, numbers: &[u16]| {
         let numbers = numbers.iter().map(u16::to_string);
@@ -40,14 +87,8 @@ pub fn write(random: &mut Random, tables: &Tables) -> Text {
     if tables.horizon != 0 || random.one_in(2) {
         sections[0].push(line("horizon", &[tables.horizon]));
     }
-    for device in &tables.devices {
-        let numbers = [
-            device.transition.into(),
-            device.working,
-            device.sleeping,
-            device.moving,
-        ];
-        sections[1].push(line("device", &numbers));
+    for place in 0..tables.devices.len() {
+        sections[1].push(line("device", &drawn.numbers(place)));
     }
     for task in &tables.tasks {
         let mut words: Vec<String> = line("task", &[task.period, task.running]);
@@ -71,6 +112,14 @@ pub fn write(random: &mut Random, tables: &Tables) -> Text {
     };
     if random.one_in(3) {
         blank(&mut written.text, "# horizon 7 is no line");
+    }
+    match drawn.kind {
+        FileKind::First if random.one_in(4) => drop(blank(&mut written.text, "kind 1")),
+        FileKind::First => {}
+        FileKind::Second => drop(blank(
+            &mut written.text,
+            random.pick(&["kind 2", " kind\t02 # 1"]),
+        )),
     }
     while let Some(section) = next(random, &sections, in_order) {
         let words = sections[section].remove(0);
@@ -122,13 +171,24 @@ pub fn end_of_fault(file: &[u8]) -> Option<usize> {
     (0..=file.len()).find(|&length| read(&file[..length]) != Err(1))
 }
 
+/// Where the sections of a file begin, and how long its device records are.
+pub fn layout(file: &[u8]) -> (usize, usize) {
+    let (kind, rest) = unmarked(file);
+    let size = match kind {
+        FileKind::First => 7,
+        FileKind::Second => 10,
+    };
+    (file.len() - rest.len(), size)
+}
+
 /// What stands before this end of a file's part, and where it begins.
 pub fn part_before(file: &[u8], end: usize) -> (String, usize) {
-    if end == 2 {
-        return ("horizon".to_string(), 0);
+    let (from, device) = layout(file);
+    if end == from + 2 {
+        return ("horizon".to_string(), from);
     }
-    let mut at = 2;
-    for (name, size) in [("device", 7), ("task", 5), ("job", 7)] {
+    let mut at = from + 2;
+    for (name, size) in [("device", device), ("task", 5), ("job", 7)] {
         if end == at + 1 {
             return (format!("{name} count"), at);
         }
