@@ -3,9 +3,11 @@ pub mod Prefix
 pub mod Walk
 pub mod Rows
 pub mod Chosen
+pub mod Joined
 pub mod Gap
 pub mod Levels
 pub mod Round
+pub mod Depths
 pub mod Least
 pub mod Rules
 pub mod OneSleep

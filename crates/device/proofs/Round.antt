@@ -1,5 +1,5 @@
--- Used when the round loses its seam; until then nothing cites it. A row without a seam is one that is legal repeated for ever. With a use in it, it is the
--- row of the pattern that begins after that use, turned back.
+-- Rows without a seam (rule 86), over any machine: a row that is legal repeated for ever. With a use in it, it is the row of the pattern that begins after that
+-- use, turned back.
 -- Assumes nothing.
 use mathlib.Core.Path.{_≡_, refl, sym, ap, _∙_, subst}
 use mathlib.Core.Bool.{Bool, true, false}
@@ -10,7 +10,7 @@ use lib.ListN.{length, take, drop, replicate, take-append-drop}
 use lib.Seq.{take-at, drop-at}
 use Rattle.base.specs.Sums.{total}
 use Rattle.base.proofs.Additions.{total-append}
-use Rattle.device.specs.Row.{rowFrom}
+use Rattle.device.specs.Row.{rowFrom, roundFrom}
 use Rattle.device.proofs.Rows.{Machine, Legal, end, used, free, Works, Best, Beats, row-legal, row-beats}
 use Rattle.device.proofs.Pattern.{replicate-more}
 
@@ -21,17 +21,26 @@ module _ {L : Type 0} (A : Machine L) where
     works : {s t z : A .State} {u : List Bool} {r : List L} → A .step s (A .work) t → Goes t u r z → Goes s (true ∷ u) (A .work ∷ r) z
     moves : {s t z : A .State} {x : L} {u : List Bool} {r : List L} → A .step s x t → Goes t u r z → Goes s (false ∷ u) (x ∷ r) z
 
-  -- Legal repeated for ever: some state at the seam comes back to itself.
+  -- Legal repeated for ever: round after round, each from where the one before has come to.
+  pub record Forever (u : List Bool) (r : List L) : Type 0 where
+    pub seam : ℕ → A .State
+    pub goes : (i : ℕ) → Goes (seam i) u r (seam (suc i))
+
+  -- Some state at the seam comes back to itself.
   pub record Round (u : List Bool) (r : List L) : Type 0 where
     pub seam : A .State
     pub goes : Goes seam u r seam
 
-  goes-legal : {s t : A .State} {u : List Bool} {r : List L} → Goes s u r t → A .ends t → Legal A s u r
+  -- Then the row can be repeated for ever.
+  pub round-forever : {u : List Bool} {r : List L} → Round u r → Forever u r
+  round-forever R = record { seam = λ i. R .seam; goes = λ i. R .goes }
+
+  pub goes-legal : {s t : A .State} {u : List Bool} {r : List L} → Goes s u r t → A .ends t → Legal A s u r
   goes-legal over e = end e
   goes-legal (works st g) e = used st (goes-legal g e)
   goes-legal (moves st g) e = free st (goes-legal g e)
 
-  legal-goes : {s : A .State} {u : List Bool} {r : List L} → Legal A s u r → (t : A .State) × Goes s u r t × A .ends t
+  pub legal-goes : {s : A .State} {u : List Bool} {r : List L} → Legal A s u r → (t : A .State) × Goes s u r t × A .ends t
   legal-goes {s} (end e) = (s, over, e)
   legal-goes (used st l) = let i = legal-goes l in (i .0, works st (i .1), i .2)
   legal-goes (free st l) = let i = legal-goes l in (i .0, moves st (i .1), i .2)
@@ -63,6 +72,26 @@ module _ {L : Type 0} (A : Machine L) where
       let c = goes-cut u g in
       record { head = x ∷ c .head; tail = c .tail; mid = c .mid; whole = ap {B = List L} (λ q. x ∷ q) (c .whole); before = moves st (c .before); after = c .after }
 
+  -- And the other way where a tick is used: after it the device is as at the start, so the second round ends as it begins.
+  same-head : (h h′ t t′ : List L) → length h ≡ length h′ → h ++ t ≡ h′ ++ t′ → (h ≡ h′) × (t ≡ t′)
+  same-head h h′ t t′ l e =
+      let a : take (length h) (h ++ t) ≡ h = take-at h t (length h) refl in
+      let b : take (length h) (h′ ++ t′) ≡ h′ = take-at h′ t′ (length h) (sym l) in
+      let c : drop (length h) (h ++ t) ≡ t = drop-at h t (length h) refl in
+      let f : drop (length h) (h′ ++ t′) ≡ t′ = drop-at h′ t′ (length h) (sym l) in
+      (sym a ∙ ap (take (length h)) e ∙ b, sym c ∙ ap (drop (length h)) e ∙ f)
+
+  module _ (O : Works A) where
+    after-use : {s s′ t t′ : A .State} {u : List Bool} {r : List L} → Goes s (true ∷ u) r t → Goes s′ (true ∷ u) r t′ → Goes s′ (true ∷ u) r t
+    after-use (works {z = z} {u = u} {r = r} st g) (works st′ g′) = works st′ (subst (λ (x : A .State). Goes x u r z) (sym (O .returns st .0) ∙ O .returns st′ .0) g)
+
+    pub one-seam : (u u′ : List Bool) {r : List L} → Forever (u ++ true ∷ u′) r → Round (u ++ true ∷ u′) r
+    one-seam u u′ F =
+        let a = goes-cut u (F .goes 0) in
+        let b = goes-cut u (F .goes 1) in
+        let m = same-head (b .head) (a .head) (b .tail) (a .tail) (goes-length (b .before) ∙ sym (goes-length (a .before))) (sym (b .whole) ∙ a .whole) in
+        record { seam = F .seam 1; goes = rw (b .whole) (goes-append (b .before) (after-use (rw (← m .1) at (a .after)) (b .after))) }
+
   -- The row that begins after a use, turned back so that n of its ticks come after the use.
   abbrev pub turn : ℕ → List L → List L
   turn n q = drop n q ++ A .work ∷ take n q
@@ -70,7 +99,7 @@ module _ {L : Type 0} (A : Machine L) where
   turn-at : (n : ℕ) (h t : List L) → length h ≡ n → turn n (h ++ t) ≡ t ++ A .work ∷ h
   turn-at n h t e = rw (drop-at h t n e, take-at h t n e)
 
-  total-turn : (w : L → ℕ) (n : ℕ) (q : List L) → total w (turn n q) ≡ w (A .work) + total w q
+  pub total-turn : (w : L → ℕ) (n : ℕ) (q : List L) → total w (turn n q) ≡ w (A .work) + total w q
   total-turn w n q =
       let whole : total w q ≡ total w (take n q) + total w (drop n q) = sym (ap (total w) (take-append-drop n q)) ∙ total-append w (take n q) (drop n q) in
       rw (total-append w (drop n q)) (omega arith)
@@ -111,8 +140,8 @@ module _ {L : Type 0} (A : Machine L) where
     round-cut : (u u′ : List Bool) (r r′ : List L) {s t : A .State} → Goes s u r t → Goes t (true ∷ u′) r′ s → Beats w v (turned u u′) (r ++ r′)
     round-cut u u′ r r′ g (works {r = q} st h) = beaten u u′ r q g st h
 
-    pub round-beats : (u u′ : List Bool) (r : List L) → Round (u ++ true ∷ u′) r → Beats w v (turned u u′) r
-    round-beats u u′ r R = let c = goes-cut u (R .goes) in rw (c .whole) (round-cut u u′ (c .head) (c .tail) (c .before) (c .after))
+    pub round-beats : (u u′ : List Bool) (r : List L) → Forever (u ++ true ∷ u′) r → Beats w v (turned u u′) r
+    round-beats u u′ r F = let c = goes-cut u (one-seam O u u′ F .goes) in rw (c .whole) (round-cut u u′ (c .head) (c .tail) (c .before) (c .after))
 
   -- Some state stays as it is by the letter x, and no other letter is as cheap.
   pub record Cheapest (w : L → ℕ) (x : L) (z : A .State) : Type 0 where
@@ -141,28 +170,23 @@ module _ {L : Type 0} (A : Machine L) where
               cc,
         )
 
-    pub never-beats : (n : ℕ) (r : List L) → Round (replicate n false) r → Beats w v (replicate n x) r
-    never-beats n r R =
-        let i = never n (R .goes) in
+    pub never-beats : (n : ℕ) (r : List L) → Forever (replicate n false) r → Beats w v (replicate n x) r
+    never-beats n r F =
+        let i = never n (F .goes 0) in
         (i .0, λ h. omega (arith, ap (total v) (i .1 h)), λ h k. i .1 h)
 
-  -- The round's row for every pattern: g unused ticks have gone by before the first use. `idle` is the letter of a device that is never used.
-  abbrev pub roundFrom : (ℕ → List L) → L → ℕ → List Bool → List L
-  roundFrom fill idle g [] = replicate g idle
-  roundFrom fill idle g (true ∷ u) = turn (length u) (rowFrom (A .work) fill 0 (u ++ replicate g false))
-  roundFrom fill idle g (false ∷ u) = roundFrom fill idle (suc g) u
-
+  -- The round's row for every pattern: g unused ticks have gone by before the first use, and x is the letter of a device that is never used.
   module _ (w v : L → ℕ) (fill : ℕ → List L) (O : Works A) (B : Best A w v fill) (x : L) (z : A .State) (Q : Cheapest w x z) where
-    from-legal : (g : ℕ) (u : List Bool) → Round (replicate g false ++ u) (roundFrom fill x g u)
+    from-legal : (g : ℕ) (u : List Bool) → Round (replicate g false ++ u) (roundFrom (A .work) fill x g u)
     from-legal g [] = rw append-nil (never-legal w v x z Q g)
     from-legal g (true ∷ u) = round-legal w v fill O B (replicate g false) u
     from-legal g (false ∷ u) = rw (replicate-more g false u) (from-legal (suc g) u)
 
-    from-beats : (g : ℕ) (u : List Bool) (r : List L) → Round (replicate g false ++ u) r → Beats w v (roundFrom fill x g u) r
-    from-beats g [] r R = never-beats w v x z Q g r (rw append-nil at R)
-    from-beats g (true ∷ u) r R = round-beats w v fill O B (replicate g false) u r R
-    from-beats g (false ∷ u) r R = from-beats (suc g) u r (rw (replicate-more g false u) at R)
+    from-beats : (g : ℕ) (u : List Bool) (r : List L) → Forever (replicate g false ++ u) r → Beats w v (roundFrom (A .work) fill x g u) r
+    from-beats g [] r F = never-beats w v x z Q g r (rw append-nil at F)
+    from-beats g (true ∷ u) r F = round-beats w v fill O B (replicate g false) u r F
+    from-beats g (false ∷ u) r F = from-beats (suc g) u r (rw (replicate-more g false u) at F)
 
     -- THEOREM. The round's row is legal repeated for ever, and beats every such row.
-    pub theorem-round : (u : List Bool) → Round u (roundFrom fill x 0 u) × ((r : List L) → Round u r → Beats w v (roundFrom fill x 0 u) r)
-    theorem-round u = (from-legal 0 u, λ r R. from-beats 0 u r R)
+    pub theorem-round : (u : List Bool) → Forever u (roundFrom (A .work) fill x 0 u) × ((r : List L) → Forever u r → Beats w v (roundFrom (A .work) fill x 0 u) r)
+    theorem-round u = (round-forever (from-legal 0 u), λ r F. from-beats 0 u r F)

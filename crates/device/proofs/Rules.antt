@@ -1,4 +1,4 @@
--- Rule 38 in its own words: for a device with one sleep level, and for one of rule 3.
+-- Rule 38 in its own words: for a device with one sleep level, and for one of rule 3. And rule 88: a device that a round never uses.
 -- Assumes nothing.
 use mathlib.Core.Path.{_≡_, refl, sym, ap, _∙_}
 use mathlib.Core.Bool.{Bool, true, false, cond, _&&_, true≢false}
@@ -11,9 +11,9 @@ use lib.ListN.{replicate}
 use borrow.Author.Tests.{leb-true, ltb-true, le-leb, lt-ltb}
 use Rattle.base.proofs.Additions.{total-append, total-replicate}
 use Rattle.device.specs.declared.Device.{Device}
-use Rattle.device.specs.Row.{powerAt, Sound, Letter, at, D, U, W, moved, LeastRow, trip, depth, gapRow}
+use Rattle.device.specs.Row.{powerAt, deep, Sound, Letter, at, D, U, W, power, energy, moved, LeastRow, trip, depth, gapRow}
 use Rattle.device.proofs.Chosen.{Shallowest, chosen}
-use Rattle.device.proofs.Least.{least-is-row, row-gap}
+use Rattle.device.proofs.Least.{least-is-row, row-gap, round-never}
 
 -- A device with one sleep level, and times and powers of its own for waking and for shutting down.
 abbrev pub single : (wake shut Pw Ps Pwake Pshut : ℕ) → Device
@@ -106,10 +106,17 @@ pub level-rule : (d : Device) (g : ℕ) → (m : ℕ) × Shallowest d (d .levels
 level-rule d g = (depth d (d .levels) g, chosen d (d .levels) g, refl)
 
 -- The row given for a gap and nothing else is the gap's row. (In longer rows `rowOf` fills each gap so.)
-pub gap-given : (d : Device) → Sound d → (g : ℕ) {r : List Letter} → LeastRow d (replicate g false) r → r ≡ gapRow d g
-gap-given d ok g l = least-is-row d ok l ∙ row-gap d g
+pub gap-given : (d : Device) → Sound d → (g : ℕ) {r : List Letter} → LeastRow false d (replicate g false) r → r ≡ gapRow d g
+gap-given d ok g l = least-is-row d ok false l ∙ row-gap d g
 
 -- So the row given for a device of rule 3 sleeps through a gap exactly when rule 38 says so.
-pub first-given : (T Pw Ps P0 g : ℕ) → 1 ≤ T → Ps < P0 → Ps < Pw → {r : List Letter} → LeastRow (first T Pw Ps P0) (replicate g false) r
+pub first-given : (T Pw Ps P0 g : ℕ) → 1 ≤ T → Ps < P0 → Ps < Pw → {r : List Letter} → LeastRow false (first T Pw Ps P0) (replicate g false) r
     → Exactly ((2 * T ≤ g) × (P0 * (2 * T) + Ps * (g - 2 * T) < Pw * g)) r (slept T T g) (replicate g W)
 first-given T Pw Ps P0 g t h w l = rw (gap-given (first T Pw Ps P0) (first-sound T Pw Ps P0 t h w) g l) (first-rule T Pw Ps P0 g)
+
+-- The row given for a device that a round never uses is all sleep, at the deepest level.
+pub never-used : (d : Device) → Sound d → (H : ℕ) {r : List Letter} → LeastRow true d (replicate H false) r
+    → (r ≡ replicate H (at (d .levels))) × (energy d r ≡ deep d * H)
+never-used d ok H l =
+    let e = least-is-row d ok true l ∙ round-never d H in
+    (e, ap (energy d) e ∙ total-replicate (power d) H (at (d .levels)))

@@ -1,4 +1,4 @@
--- The rows of a device (docs/RULES.md, rules 30 to 38): the letters, the legal rows, their energy, the row given, and the rule for gaps.
+-- The rows of a device (docs/RULES.md, rules 30 to 38 and 85 to 88): the letters, the legal rows by either rule, their energy, the row given, and the rule for gaps.
 -- The declared `Device` is general. `shut` and `wake` are the ticks of a move down and of one up, by one level; `pd` and `pu` are their powers; `pw` is the power
 -- at work, and `powers` has those of the `levels` sleep levels, the shallowest first. A device of rule 3 has T and P0 for both moves and one level, of power Ps.
 -- Assumes nothing.
@@ -7,7 +7,7 @@ use mathlib.Core.Bool.{Bool, true, false, cond, _&&_}
 use mathlib.Core.List.{List, [], _∷_, _++_}
 use Prim.Native.Nat.{ℕ, zero, suc, _+_, _-_, _*_, _≤_, _<_}
 use lib.Dec.{leb, ltb}
-use lib.ListN.{replicate, getD}
+use lib.ListN.{replicate, length, take, drop, getD}
 use Rattle.base.specs.Sums.{total}
 use Rattle.device.specs.declared.Device.{Device}
 
@@ -81,14 +81,21 @@ pub data Goes (d : Device) : State → List Bool → List Letter → State → T
   used : {s t z : State} {u : List Bool} {r : List Letter} → Step d s W t → Goes d t u r z → Goes d s (true ∷ u) (W ∷ r) z
   free : {s t z : State} {x : Letter} {u : List Bool} {r : List Letter} → Step d s x t → Goes d t u r z → Goes d s (false ∷ u) (x ∷ r) z
 
--- Before the first tick the device was at work, and after the last it could be (rule 31).
+-- The row by itself (rule 31): before the first tick the device was at work, and after the last it could be.
 pub record Once (d : Device) (u : List Bool) (r : List Letter) : Type 0 where
   pub last : State
   pub goes : Goes d (level 0) u r last
   pub ends : Ends last
 
-abbrev pub LegalRow : Device → List Bool → List Letter → Type 0
-LegalRow d u r = Once d u r
+-- The row repeated for ever (rule 86): round after round, each from where the one before it has led. At the seam the device may be anywhere.
+pub record Forever (d : Device) (u : List Bool) (r : List Letter) : Type 0 where
+  pub seam : ℕ → State
+  pub goes : (i : ℕ) → Goes d (seam i) u r (seam (suc i))
+
+-- `true` for a round that is repeated (rule 85).
+abbrev pub LegalRow : Bool → Device → List Bool → List Letter → Type 0
+LegalRow false d u r = Once d u r
+LegalRow true d u r = Forever d u r
 
 -- What a tick costs, by its letter. A row costs what its ticks do (rule 36).
 abbrev pub power : Device → Letter → ℕ
@@ -109,10 +116,10 @@ abbrev pub moved : List Letter → ℕ
 moved r = total moving r
 
 -- The row given (rule 37): no legal row of the pattern has less energy, and of those that have as little none moves in fewer ticks.
-pub record LeastRow (d : Device) (u : List Bool) (r : List Letter) : Type 0 where
-  pub legal : LegalRow d u r
-  pub least : (r′ : List Letter) → LegalRow d u r′ → energy d r ≤ energy d r′
-  pub shallowest : (r′ : List Letter) → LegalRow d u r′ → energy d r′ ≤ energy d r → moved r ≤ moved r′
+pub record LeastRow (round : Bool) (d : Device) (u : List Bool) (r : List Letter) : Type 0 where
+  pub legal : LegalRow round d u r
+  pub least : (r′ : List Letter) → LegalRow round d u r′ → energy d r ≤ energy d r′
+  pub shallowest : (r′ : List Letter) → LegalRow round d u r′ → energy d r′ ≤ energy d r → moved r ≤ moved r′
 
 -- ---- the rule for gaps (rule 38)
 
@@ -155,13 +162,23 @@ module _ {L : Type 0} (work : L) (fill : ℕ → List L) where
   rowFrom g (true ∷ u) = fill g ++ work ∷ rowFrom 0 u
   rowFrom g (false ∷ u) = rowFrom (suc g) u
 
+  -- In a round the gap after the last use goes on, over the seam, to the first (rule 87): the row of what follows the first used tick, with the g ticks before it
+  -- put at the end, and turned back. Where no tick is used, every letter is `idle` (rule 88).
+  abbrev pub roundFrom : L → ℕ → List Bool → List L
+  roundFrom idle g [] = replicate g idle
+  roundFrom idle g (true ∷ u) =
+      let q = rowFrom 0 (u ++ replicate g false) in
+      drop (length u) q ++ work ∷ take (length u) q
+  roundFrom idle g (false ∷ u) = roundFrom idle (suc g) u
+
 -- The row by the rule for gaps. proofs/Least: it is the row given, and the only one.
-abbrev pub rowOf : Device → List Bool → List Letter
-rowOf d u = rowFrom W (gapRow d) 0 u
+abbrev pub rowOf : Bool → Device → List Bool → List Letter
+rowOf false d u = rowFrom W (gapRow d) 0 u
+rowOf true d u = roundFrom W (gapRow d) (at (d .levels)) 0 u
 
 -- The least energy of a pattern of use.
-abbrev pub energyOf : Device → List Bool → ℕ
-energyOf d u = energy d (rowOf d u)
+abbrev pub energyOf : Bool → Device → List Bool → ℕ
+energyOf round d u = energy d (rowOf round d u)
 
 -- The pattern of n ticks from tick a on, by a test on ticks.
 abbrev pub pattern : (ℕ → Bool) → ℕ → ℕ → List Bool

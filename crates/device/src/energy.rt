@@ -1,9 +1,10 @@
 // The energy of a device's least row, from its gaps and its uses.
 ghost use mathlib.Core.Path.{_≡_};
-ghost use Prim.Native.Nat.{_+_, _*_, _≤_, _<_};
-ghost use Rattle.device.specs.Row.{Sound, gapCost, energyOf, pattern};
+ghost use mathlib.Core.Bool.{false};
+ghost use Prim.Native.Nat.{_+_, _-_, _*_, _≤_, _<_};
+ghost use Rattle.device.specs.Row.{Sound, deep, gapCost, energyOf, pattern};
 ghost use Rattle.device.specs.Trips.{Chosen};
-ghost use Rattle.device.specs.Uses.{usedIn, Spaced};
+ghost use Rattle.device.specs.Uses.{begin, usedIn, afterFrom, front, idle, Spaced};
 use crate::Device;
 use crate::Uses;
 
@@ -60,13 +61,36 @@ pub fn gap_energy(d: Device, g: u16) -> u32
     trip.cost
 }
 
-// The least energy of a device over h ticks with these uses.
-pub fn energy_of(d: Device, h: u16, u: Uses) -> u32
-    requires { ⌜ Sound d × Spaced u h ⌝ }
-    ensures { λ r. ⌜ (r ≡ energyOf d (pattern (usedIn u) 0 h)) × (r ≤ 65535 * h) ⌝ }
+// The power of a device in its deepest sleep.
+fn deep_power(d: Device) -> u16
+    requires { ⌜ Sound d ⌝ }
+    ensures { λ r. ⌜ r ≡ deep d ⌝ }
+{
+    let last = d.levels as usize - 1;
+    d.powers[last]
+}
+
+// Whether the device is never used in a round (rule 88).
+pub fn is_idle(round: bool, u: Uses) -> bool
+    ensures { λ r. ⌜ r ≡ idle round u ⌝ }
+{
+    if round { u.count == 0 } else { false }
+}
+
+// The ticks before the first use that lie in the gap after the last: in a round all of them (rule 87), in a list none.
+pub fn front_of(round: bool, u: Uses) -> u16
+    ensures { λ r. ⌜ r ≡ front round u ⌝ }
+{
+    if round { u.begins[0] } else { 0 }
+}
+
+// The energy from the tick `front` on, up to which there is no use: the uses, the gaps between them, and one gap for what lies after them and before `front`.
+fn energy_from(d: Device, h: u16, u: Uses, front: u16) -> u32
+    requires { ⌜ Sound d × (Spaced u h × ((front ≤ begin u 0) × (afterFrom front u (u .count) ≤ h))) ⌝ }
+    ensures { λ r. ⌜ (r ≡ energyOf false d (pattern (usedIn u) front (afterFrom front u (u .count) - front)) + gapCost d ((h - afterFrom front u (u .count)) + front)) × (r ≤ 65535 * h) ⌝ }
 {
     let mut sum: u32 = 0;
-    let mut at: u16 = 0;
+    let mut at = front;
     let mut i = 0;
     while i < u.count {
         let begin = u.begins[i];
@@ -76,5 +100,17 @@ pub fn energy_of(d: Device, h: u16, u: Uses) -> u32
         at = end;
         i += 1;
     }
-    sum + gap_energy(d, h - at)
+    sum + gap_energy(d, (h - at) + front)
+}
+
+// The least energy of a device over h ticks with these uses.
+pub fn energy_of(round: bool, d: Device, h: u16, u: Uses) -> u32
+    requires { ⌜ Sound d × Spaced u h ⌝ }
+    ensures { λ r. ⌜ (r ≡ energyOf round d (pattern (usedIn u) 0 h)) × (r ≤ 65535 * h) ⌝ }
+{
+    if is_idle(round, u) {
+        return deep_power(d) as u32 * h as u32;
+    }
+    let front = front_of(round, u);
+    energy_from(d, h, u, front)
 }

@@ -37,14 +37,14 @@ plan-energy-most R valid fits s =
     omega (
       arith,
       valid .few-devices,
-      devices-most (R .devices .count) (valid .few-devices) (λ k. energyOf (device R k) (usesOf R s k)) (λ k l. one k l),
+      devices-most (R .devices .count) (valid .few-devices) (λ k. energyOf (R .round) (device R k) (usesOf R s k)) (λ k l. one k l),
     )
   where
-    one : (k : ℕ) → k < R .devices .count → energyOf (device R k) (usesOf R s k) ≤ 268431360
+    one : (k : ℕ) → k < R .devices .count → energyOf (R .round) (device R k) (usesOf R s k) ≤ 268431360
     one k l =
         omega (
           arith,
-          energy-most (device R k) (usesOf R s k),
+          energy-most (device R k) (valid .sound k l) (R .round) (usesOf R s k),
           mul-le-mul (fits k l) (valid .few-ticks),
           ap (λ (n : ℕ). device R k .pw * n) (length-pattern (used R k (places R s)) 0 (R .horizon)),
         )

@@ -1,5 +1,5 @@
--- The gap form of a device's energy: what the gaps and the uses along a sequence of places cost. It is the least energy of the device's legal rows.
--- Code carries two numbers for each device: what the places so far cost (paidFrom), and the end of the last use (lastEnd).
+-- The gap form of a device's energy: what the gaps and the uses along a sequence of places cost. In a list it is the least energy of the device's legal rows; for
+-- either rule: Rounds.
 -- Assumes nothing.
 use mathlib.Core.Path.{_≡_, refl, sym, ap, _∙_, subst}
 use mathlib.Core.Bool.{Bool, true, false, cond, _&&_, _||_, and-false, or-assoc, or-comm}
@@ -11,21 +11,18 @@ use lib.Dec.{leb, ltb, eqb}
 use lib.ListN.{length, replicate}
 use borrow.Author.Tests.{eqb-true, eqb-false, le-leb, lt-leb, lt-ltb, le-ltb}
 use Rattle.base.specs.Lists.{In, upFrom, remove}
-use Rattle.base.specs.Sums.{sum}
-use Rattle.base.proofs.Additions.{sum-same}
 use Rattle.base.proofs.Cases.{cond-cases, test-cases}
 use Rattle.base.proofs.Numbers.{length-nil, length-remove, length-up}
 use Rattle.base.proofs.Ranges.{upTo-map}
 use Rattle.device.specs.declared.Device.{Device}
-use Rattle.device.specs.Row.{gapCost, energyOf, pattern}
+use Rattle.device.specs.Row.{energyOf, gapCost, pattern}
 use Rattle.device.proofs.Pattern.{Ended, fresh, placed, pattern-place, pattern-close, pattern-alike, ended-place}
 use Rattle.device.proofs.Least.{energy-none, energy-place, energy-close}
 use Rattle.schedule.specs.declared.Recorder.{Recorder}
-use Rattle.schedule.specs.Quantities.{device, jobs, run, uses, Valid}
-use Rattle.schedule.specs.Listing.{start, Feasible, Place, place, used, places, usesOf, soonest, ordered, running}
-use Rattle.schedule.specs.Visiting.{Vertex, startsOf, planEnergy, lastEnd}
-use Rattle.schedule.proofs.Runs.{InTurn, soonest-in, full-in-turn, run-running, run-feasible, feasible-run}
-use Rattle.schedule.proofs.Tree.{Reached, full-run}
+use Rattle.schedule.specs.Quantities.{device, jobs, run, uses}
+use Rattle.schedule.specs.Listing.{start, Place, place, used, places, usesOf, soonest, ordered, running}
+use Rattle.schedule.specs.Visiting.{lastEnd}
+use Rattle.schedule.proofs.Runs.{InTurn, soonest-in}
 
 -- What the places cost on device k, where its last use before them ended at tick e: the gap before each use, and the use.
 unfoldable pub paidFrom : Recorder → ℕ → ℕ → List Place → ℕ
@@ -35,29 +32,25 @@ paidFrom R k e (p ∷ r) =
     (gapCost (device R k) (p .start - e) + device R k .pw * run R (p .job) + paidFrom R k (p .start + run R (p .job)) r)
     (paidFrom R k e r)
 
--- What a whole plan costs on device k, the gap after the last use too.
-abbrev pub paidWhole : Recorder → ℕ → List Place → ℕ
-paidWhole R k r = paidFrom R k 0 r + gapCost (device R k) (R .horizon - lastEnd R k 0 r)
-
 -- ---- one use more
 
 -- One use of c ticks from tick x on, where the uses before it end at tick e.
 one-use :
     (d : Device) (f : ℕ → Bool) (e x c : ℕ) → e ≤ x → 1 ≤ c → Ended (pattern f 0 e) → ((t : ℕ) → e ≤ t → t < x → f t ≡ false)
     → ((t : ℕ) → x ≤ t → t < x + c → f t ≡ true)
-    → Ended (pattern f 0 (x + c)) × (energyOf d (pattern f 0 (x + c)) ≡ energyOf d (pattern f 0 e) + (gapCost d (x - e) + d .pw * c))
+    → Ended (pattern f 0 (x + c)) × (energyOf false d (pattern f 0 (x + c)) ≡ energyOf false d (pattern f 0 e) + (gapCost d (x - e) + d .pw * c))
 one-use d f e x zero l some u free busy = absurd (omega arith)
 one-use d f e x (suc c) l some u free busy =
     let whole : e + (x - e + suc c) ≡ x + suc c = omega arith in
     let parts : pattern f 0 (x + suc c) ≡ pattern f 0 e ++ placed (x - e) c =
-    ap (pattern f 0) (sym whole) ∙ pattern-place f e (x - e) c (λ t m n. free t m (omega arith)) (λ t m n. busy t (omega arith) (omega arith)) in (
+    ap (pattern f 0) (sym whole) ∙ pattern-place f 0 e (x - e) c (λ t m n. free t (omega arith) (omega arith)) (λ t m n. busy t (omega arith) (omega arith)) in (
       subst Ended (sym parts) (ended-place (pattern f 0 e) (x - e) c),
-      ap (energyOf d) parts ∙ energy-place d u (x - e) c,
+      ap (energyOf false d) parts ∙ energy-place d u (x - e) c,
     )
 
 module _ (R : Recorder) (k : ℕ) where
   -- A tick of the first place, one after it, and one where the job does not use the device.
-  used-here : (p : Place) (r : List Place) (t : ℕ) → uses R k (p .job) ≡ true → p .start ≤ t → t < p .start + run R (p .job) → used R k (p ∷ r) t ≡ true
+  pub used-here : (p : Place) (r : List Place) (t : ℕ) → uses R k (p .job) ≡ true → p .start ≤ t → t < p .start + run R (p .job) → used R k (p ∷ r) t ≡ true
   unfolding used
   used-here p r t q l m = rw (q, le-leb (p .start) t l, lt-ltb t (p .start + run R (p .job)) m)
 
@@ -65,12 +58,12 @@ module _ (R : Recorder) (k : ℕ) where
   unfolding used
   used-after p r t l = rw (le-ltb t (p .start + run R (p .job)) l, and-false, and-false)
 
-  used-beside : (p : Place) (r : List Place) (t : ℕ) → uses R k (p .job) ≡ false → used R k (p ∷ r) t ≡ used R k r t
+  pub used-beside : (p : Place) (r : List Place) (t : ℕ) → uses R k (p .job) ≡ false → used R k (p ∷ r) t ≡ used R k r t
   unfolding used
   used-beside p r t q = rw q
 
   -- Before the places begin no tick is used.
-  used-before : (r : List Place) (t h x : ℕ) → InTurn R t h r → x < t → used R k r x ≡ false
+  pub used-before : (r : List Place) (t h x : ℕ) → InTurn R t h r → x < t → used R k r x ≡ false
   unfolding used
   used-before [] t h x w l = refl
   used-before (p ∷ r) t h x w l =
@@ -90,7 +83,7 @@ module _ (R : Recorder) (k : ℕ) where
   -- f says which ticks are used. From e to e′ they cost `paid`, and from e′ on none is used.
   abbrev Settles : (ℕ → Bool) → ℕ → ℕ → ℕ → Type 0
   Settles f e e′ paid =
-      Ended (pattern f 0 e′) × (energyOf (device R k) (pattern f 0 e′) ≡ energyOf (device R k) (pattern f 0 e) + paid)
+      Ended (pattern f 0 e′) × (energyOf false (device R k) (pattern f 0 e′) ≡ energyOf false (device R k) (pattern f 0 e) + paid)
       × ((x : ℕ) → e′ ≤ x → f x ≡ false)
 
   paid-settles :
@@ -112,22 +105,22 @@ module _ (R : Recorder) (k : ℕ) where
       (rest .0, omega (arith, first .1, rest .1), rest .2))
       (λ q. paid-settles r f e (x + c) h (w .2) (omega (arith, w .0)) u (λ y m. same y m ∙ used-beside p r y q))
 
-  settled : (r : List Place) (h : ℕ) → InTurn R 0 h r → Settles (used R k r) 0 (lastEnd R k 0 r) (paidFrom R k 0 r)
+  pub settled : (r : List Place) (h : ℕ) → InTurn R 0 h r → Settles (used R k r) 0 (lastEnd R k 0 r) (paidFrom R k 0 r)
   settled r h w = paid-settles r (used R k r) 0 0 h w (omega arith) fresh (λ x l. refl)
 
   -- The ticks before the end of the last use, and all ticks up to the end h.
-  pub paid-is : (r : List Place) (h : ℕ) → InTurn R 0 h r → energyOf (device R k) (pattern (used R k r) 0 (lastEnd R k 0 r)) ≡ paidFrom R k 0 r
+  pub paid-is : (r : List Place) (h : ℕ) → InTurn R 0 h r → energyOf false (device R k) (pattern (used R k r) 0 (lastEnd R k 0 r)) ≡ paidFrom R k 0 r
   paid-is r h w = omega (arith, settled r h w .1, energy-none (device R k))
 
   pub close-is :
       (r : List Place) (h : ℕ) → InTurn R 0 h r
-      → energyOf (device R k) (pattern (used R k r) 0 h) ≡ paidFrom R k 0 r + gapCost (device R k) (h - lastEnd R k 0 r)
+      → energyOf false (device R k) (pattern (used R k r) 0 h) ≡ paidFrom R k 0 r + gapCost (device R k) (h - lastEnd R k 0 r)
   close-is r h w =
       let e = lastEnd R k 0 r in
       let whole : e + (h - e) ≡ h = omega (arith, last-by r 0 0 h w (omega arith)) in
       let parts : pattern (used R k r) 0 h ≡ pattern (used R k r) 0 e ++ replicate (h - e) false =
-      ap (pattern (used R k r) 0) (sym whole) ∙ pattern-close (used R k r) e (h - e) (λ t l m. settled r h w .2 t l) in
-      ap (energyOf (device R k)) parts ∙ energy-close (device R k) (settled r h w .0) (h - e)
+      ap (pattern (used R k r) 0) (sym whole) ∙ pattern-close (used R k r) 0 e (h - e) (λ t l m. settled r h w .2 t (omega arith)) in
+      ap (energyOf false (device R k)) parts ∙ energy-close (device R k) (settled r h w .0) (h - e)
       ∙ ap (λ (n : ℕ). n + gapCost (device R k) (h - e)) (paid-is r h w)
 
   -- ---- one place after the other
@@ -157,16 +150,16 @@ module _ (R : Recorder) (k : ℕ) where
   last-snoc r p = last-append r (p ∷ []) 0
 
   pub paid-snoc :
-      (r : List Place) (p : Place)
-      → paidFrom R k 0 (r ++ p ∷ [])
+      (r : List Place) (p : Place) (e : ℕ)
+      → paidFrom R k e (r ++ p ∷ [])
       ≡ cond (uses R k (p .job))
-      (paidFrom R k 0 r + (gapCost (device R k) (p .start - lastEnd R k 0 r) + device R k .pw * run R (p .job)))
-      (paidFrom R k 0 r)
+      (paidFrom R k e r + (gapCost (device R k) (p .start - lastEnd R k e r) + device R k .pw * run R (p .job)))
+      (paidFrom R k e r)
   unfolding paidFrom
-  paid-snoc r p =
-      let one = gapCost (device R k) (p .start - lastEnd R k 0 r) + device R k .pw * run R (p .job) in
-      paid-append r (p ∷ []) 0
-      ∙ test-cases (λ b. paidFrom R k 0 r + cond b (one + 0) 0 ≡ cond b (paidFrom R k 0 r + one) (paidFrom R k 0 r)) (uses R k (p .job))
+  paid-snoc r p e =
+      let one = gapCost (device R k) (p .start - lastEnd R k e r) + device R k .pw * run R (p .job) in
+      paid-append r (p ∷ []) e
+      ∙ test-cases (λ b. paidFrom R k e r + cond b (one + 0) 0 ≡ cond b (paidFrom R k e r + one) (paidFrom R k e r)) (uses R k (p .job))
       (λ q. omega arith) (λ q. omega arith)
 
   -- ---- the running order uses the same ticks as the jobs in order of number
@@ -205,20 +198,3 @@ module _ (R : Recorder) (k : ℕ) where
 
   pub uses-running : (s : List ℕ) → usesOf R s k ≡ pattern (used R k (running R s)) 0 (R .horizon)
   uses-running s = pattern-alike (used R k (places R s)) (used R k (running R s)) 0 (R .horizon) (λ t l m. used-running s t)
-
--- ---- the plan
-
-module _ (R : Recorder) (valid : Valid R) where
-  -- The energy of a feasible schedule, by its running order;
-  pub plan-is : (s : List ℕ) → Feasible R s → planEnergy R s ≡ sum (R .devices .count) (λ k. paidWhole R k (running R s))
-  unfolding planEnergy
-  plan-is s f =
-      sum-same (R .devices .count) (λ k. energyOf (device R k) (usesOf R s k)) (λ k. paidWhole R k (running R s))
-      (λ k l. ap (energyOf (device R k)) (uses-running R k s) ∙ close-is R k (running R s) (R .horizon) (full-in-turn R valid (running R s) (feasible-run R valid s f)))
-
-  -- and of the schedule at a complete vertex, by what is placed.
-  pub plan-complete : (v : Vertex) → Reached R 0 v → planEnergy R (startsOf R v) ≡ sum (R .devices .count) (λ k. paidWhole R k (v .placed))
-  plan-complete v h =
-      let full = full-run R valid v h in
-      plan-is (startsOf R v) (run-feasible R (v .placed) full)
-      ∙ ap (λ (r : List Place). sum (R .devices .count) (λ k. paidWhole R k r)) (run-running R valid (v .placed) full)

@@ -24,7 +24,7 @@ laid-more rows k = rw (add-one k)
 module _ (R : Recorder) (s : List ℕ) where
   -- A row has one letter for each tick.
   row-bytes : (k : ℕ) → length (map byteOf (planRow R s k)) ≡ R .horizon
-  row-bytes k = length-map (planRow R s k) byteOf ∙ length-row (device R k) (usesOf R s k) ∙ length-pattern (used R k (places R s)) 0 (R .horizon)
+  row-bytes k = length-map (planRow R s k) byteOf ∙ length-row (device R k) (R .round) (usesOf R s k) ∙ length-pattern (used R k (places R s)) 0 (R .horizon)
 
   pub laid-none : (l : List ℕ) → Filled l (0 * R .horizon) (laid (planRow R s) 0) l
   unfolding laid

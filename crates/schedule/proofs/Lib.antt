@@ -2,6 +2,8 @@ pub mod Choice
 pub mod Runs
 pub mod Tree
 pub mod Gaps
+pub mod Rounds
+pub mod AsBefore
 pub mod Floors
 pub mod Bounds
 pub mod Outcome

@@ -87,9 +87,9 @@ places R s = upTo (λ j. place j (start s j)) (jobs R)
 abbrev pub usesOf : Recorder → List ℕ → ℕ → List Bool
 usesOf R s k = pattern (used R k (places R s)) 0 (R .horizon)
 
--- The plan's rows, a least row for each device (rule 37); and e is the energy of all.
+-- The plan's rows, a least row for each device (rule 37), by the rule of the request's kind (rule 85); and e is the energy of all.
 pub record Rows (R : Recorder) (s : List ℕ) (rows : ℕ → List Letter) : Type 0 where
-  pub least : (k : ℕ) → k < R .devices .count → LeastRow (device R k) (usesOf R s k) (rows k)
+  pub least : (k : ℕ) → k < R .devices .count → LeastRow (R .round) (device R k) (usesOf R s k) (rows k)
 
 pub record Costs (R : Recorder) (s : List ℕ) (e : ℕ) : Type 0 where
   pub rows : ℕ → List Letter

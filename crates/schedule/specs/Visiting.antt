@@ -71,10 +71,10 @@ module _ (R : Recorder) where
 
   -- The row of device k in the schedule s, and the energy of all rows.
   abbrev pub planRow : List ℕ → ℕ → List Letter
-  planRow s k = rowOf (device R k) (usesOf R s k)
+  planRow s k = rowOf (R .round) (device R k) (usesOf R s k)
 
   unfoldable pub planEnergy : List ℕ → ℕ
-  planEnergy s = sum (R .devices .count) (λ k. energyOf (device R k) (usesOf R s k))
+  planEnergy s = sum (R .devices .count) (λ k. energyOf (R .round) (device R k) (usesOf R s k))
 
   -- A complete schedule becomes the best where it is the first, or costs less (rule 44).
   unfoldable pub better : Option (List ℕ) → List ℕ → Option (List ℕ)
@@ -86,17 +86,29 @@ module _ (R : Recorder) where
   lastEnd k e [] = e
   lastEnd k e (p ∷ ps) = lastEnd k (cond (uses R k (p .job)) (p .start + run R (p .job)) e) ps
 
+  -- The start of its first placed use; 0 where there is none.
+  unfoldable pub firstStart : ℕ → List Place → ℕ
+  firstStart k [] = 0
+  firstStart k (p ∷ ps) = cond (uses R k (p .job)) (p .start) (firstStart k ps)
+
+  -- The tick from which device k has been paid: in a round what lies before its first use is no gap of its own (rule 89), in a list it is one, from tick 0 on.
+  unfoldable pub since : ℕ → List Place → ℕ
+  since k ps = cond (R .round) (firstStart k ps) 0
+
   -- The ticks for which job j uses device k.
   abbrev pub ticks : ℕ → ℕ → ℕ
   ticks k j = cond (uses R k j) (run R j) 0
 
-  -- The floor of one device (rule 46): the least energy up to the end of its last placed use; after that the working power for each tick that the unplaced jobs
-  -- will use it, and for every other tick up to H the power of its deepest sleep (Ps).
+  -- The floor of one device (rules 46 and 89): up to the start of its first placed use, in a round, the power of its deepest sleep (Ps) for each tick; from there the
+  -- least energy up to the end of its last placed use; after that the working power for each tick that the unplaced jobs will use it, and for every other tick up to
+  -- H the power of its deepest sleep.
   unfoldable pub deviceFloor : ℕ → Vertex → ℕ
   deviceFloor k v =
+      let a = since k (v .placed) in
       let e = lastEnd k 0 (v .placed) in
       let ahead = total (ticks k) (v .unplaced) in
-      energyOf (device R k) (pattern (used R k (v .placed)) 0 e) + (device R k .pw * ahead + deep (device R k) * (R .horizon - e - ahead))
+      deep (device R k) * a + energyOf false (device R k) (pattern (used R k (v .placed)) a (e - a))
+      + (device R k .pw * ahead + deep (device R k) * (R .horizon - e - ahead))
 
   unfoldable pub floor : Vertex → ℕ
   floor v = sum (R .devices .count) (λ k. deviceFloor k v)

@@ -32,9 +32,10 @@ pub struct Devices {
     pub list: [Device; 8],
 }
 
-// What a request asks to be planned: one round of the clock for these devices and jobs.
+// What a request asks to be planned: one round of the clock for these devices and jobs. `round` says that it is repeated for ever (rule 85).
 pub struct Recorder {
     pub horizon: u16,
+    pub round: bool,
     pub devices: Devices,
     pub jobs: Jobs,
 }

@@ -21,7 +21,7 @@ pub fn plan_energy(r: Recorder, starts: &[u16]) -> u32
     let mut k = 0;
     while k < devices.count {
         let uses = uses_of(r, starts, k);
-        sum += energy_of(devices.list[k], r.horizon, uses);
+        sum += energy_of(r.round, devices.list[k], r.horizon, uses);
         k += 1;
     }
     sum
@@ -38,7 +38,7 @@ pub fn write_rows(r: Recorder, starts: &[u16], out: &mut [u8])
     while k < devices.count {
         let uses = uses_of(r, starts, k);
         let at = k * h;
-        write_row(devices.list[k], r.horizon, uses, &mut out[at..]);
+        write_row(r.round, devices.list[k], r.horizon, uses, &mut out[at..]);
         k += 1;
     }
 }

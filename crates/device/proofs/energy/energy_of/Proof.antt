@@ -1,159 +1,79 @@
--- `device::energy_of` meets its contract. The loop's invariant: the sum is the least energy of the ticks before the end of the last use passed.
+-- `device::energy_of` meets its contract: a round without a use sleeps throughout, and every other row is paid from its front on.
 -- Assumes nothing.
-use mathlib.Core.Path.{_≡_, refl, ap, sym, _∙_}
-use Prim.Native.Nat.{ℕ, _+_, _-_, _*_, _≤_, _<_}
+use mathlib.Core.Path.{_≡_, sym, ap, _∙_}
+use mathlib.Core.Bool.{Bool, true, false}
+use Prim.Native.Nat.{ℕ, _+_, _-_, _*_, _≤_}
 use native.Mathlib.Nat.{mul-le-mul-right}
 use native.Mathlib.Omega.{arith}
 use borrow.Author.Needs.{needs}
-use Rattle.device.specs.Row.{energyOf, pattern}
-use Rattle.device.specs.Uses.{begin, end, usedIn, after}
-use Rattle.device.proofs.Pattern.{length-pattern}
-use Rattle.device.proofs.Least.{energy-none, energy-most}
-use Rattle.device.proofs.Spacing.{use-fits, after-next, energy-use, energy-last}
+use Rattle.device.specs.Row.{deep, gapCost, energyOf, pattern}
+use Rattle.device.specs.Uses.{usedIn, after, afterFrom, front, idle}
+use Rattle.device.proofs.Chosen.{deep-low}
+use Rattle.device.proofs.Spacing.{front-by, last-front, energy-whole, energy-idle}
 use Rattle.device.proofs.energy.energy_of.Statement.{statement}
 use Rattle.device.proofs.energy.energy_of.Tie as tie
 
-abbrev Inv-loop : tie.InvT-loop
-Inv-loop d h u sum₀ at₀ i₀ sum at i = (i ≤ u .count) × (at ≡ after u i) × (sum ≡ energyOf d (pattern (usedIn u) 0 at))
+is-idle-requires : tie.Need-is-idle-requires
+is-idle-requires c κs = search needs
 
-abbrev μ-loop : tie.MeasureT-loop
-μ-loop d h u sum₀ at₀ i₀ sum at i = u .count - i
+deep-power-requires : tie.Need-deep-power-requires
+deep-power-requires c κs = search needs
 
-loop-holds : tie.Need-loop-holds Inv-loop μ-loop
-loop-holds c = (omega arith, refl, sym (energy-none (c .args .d)))
+cast-result : tie.Need-cast-result
+cast-result c = search needs
 
--- No tick costs more than 65,535; so no least energy within the horizon is past 65,535 × 65,535.
-most : (c : tie.Start Inv-loop μ-loop) (e : ℕ) → energyOf (c .args .d) (pattern (usedIn (c .args .t3)) 0 e) ≤ 65535 * e
-most c e =
-    let power : c .args .d .pw ≤ 65535 = omega (arith, c .good .0) in
-    let most = rw (length-pattern (usedIn (c .args .t3)) 0 e) at (energy-most (c .args .d) (pattern (usedIn (c .args .t3)) 0 e)) in
-    omega (arith, mul-le-mul-right e power)
-
-small : (c : tie.Start Inv-loop μ-loop) (e : ℕ) → e ≤ c .args .h → energyOf (c .args .d) (pattern (usedIn (c .args .t3)) 0 e) ≤ 65535 * 65535
-small c e l = omega (arith, most c e)
-
--- What is known of the use at hand.
-fits : (c : tie.In-loop Inv-loop μ-loop)
-    → (c .before .loop .at ≤ begin (c .before .before .args .t3) (c .before .loop .i))
-    × (begin (c .before .before .args .t3) (c .before .loop .i) < end (c .before .before .args .t3) (c .before .loop .i))
-    × (end (c .before .before .args .t3) (c .before .loop .i) ≤ c .before .before .args .h)
-fits c =
-    let s = c .before .before in
-    let f = use-fits (s .args .t3) (s .args .h) (s .pre .1) (c .before .loop .i) (c .loop-test .taken) in
-    (omega (arith, c .before .loop .inv .1), f .1, f .2)
-
--- What a turn adds.
-turn : (c : tie.After-gap-energy Inv-loop μ-loop) → let l = c .before .before .before in
-    let s = l .before .before in
-    (l .before .loop .sum + c .gap-energy .result + s .args .d .pw * (end (s .args .t3) (l .before .loop .i) - begin (s .args .t3) (l .before .loop .i))
-    ≡ energyOf (s .args .d) (pattern (usedIn (s .args .t3)) 0 (end (s .args .t3) (l .before .loop .i))))
-    × (energyOf (s .args .d) (pattern (usedIn (s .args .t3)) 0 (end (s .args .t3) (l .before .loop .i))) ≤ 65535 * 65535)
-turn c =
-    let l = c .before .before .before in
-    let s = l .before .before in
-    let e = energy-use (s .args .t3) (s .args .h) (s .pre .1) (s .args .d) (l .before .loop .i) (l .before .loop .at) (l .loop-test .taken) (l .before .loop .inv .1) in
-    (omega (arith, e, l .before .loop .inv .2, c .gap-energy .ensures .0), small s (end (s .args .t3) (l .before .loop .i)) (fits l .2))
-
-mul-begin : tie.Need-mul-begin Inv-loop μ-loop
-mul-begin c = search needs
-
-element-copy-out-begin : tie.Need-element-copy-out-begin Inv-loop μ-loop
-element-copy-out-begin c = search needs
-
-mul-end : tie.Need-mul-end Inv-loop μ-loop
-mul-end c = search needs
-
-element-copy-out-end : tie.Need-element-copy-out-end Inv-loop μ-loop
-element-copy-out-end c = search needs
-
-sub-gap-energy : tie.Need-sub-gap-energy Inv-loop μ-loop
-sub-gap-energy c = omega (arith, fits (c .before .before))
-
-gap-energy-requires : tie.Need-gap-energy-requires Inv-loop μ-loop
-gap-energy-requires c κs = c .before .before .before .before .pre .0
-
-add-sum : tie.Need-add-sum Inv-loop μ-loop
-add-sum c = omega (arith, turn c)
-
-cast-sum : tie.Need-cast-sum Inv-loop μ-loop
-cast-sum c = search needs
-
-sub-sum : tie.Need-sub-sum Inv-loop μ-loop
-sub-sum c = omega (arith, fits (c .before .before .before .before))
-
-cast-sum-2 : tie.Need-cast-sum-2 Inv-loop μ-loop
-cast-sum-2 c = omega (arith, fits (c .before .before .before .before))
-
-mul-sum : tie.Need-mul-sum Inv-loop μ-loop
-mul-sum c = omega (arith, turn (c .before))
-
-add-sum-2 : tie.Need-add-sum-2 Inv-loop μ-loop
-add-sum-2 c = omega (arith, turn (c .before))
-
-add-i : tie.Need-add-i Inv-loop μ-loop
-add-i c = search needs
-
-loop-less : tie.Need-loop-less Inv-loop μ-loop
-loop-less c = search needs
-
-loop-again : tie.Need-loop-again Inv-loop μ-loop
-loop-again c =
-    let l = c .before .before .before .before in
-    (omega arith, after-next (l .before .before .args .t3) (l .before .loop .i), turn (c .before) .0)
-
--- All uses are passed.
-over : (c : tie.After-loop Inv-loop μ-loop) → c .before .loop .at ≡ after (c .before .before .args .t3) (c .before .before .args .t3 .count)
-over c =
-    let last : c .before .loop .i ≡ c .before .before .args .t3 .count = omega arith in
-    c .before .loop .inv .1 ∙ ap (after (c .before .before .args .t3)) last
-
-sub-gap-energy-2 : tie.Need-sub-gap-energy-2 Inv-loop μ-loop
-sub-gap-energy-2 c = omega (arith, over c, c .before .before .pre .1 .within)
-
-gap-energy-requires-2 : tie.Need-gap-energy-requires-2 Inv-loop μ-loop
-gap-energy-requires-2 c κs = c .before .before .pre .0
-
--- What the last gap adds.
-last : (c : tie.After-gap-energy2 Inv-loop μ-loop) → let s = c .before .before .before in
-    c .before .before .loop .sum + c .gap-energy2 .result ≡ energyOf (s .args .d) (pattern (usedIn (s .args .t3)) 0 (s .args .h))
-last c =
+-- No tick of sleep costs more than 65,535.
+asleep : (c : tie.After-deep-power) → let a = c .before .before .before .args in (c .deep-power .result ≡ deep (a .d)) × (c .deep-power .result * a .h ≤ 65535 * a .h)
+asleep c =
     let s = c .before .before .before in
-    omega (
-      arith,
-      energy-last (s .args .t3) (s .args .h) (s .pre .1) (s .args .d) (c .before .before .loop .at) (over (c .before)),
-      c .before .before .loop .inv .2,
-      c .gap-energy2 .ensures .0,
-    )
+    let e : c .deep-power .result ≡ deep (s .args .d) = c .deep-power .ensures in
+    let low : c .deep-power .result ≤ 65535 = omega (arith, e, deep-low (s .args .d) (s .pre .0) 0 (omega arith), s .good .1) in
+    (e, mul-le-mul-right (s .args .h) low)
 
-add-result : tie.Need-add-result Inv-loop μ-loop
-add-result c = omega (arith, last c, small (c .before .before .before) (c .before .before .before .args .h) (omega arith))
+mul-result : tie.Need-mul-result
+mul-result c = omega (arith, asleep c)
 
-returns : tie.Need-returns Inv-loop μ-loop
-returns c = (last c, omega (arith, last c, most (c .before .before .before) (c .before .before .before .args .h)))
+returns : tie.Need-returns
+returns c =
+    let s = c .before .before .before in
+    let a = s .args in
+    let e : idle (a .round) (a .u) ≡ true = sym (c .before .before .is-idle .ensures) ∙ c .before .if1 .taken in
+    (ap (λ (p : ℕ). p * a .h) (asleep c .0) ∙ sym (energy-idle (a .u) (a .h) (s .pre .1) (a .d) (a .round) e), asleep c .1)
+
+front-of-requires : tie.Need-front-of-requires
+front-of-requires c κs = search needs
+
+-- There is a use, or it is no round.
+lasts : (c : tie.After-front-of) → let a = c .before .before .before .args in
+    (idle (a .round) (a .u) ≡ false) × (c .front-of .result ≡ front (a .round) (a .u)) × (afterFrom (c .front-of .result) (a .u) (a .u .count) ≡ after (a .u) (a .u .count))
+lasts c =
+    let s = c .before .before .before in
+    let a = s .args in
+    let e : idle (a .round) (a .u) ≡ false = sym (c .before .before .is-idle .ensures) ∙ c .before .if1 .left in
+    (e, c .front-of .ensures, rw (c .front-of .ensures) (last-front (a .u) (a .h) (s .pre .1) (a .round) e))
+
+energy-from-requires : tie.Need-energy-from-requires
+energy-from-requires c κs =
+    let s = c .before .before .before in
+    let a = s .args in
+    (s .pre .0, (s .pre .1, (rw (c .front-of .ensures) (front-by (a .u) (a .h) (s .pre .1) (a .round)), rw (lasts c .2) (s .pre .1 .within))))
+
+returns-2 : tie.Need-returns-2
+returns-2 c =
+    let s = c .before .before .before .before in
+    let a = s .args in
+    let l = lasts (c .before) in
+    (c .energy-from .ensures .0 ∙ rw (l .2, l .1) (sym (energy-whole (a .u) (a .h) (s .pre .1) (a .d) (a .round) (l .0))), c .energy-from .ensures .1)
 
 pub energy-of-spec : {M : Type 1} → statement M
 energy-of-spec =
     tie.close
     (tie.spec
-    Inv-loop
-    μ-loop
-    loop-holds
-    mul-begin
-    element-copy-out-begin
-    mul-end
-    element-copy-out-end
-    sub-gap-energy
-    gap-energy-requires
-    add-sum
-    cast-sum
-    sub-sum
-    cast-sum-2
-    mul-sum
-    add-sum-2
-    add-i
-    loop-less
-    loop-again
-    sub-gap-energy-2
-    gap-energy-requires-2
-    add-result
-    returns)
+    is-idle-requires
+    deep-power-requires
+    cast-result
+    mul-result
+    returns
+    front-of-requires
+    energy-from-requires
+    returns-2)

@@ -2,10 +2,10 @@
 -- Assumes nothing.
 use mathlib.Core.Path.{_≡_, sym, ap, _∙_, subst}
 use mathlib.Core.List.{List, _++_, map}
-use Prim.Native.Nat.{ℕ, _+_, _*_, _≤_}
+use Prim.Native.Nat.{ℕ, _+_, _-_, _*_, _≤_}
 use native.Mathlib.Omega.{arith}
 use borrow.Author.Needs.{needs}
-use lib.ListN.{drop}
+use lib.ListN.{take, drop}
 use Rattle.device.specs.Row.{byteOf, depth, trip, gapRow}
 use Rattle.device.specs.Row as Row
 use Rattle.device.specs.Trips.{tripBytes}
@@ -39,11 +39,20 @@ cast-up c = search needs
 mul-up : tie.Need-mul-up
 mul-up c = omega (arith, room (c .before .before))
 
+add-stay : tie.Need-add-stay
+add-stay c = omega (arith, room (c .before .before))
+
+sub-stay : tie.Need-sub-stay
+sub-stay c = omega (arith, room (c .before .before))
+
 letter-at-requires : tie.Need-letter-at-requires
 letter-at-requires c κs = search needs
 
 write-trip-requires : tie.Need-write-trip-requires
-write-trip-requires c κs = omega (arith, room (c .before .before .before .before))
+write-trip-requires c κs =
+    let s = c .before .before .before .before .before .before in
+    let h = room (c .before .before .before .before) in
+    (omega arith, (omega arith, omega arith))
 
 same-length : tie.Need-same-length
 same-length c = search needs
@@ -54,9 +63,11 @@ returns c =
     let t = w .before .before .before .before .before in
     let a = t .before .before .args in
     let m = t .gap-trip .result .level in
-    let row : tripBytes (a .d .shut * m) (a .d .wake * m) (a .g) (byteOf (Row.at m)) ≡ map byteOf (gapRow (a .d) (a .g))
+    let stay = a .g - (a .d .shut * m + a .d .wake * m) in
+    let row : tripBytes (a .d .shut * m) stay (a .d .wake * m) (byteOf (Row.at m)) ≡ map byteOf (gapRow (a .d) (a .g))
     = sym (bytes-trip (a .d) m (a .g)) ∙ ap (λ (k : ℕ). map byteOf (trip (a .d) k (a .g))) (t .gap-trip .ensures .level) in
-    (w .write-trip .ensures .0, w .write-trip .ensures .1 ∙ ap (λ (b : List ℕ). b ++ drop (a .g) (a .rest .now)) (ap (tripBytes (a .d .shut * m) (a .d .wake * m) (a .g)) (w .before .letter-at .ensures) ∙ row))
+    let all = ap (tripBytes (a .d .shut * m) stay (a .d .wake * m)) (w .before .letter-at .ensures) ∙ row in
+    (w .write-trip .ensures .0, w .write-trip .ensures .1 ∙ ap (λ (l : List ℕ). take (a .n) (drop (a .x) l) ++ drop (a .n) (a .rest .now)) all)
 
 pub write-gap-spec : {M : Type 1} → statement M
 write-gap-spec =
@@ -68,6 +79,8 @@ write-gap-spec =
     mul-down
     cast-up
     mul-up
+    add-stay
+    sub-stay
     letter-at-requires
     write-trip-requires
     same-length

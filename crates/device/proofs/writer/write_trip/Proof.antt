@@ -1,52 +1,82 @@
--- `device::write_trip` meets its contract: three runs are written one after the other, each at the front of what the one before it left.
+-- `device::write_trip` meets its contract: of three runs what lies in the part is written one after the other, each at the front of what the one before it left.
 -- Assumes nothing.
-use mathlib.Core.Path.{_≡_, _∙_}
-use Prim.Native.Nat.{_+_, _-_}
+use mathlib.Core.Path.{_≡_, ap, _∙_}
+use mathlib.Core.List.{List, _++_}
+use Prim.Native.Nat.{ℕ, _+_, _-_, _≤_}
 use native.Mathlib.Omega.{arith}
 use borrow.Author.Needs.{needs}
-use lib.ListN.{replicate, length-replicate}
-use Rattle.device.proofs.Bytes.{written-first, written-on}
+use lib.ListN.{replicate, length-replicate, drop}
+use Rattle.device.specs.Trips.{shared}
+use Rattle.device.proofs.Bytes.{written-first, written-on, taken-trip, shared-trip}
 use Rattle.device.proofs.writer.write_trip.Statement.{statement}
 use Rattle.device.proofs.writer.write_trip.Tie as tie
 
-write-run-requires : tie.Need-write-run-requires
-write-run-requires c κs = search needs
+grows : (x n c : ℕ) → x - c ≤ x + n - c
+grows x n c = omega arith
 
-sub-write-run : tie.Need-sub-write-run
-sub-write-run c = search needs
+-- How much of each run lies in the part, and of all three.
+second : (c : tie.After-beyond2) → let a = c .before .before .before .before .before .before .before .before .args in
+    shared (a .stay) (c .before .beyond .result) (c .beyond2 .result) ≡ shared (a .stay) (a .x - a .down) (a .x + a .n - a .down)
+second c = rw (c .before .beyond .ensures, c .beyond2 .ensures)
 
-part-write-run-start : tie.Need-part-write-run-start
-part-write-run-start c = search needs
+third : (c : tie.After-beyond4) → let a = c .before .before .before .before .before .before .before .before .before .before .before .before .before .before .args in
+    shared (a .up) (c .before .beyond3 .result) (c .beyond4 .result) ≡ shared (a .up) (a .x - (a .down + a .stay)) (a .x + a .n - (a .down + a .stay))
+third c = rw (c .before .beyond3 .ensures, c .beyond4 .ensures)
 
-part-write-run-end : tie.Need-part-write-run-end
-part-write-run-end c = search needs
+all : (s : tie.Start) → let a = s .args in
+    shared (a .down) (a .x) (a .x + a .n) + shared (a .stay) (a .x - a .down) (a .x + a .n - a .down) + shared (a .up) (a .x - (a .down + a .stay)) (a .x + a .n - (a .down + a .stay)) ≡ a .n
+all s = let a = s .args in shared-trip (a .down) (a .stay) (a .up) (a .x) (a .n) (s .pre .0)
 
-add-write-run : tie.Need-add-write-run
-add-write-run c = search needs
+add-y : tie.Need-add-y
+add-y c = search needs
 
-sub-write-run-2 : tie.Need-sub-write-run-2
-sub-write-run-2 c = search needs
+add-rising : tie.Need-add-rising
+add-rising c = search needs
 
-write-run-requires-2 : tie.Need-write-run-requires-2
-write-run-requires-2 c κs = search needs
+write-some-requires : tie.Need-write-some-requires
+write-some-requires c κs = (omega arith, omega (arith, all (c .before .before)))
 
-add-x : tie.Need-add-x
-add-x c = search needs
+sub-write-some : tie.Need-sub-write-some
+sub-write-some c = omega (arith, all (c .before .before .before .before .before))
 
-sub-write-run-3 : tie.Need-sub-write-run-3
-sub-write-run-3 c = search needs
+part-write-some-start : tie.Need-part-write-some-start
+part-write-some-start c = omega (arith, all (c .before .before .before .before .before))
 
-part-write-run-start-2 : tie.Need-part-write-run-start-2
-part-write-run-start-2 c = search needs
+part-write-some-end : tie.Need-part-write-some-end
+part-write-some-end c = search needs
 
-part-write-run-end-2 : tie.Need-part-write-run-end-2
-part-write-run-end-2 c = search needs
+beyond-requires : tie.Need-beyond-requires
+beyond-requires c κs = search needs
 
-write-run-requires-3 : tie.Need-write-run-requires-3
-write-run-requires-3 c κs = search needs
+beyond-requires-2 : tie.Need-beyond-requires-2
+beyond-requires-2 c κs = search needs
+
+write-some-requires-2 : tie.Need-write-some-requires-2
+write-some-requires-2 c κs = (rw (c .before .beyond .ensures, c .beyond2 .ensures) (grows _ _ _), omega (arith, second c, all (c .before .before .before .before .before .before .before .before)))
+
+add-done : tie.Need-add-done
+add-done c = omega (arith, second (c .before .before .before), all (c .before .before .before .before .before .before .before .before .before .before .before))
+
+sub-write-some-2 : tie.Need-sub-write-some-2
+sub-write-some-2 c = omega (arith, second (c .before .before .before), all (c .before .before .before .before .before .before .before .before .before .before .before))
+
+part-write-some-start-2 : tie.Need-part-write-some-start-2
+part-write-some-start-2 c = omega (arith, second (c .before .before .before), all (c .before .before .before .before .before .before .before .before .before .before .before))
+
+part-write-some-end-2 : tie.Need-part-write-some-end-2
+part-write-some-end-2 c = search needs
+
+beyond-requires-3 : tie.Need-beyond-requires-3
+beyond-requires-3 c κs = search needs
+
+beyond-requires-4 : tie.Need-beyond-requires-4
+beyond-requires-4 c κs = search needs
+
+write-some-requires-3 : tie.Need-write-some-requires-3
+write-some-requires-3 c κs = (rw (c .before .beyond3 .ensures, c .beyond4 .ensures) (grows _ _ _), omega (arith, third c, second (c .before .before .before .before .before .before), all (c .before .before .before .before .before .before .before .before .before .before .before .before .before .before)))
 
 add-result : tie.Need-add-result
-add-result c = search needs
+add-result c = omega (arith, third (c .before .before .before), second (c .before .before .before .before .before .before .before .before .before), all (c .before .before .before .before .before .before .before .before .before .before .before .before .before .before .before .before .before))
 
 same-length : tie.Need-same-length
 same-length c = search needs
@@ -54,32 +84,40 @@ same-length c = search needs
 returns : tie.Need-returns
 returns c =
     let u = c .before .before in
-    let s = u .before .before .before .before in
-    let d = s .before .before .before .before in
-    let a = d .before .before .before .args in
-    let stay = a .g - (a .down + a .up) in
-    let front = written-first (replicate (a .down) 68) (length-replicate (a .down) 68) (d .write-run .ensures) in
-    let stayed = written-on front (replicate stay (a .letter)) (length-replicate stay (a .letter)) (omega arith) (s .write-run2 .ensures) in
-    let whole = written-on stayed (replicate (a .up) 85) (length-replicate (a .up) 85) (omega arith) (u .write-run3 .ensures) in
-    let end : d .write-run .result + s .write-run2 .result + u .write-run3 .result ≡ a .g = omega arith in
-    (end, whole .is ∙ rw end)
+    let m = u .before .before .before .before .before .before in
+    let d = m .before .before .before .before .before .before in
+    let s = d .before .before .before in
+    let a = s .args in
+    let l = a .rest .now in
+    let n = shared (a .down) (a .x) (a .x + a .n) in
+    let k = shared (a .stay) (a .x - a .down) (a .x + a .n - a .down) in
+    let j = shared (a .up) (a .x - (a .down + a .stay)) (a .x + a .n - (a .down + a .stay)) in
+    let front = written-first (replicate n 68) (length-replicate n 68) (d .write-some .ensures) in
+    let stayed = written-on front (replicate k (a .letter)) (length-replicate k (a .letter)) (omega (arith, all s)) (rw (second (m .before)) at (m .write-some2 .ensures)) in
+    let whole = written-on stayed (replicate j 85) (length-replicate j 85) (omega (arith, second (m .before), all s)) (rw (third (u .before)) at (u .write-some3 .ensures)) in
+    let end : d .write-some .result + m .write-some2 .result + u .write-some3 .result ≡ a .n = omega (arith, second (m .before), third (u .before), all s) in
+    (end, whole .is ∙ rw (end, taken-trip (a .down) (a .stay) (a .up) (a .letter) (a .x) (a .n)))
 
 pub write-trip-spec : {M : Type 1} → statement M
 write-trip-spec =
     tie.close
     (tie.spec
-    write-run-requires
-    sub-write-run
-    part-write-run-start
-    part-write-run-end
-    add-write-run
-    sub-write-run-2
-    write-run-requires-2
-    add-x
-    sub-write-run-3
-    part-write-run-start-2
-    part-write-run-end-2
-    write-run-requires-3
+    add-y
+    add-rising
+    write-some-requires
+    sub-write-some
+    part-write-some-start
+    part-write-some-end
+    beyond-requires
+    beyond-requires-2
+    write-some-requires-2
+    add-done
+    sub-write-some-2
+    part-write-some-start-2
+    part-write-some-end-2
+    beyond-requires-3
+    beyond-requires-4
+    write-some-requires-3
     add-result
     same-length
     returns)

@@ -15,7 +15,7 @@ use Rattle.schedule.proofs.rows.plan_energy.Statement.{statement}
 use Rattle.schedule.proofs.rows.plan_energy.Tie as tie
 
 abbrev Inv-loop : tie.InvT-loop
-Inv-loop r starts devices sum₀ k₀ made k = (k ≤ r .devices .count) × (made ≡ sum k (λ k. energyOf (device r k) (usesOf r starts k))) × (made ≤ 268431360 * k)
+Inv-loop r starts devices sum₀ k₀ made k = (k ≤ r .devices .count) × (made ≡ sum k (λ k. energyOf (r .round) (device r k) (usesOf r starts k))) × (made ≤ 268431360 * k)
 
 abbrev μ-loop : tie.MeasureT-loop
 μ-loop r starts devices sum₀ k₀ made k = r .devices .count - k
@@ -60,8 +60,8 @@ loop-again c =
     let R = c .before .before .before .before .before .before .before .args .r in
     let s = c .before .before .before .before .before .before .before .args .starts .now in
     let k = c .before .before .before .before .loop .k in
-    let here : c .energy-of .result ≡ energyOf (device R k) (usesOf R s k) = c .energy-of .ensures .0 ∙ ap (energyOf (device R k)) (pattern-uses (c .before .before .uses-of .ensures)) in
-    (omega arith, omega (arith, here, c .before .before .before .before .loop .inv .1, sum-more k (λ i. energyOf (device R i) (usesOf R s i))), more c .0)
+    let here : c .energy-of .result ≡ energyOf (R .round) (device R k) (usesOf R s k) = c .energy-of .ensures .0 ∙ ap (energyOf (R .round) (device R k)) (pattern-uses (c .before .before .uses-of .ensures)) in
+    (omega arith, omega (arith, here, c .before .before .before .before .loop .inv .1, sum-more k (λ i. energyOf (R .round) (device R i) (usesOf R s i))), more c .0)
 
 returns : tie.Need-returns Inv-loop μ-loop
 unfolding planEnergy
@@ -69,7 +69,7 @@ returns c =
     let R = c .before .before .before .before .args .r in
     let s = c .before .before .before .before .args .starts .now in
     let all : c .before .loop .k ≡ R .devices .count = omega arith in
-    c .before .loop .inv .1 ∙ ap (λ (n : ℕ). sum n (λ i. energyOf (device R i) (usesOf R s i))) all
+    c .before .loop .inv .1 ∙ ap (λ (n : ℕ). sum n (λ i. energyOf (R .round) (device R i) (usesOf R s i))) all
 
 pub plan-energy-spec : {M : Type 1} → statement M
 plan-energy-spec =

@@ -76,7 +76,7 @@ loop-less : tie.Need-loop-less Inv-loop μ-loop
 loop-less c = omega arith
 
 loop-again : tie.Need-loop-again Inv-loop μ-loop
-loop-again c = (omega arith, laid-row (c .before .before .before .before .before .before .before .before .before .before .before .before .args .r) (c .before .before .before .before .before .before .before .before .before .before .before .before .args .starts .now) (c .before .before .before .before .before .before .before .loop .k) (c .before .before .before .before .before .before .before .loop .inv .1) (roomy (c .before .before .before .before .before .before) .0) (c .before .before .write-row .last .1 .1 .1 .0) (c .before .before .write-row .ensures ∙ ap (λ (u : List Bool). map byteOf (rowOf (device (c .before .before .before .before .before .before .before .before .before .before .before .before .args .r) (c .before .before .before .before .before .before .before .loop .k)) u) ++ drop (c .before .before .before .before .before .before .before .before .before .before .before .before .args .r .horizon) (take (length (c .before .before .before .before .before .before .before .loop .out) - c .before .before .before .before .before .before .before .loop .k * c .before .before .before .before .before .before .before .before .before .before .before .before .args .r .horizon) (drop (c .before .before .before .before .before .before .before .loop .k * c .before .before .before .before .before .before .before .before .before .before .before .before .args .r .horizon) (c .before .before .before .before .before .before .before .loop .out)))) (pattern-uses (c .before .before .before .before .before .uses-of .ensures))))
+loop-again c = (omega arith, laid-row (c .before .before .before .before .before .before .before .before .before .before .before .before .args .r) (c .before .before .before .before .before .before .before .before .before .before .before .before .args .starts .now) (c .before .before .before .before .before .before .before .loop .k) (c .before .before .before .before .before .before .before .loop .inv .1) (roomy (c .before .before .before .before .before .before) .0) (c .before .before .write-row .last .1 .1 .1 .1 .0) (c .before .before .write-row .ensures ∙ ap (λ (u : List Bool). map byteOf (rowOf (c .before .before .before .before .before .before .before .before .before .before .before .before .args .r .round) (device (c .before .before .before .before .before .before .before .before .before .before .before .before .args .r) (c .before .before .before .before .before .before .before .loop .k)) u) ++ drop (c .before .before .before .before .before .before .before .before .before .before .before .before .args .r .horizon) (take (length (c .before .before .before .before .before .before .before .loop .out) - c .before .before .before .before .before .before .before .loop .k * c .before .before .before .before .before .before .before .before .before .before .before .before .args .r .horizon) (drop (c .before .before .before .before .before .before .before .loop .k * c .before .before .before .before .before .before .before .before .before .before .before .before .args .r .horizon) (c .before .before .before .before .before .before .before .loop .out)))) (pattern-uses (c .before .before .before .before .before .uses-of .ensures))))
 
 same-length : tie.Need-same-length Inv-loop μ-loop
 same-length c = filled-length (c .before .loop .inv .1) (omega (arith, mul-le-mul-right (c .before .before .before .before .before .before .args .r .horizon) (c .before .loop .inv .0), c .before .before .before .before .before .before .pre .2))
