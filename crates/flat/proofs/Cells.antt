@@ -18,7 +18,7 @@ use Rattle.device.specs.Row.{Sound, deep, powerAt}
 use Rattle.schedule.specs.declared.Job.{Job}
 use Rattle.schedule.specs.declared.Recorder.{Recorder}
 use Rattle.schedule.specs.Quantities.{job, device, release, deadline, run, uses, noJob, noDevice}
-use Rattle.flat.specs.Flat.{cell, jobColumn, deviceRow, recorderOf, jobNumber, deviceNumber, numberOf}
+use Rattle.flat.specs.Flat.{cell, jobColumn, deviceRow, recorderOf, jobNumber, deviceNumber, ownNumber, numberOf}
 use Rattle.flat.proofs.Shapes.{Shaped}
 
 -- ---- a flag as a number
@@ -170,11 +170,12 @@ module _ (R : Recorder) (s : Shaped R) where
       )
 
   pub recorder-kept : recorderOf (grid (numberOf R)) ≡ R
-  unfolding recorderOf numberOf
+  unfolding recorderOf numberOf ownNumber
   recorder-kept =
       let h : held 19 0 ≡ R .horizon = cell-grid (numberOf R) 19 0 (omega arith) (omega arith) in
       let n : held 19 1 ≡ R .jobs .count = cell-grid (numberOf R) 19 1 (omega arith) (omega arith) in
       let m : held 19 2 ≡ R .devices .count = cell-grid (numberOf R) 19 2 (omega arith) (omega arith) in
       let js : upTo (jobColumn (grid (numberOf R))) 16 ≡ R .jobs .list = upTo-whole _ (R .jobs .list) noJob 16 (s .jobs-long) job-kept in
       let ds : upTo (deviceRow (grid (numberOf R))) 8 ≡ R .devices .list = upTo-whole _ (R .devices .list) noDevice 8 (s .devices-long) device-kept in
-      rw (h, n, m, js, ds)
+      let r : eqb (held 19 3) 1 ≡ R .round = ap (λ (x : ℕ). eqb x 1) (cell-grid (numberOf R) 19 3 (omega arith) (omega arith)) ∙ number-flag (R .round) in
+      rw (h, n, m, r, js, ds)

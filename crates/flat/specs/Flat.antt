@@ -1,7 +1,7 @@
 -- The recorder laid flat: twenty rows of sixteen numbers, which the search lends, so that nothing of it is copied at a vertex.
 -- Rows 0 to 2 hold each job's release, deadline and running time; rows 3 to 10, one for each device, 1 for a job that uses it and 0 for another;
--- rows 11 to 18, one for each device, its figures in their order, of which the times of its moves and its number of levels have one byte each; row 19 the horizon
--- and the numbers of jobs and of devices.
+-- rows 11 to 18, one for each device, its figures in their order, of which the times of its moves and its number of levels have one byte each; row 19 the horizon,
+-- the numbers of jobs and of devices, and 1 for a round.
 -- Assumes nothing.
 use mathlib.Core.Bool.{false, cond}
 use mathlib.Core.List.{List}
@@ -36,11 +36,12 @@ unfoldable pub recorderOf : List ℕ → Recorder
 recorderOf l =
     record {
       horizon = cell l 19 0;
+      round = eqb (cell l 19 3) 1;
       devices = record { count = cell l 19 2; list = upTo (deviceRow l) 8 };
       jobs = record { count = cell l 19 1; list = upTo (jobColumn l) 16 };
     }
 
--- What a job has in its column, and what a device has in its row.
+-- What a job has in its column, what a device has in its row, and what the recorder has in the last one.
 unfoldable pub jobNumber : Job → ℕ → ℕ
 jobNumber j i = cond (eqb i 0) (j .release) (cond (eqb i 1) (j .deadline) (cond (eqb i 2) (j .run) (cond (getD (j .uses) (i - 3) false) 1 0)))
 
@@ -49,8 +50,11 @@ deviceNumber d i =
     cond (eqb i 0) (d .shut) (cond (eqb i 1) (d .wake) (cond (eqb i 2) (d .pw) (cond (eqb i 3) (d .pd)
     (cond (eqb i 4) (d .pu) (cond (eqb i 5) (d .levels) (getD (d .powers) (i - 6) 0))))))
 
+unfoldable pub ownNumber : Recorder → ℕ → ℕ
+ownNumber R i = cond (eqb i 0) (R .horizon) (cond (eqb i 1) (R .jobs .count) (cond (eqb i 2) (R .devices .count) (cond (R .round) 1 0)))
+
 -- What flat_of writes in a row and a column.
 unfoldable pub numberOf : Recorder → ℕ → ℕ → ℕ
 numberOf R i k =
     cond (ltb i 11) (jobNumber (job R k) i)
-    (cond (ltb i 19) (cond (ltb k 10) (deviceNumber (device R (i - 11)) k) 0) (cond (eqb k 0) (R .horizon) (cond (eqb k 1) (R .jobs .count) (R .devices .count))))
+    (cond (ltb i 19) (cond (ltb k 10) (deviceNumber (device R (i - 11)) k) 0) (ownNumber R k))

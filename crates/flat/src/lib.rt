@@ -7,7 +7,7 @@ ghost use mathlib.Core.Path.{_≡_};
 ghost use Prim.Native.Nat.{_<_};
 ghost use Rattle.device.specs.Row.{Sound, deep};
 ghost use Rattle.schedule.specs.Quantities.{Valid, device, jobs, release, deadline, run, uses};
-ghost use Rattle.flat.specs.Flat.{recorderOf, jobNumber, deviceNumber, numberOf};
+ghost use Rattle.flat.specs.Flat.{recorderOf, jobNumber, deviceNumber, ownNumber, numberOf};
 
 pub mod costs; // costs.rt: what each gap costs
 pub mod numbers; // numbers.rt: sums past sixteen bits
@@ -33,6 +33,12 @@ pub fn device_count(r: &Flat) -> usize
 {
     let count = &r[306];
     *count as usize
+}
+
+pub fn is_round(r: &Flat) -> bool
+    ensures { λ x. ⌜ x ≡ recorderOf (now (r .entry)) .round ⌝ }
+{
+    r[307] == 1
 }
 
 pub fn release_of(r: &Flat, j: usize) -> u16
@@ -140,6 +146,23 @@ fn device_number(device: Device, column: usize) -> u16
     device.powers[column - 6]
 }
 
+// What the recorder has in the last row: the horizon, the counts, and 1 for a round.
+fn own_number(r: Recorder, column: usize) -> u16
+    requires { ⌜ Valid r ⌝ }
+    ensures { λ x. ⌜ x ≡ ownNumber r column ⌝ }
+{
+    if column == 0 {
+        return r.horizon;
+    }
+    if column == 1 {
+        return r.jobs.count as u16;
+    }
+    if column == 2 {
+        return r.devices.count as u16;
+    }
+    r.round as u16
+}
+
 // The number that stands in a row and a column of the recorder laid flat.
 fn number_of(r: Recorder, row: usize, column: usize) -> u16
     requires { ⌜ Valid r × ((row < 20) × (column < 16)) ⌝ }
@@ -156,13 +179,7 @@ fn number_of(r: Recorder, row: usize, column: usize) -> u16
         }
         return 0;
     }
-    if column == 0 {
-        return r.horizon;
-    }
-    if column == 1 {
-        return r.jobs.count as u16;
-    }
-    r.devices.count as u16
+    own_number(r, column)
 }
 
 pub fn flat_of(r: Recorder) -> Flat

@@ -105,7 +105,7 @@ module _ (R : Recorder) where
         ∙ upTo-same (start held) (λ j. getD l (24 + j) 0) n (λ j h. row-at 24 16 l j (omega arith))
 
     -- A job marked in them.
-    module _ (l : List ℕ) (long : length l ≡ 56) (j s : ℕ) (known : j < jobs R) where
+    module _ (l : List ℕ) (long : length l ≡ 64) (j s : ℕ) (known : j < jobs R) where
       pub placed-marked : placedOf (marked j s l) ≡ set (placedOf l) j true
       unfolding marked
       placed-marked =
@@ -132,7 +132,7 @@ module _ (R : Recorder) where
 
     -- No job placed.
     abbrev fresh : List ℕ
-    fresh = noneCells (replicate 56 0)
+    fresh = noneCells (replicate 64 0)
 
     pub fresh-placed : placedOf fresh ≡ replicate 16 false
     unfolding noneCells each placedOf upTo

@@ -70,7 +70,7 @@ module _ (R : Recorder) (t : List ℕ) (empty : t ≡ replicate 18 0) where
     root-cut h = visit-cut R (root R) (jobs R) b nothing u counted-root refl (omega (arith, positive)) (sym cut-root ∙ root-late R ok x ex h)
 
     pub root-enters :
-        x ≤ R .horizon → (v : List ℕ) → v ≡ noneCells (replicate 56 0) → (n : ℕ) → n ≡ jobs R → (r : Run) → r ≡ capped b (below R n (vertexOf R v 0) u)
+        x ≤ R .horizon → (v : List ℕ) → v ≡ noneCells (replicate 64 0) → (n : ℕ) → n ≡ jobs R → (r : Run) → r ≡ capped b (below R n (vertexOf R v 0) u)
         → r ≡ capped b (visitedTillFound R)
     unfolding visitedTillFound
     root-enters h v ev n en r er =
@@ -78,8 +78,8 @@ module _ (R : Recorder) (t : List ℕ) (empty : t ≡ replicate 18 0) where
         (rw en at er)
 
 -- The vertex where no job is placed.
-module _ (R : Recorder) (ok : Valid R) (v : List ℕ) (ev : v ≡ noneCells (replicate 56 0)) where
-  pub fresh-long : length v ≡ 56
+module _ (R : Recorder) (ok : Valid R) (v : List ℕ) (ev : v ≡ noneCells (replicate 64 0)) where
+  pub fresh-long : length v ≡ 64
   unfolding noneCells each
   fresh-long = rw ev
 

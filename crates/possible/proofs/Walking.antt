@@ -168,14 +168,14 @@ module _ (R : Recorder) (ok : Valid R) (l : List ℕ) (n x y j s : ℕ) (o : Off
   pub is-spared : (time : ℕ) → time ≡ s + run R j → time ≤ y → cutA R (child R (vertexOf R l s) j s) ≡ false
   is-spared time et h = cut-tested time et false (le-ltb y time h)
 
-  module _ (long : length l ≡ 56) (time : ℕ) (et : time ≡ s + run R j) (w : List ℕ) (ew : w ≡ marked j s l) where
+  module _ (long : length l ≡ 64) (time : ℕ) (et : time ≡ s + run R j) (w : List ℕ) (ew : w ≡ marked j s l) where
     pub is-alike : Alike R (vertexOf R w time) (child R (vertexOf R l s) j s)
     is-alike = rw (ew, et) (marked-alike R (ok .few-jobs) l long j s (o .known) s (o .free))
 
     pub is-stored : time ≤ y → Stored R w time n x
     is-stored h = child-stored R ok l n x y j s o time et h w (rw ew (placed-marked R (ok .few-jobs) l long j s (o .known)))
 
-    pub is-long : length w ≡ 56
+    pub is-long : length w ≡ 64
     unfolding marked
     is-long = rw (ew, length-set, length-set) long
 

@@ -46,7 +46,7 @@ fn visit(
     j: JobNumber,
     s: u32,
 ) -> bool
-    requires { ⌜ Valid (recorderOf (now r)) × ((length (now v) ≡ 56) × (Offered (recorderOf (now r)) (now v) left load limit (j .0) s × Within (recorderOf (now r)) budget (now tally))) ⌝ }
+    requires { ⌜ Valid (recorderOf (now r)) × ((length (now v) ≡ 64) × (Offered (recorderOf (now r)) (now v) left load limit (j .0) s × Within (recorderOf (now r)) budget (now tally))) ⌝ }
     ensures { λ x. ⌜ Came (recorderOf (now (r .entry))) budget x (now (tally .exit)) (visitTillFound (recorderOf (now (r .entry))) left (child (recorderOf (now (r .entry))) (vertexOf (recorderOf (now (r .entry))) (now (v .entry)) s) (j .0) s) (tallyOf (recorderOf (now (r .entry))) (now (tally .entry)))) ⌝ }
 {
     if tally[0] == budget {
@@ -72,7 +72,7 @@ fn enter(
     time: u32,
     load: u32,
 ) -> bool
-    requires { ⌜ Valid (recorderOf (now r)) × ((length (now v) ≡ 56) × (Stored (recorderOf (now r)) (now v) time left load × Within (recorderOf (now r)) budget (now tally))) ⌝ }
+    requires { ⌜ Valid (recorderOf (now r)) × ((length (now v) ≡ 64) × (Stored (recorderOf (now r)) (now v) time left load × Within (recorderOf (now r)) budget (now tally))) ⌝ }
     ensures { λ x. ⌜ Came (recorderOf (now (r .entry))) budget x (now (tally .exit)) (below (recorderOf (now (r .entry))) left (vertexOf (recorderOf (now (r .entry))) (now (v .entry)) time) (tallyOf (recorderOf (now (r .entry))) (now (tally .entry)))) ⌝ }
 {
     if left == 0 {
@@ -92,7 +92,7 @@ fn choices(
     time: u32,
     load: u32,
 ) -> bool
-    requires { ⌜ Valid (recorderOf (now r)) × ((length (now v) ≡ 56) × (Stored (recorderOf (now r)) (now v) time left load × Within (recorderOf (now r)) budget (now tally))) ⌝ }
+    requires { ⌜ Valid (recorderOf (now r)) × ((length (now v) ≡ 64) × (Stored (recorderOf (now r)) (now v) time left load × Within (recorderOf (now r)) budget (now tally))) ⌝ }
     ensures { λ x. ⌜ Came (recorderOf (now (r .entry))) budget x (now (tally .exit)) (Visiting.choices (recorderOf (now (r .entry))) (visitTillFound (recorderOf (now (r .entry))) (left - 1)) (vertexOf (recorderOf (now (r .entry))) (now (v .entry)) time) (tallyOf (recorderOf (now (r .entry))) (now (tally .entry)))) ⌝ }
 {
     let n = job_count(r);
@@ -121,7 +121,7 @@ fn tries(
     dues: Dues,
     j: JobNumber,
 ) -> bool
-    requires { ⌜ Valid (recorderOf (now r)) × ((length (now v) ≡ 56) × (Stored (recorderOf (now r)) (now v) time left load × ((j .0 < jobs (recorderOf (now r))) × ((flagged (placedOf (now v)) (j .0) ≡ false) × ((due (recorderOf (now r)) (set (placedOf (now v)) (j .0) true) ≡ dueFor dues (j .0)) × Within (recorderOf (now r)) budget (now tally)))))) ⌝ }
+    requires { ⌜ Valid (recorderOf (now r)) × ((length (now v) ≡ 64) × (Stored (recorderOf (now r)) (now v) time left load × ((j .0 < jobs (recorderOf (now r))) × ((flagged (placedOf (now v)) (j .0) ≡ false) × ((due (recorderOf (now r)) (set (placedOf (now v)) (j .0) true) ≡ dueFor dues (j .0)) × Within (recorderOf (now r)) budget (now tally)))))) ⌝ }
     ensures { λ x. ⌜ Came (recorderOf (now (r .entry))) budget x (now (tally .exit)) (through (λ s. visitTillFound (recorderOf (now (r .entry))) (left - 1) (child (recorderOf (now (r .entry))) (vertexOf (recorderOf (now (r .entry))) (now (v .entry)) time) (j .0) s)) (starts (recorderOf (now (r .entry))) time (j .0)) (tallyOf (recorderOf (now (r .entry))) (now (tally .entry)))) ⌝ }
 {
     let c = wide(run_of(r, j.0));
@@ -140,9 +140,9 @@ fn tries(
 
 // No job placed yet.
 fn none_placed() -> Cells
-    ensures { λ x. ⌜ x ≡ noneCells (replicate 56 0) ⌝ }
+    ensures { λ x. ⌜ x ≡ noneCells (replicate 64 0) ⌝ }
 {
-    let mut v = [0u32; 56];
+    let mut v = [0u32; 64];
     let mut j = 0;
     while j < 16 {
         v[40 + j] = 1;

@@ -8,16 +8,16 @@ use native.Mathlib.Omega.{arith}
 use lib.ListN.{getD, set, length}
 use Rattle.base.proofs.Additions.{sum-le}
 use Rattle.device.specs.declared.Device.{Device}
-use Rattle.device.specs.Row.{Sound, gapCost}
+use Rattle.device.specs.Row.{Sound, deep}
 use Rattle.device.proofs.Least.{gap-low}
 use Rattle.schedule.specs.declared.Recorder.{Recorder}
 use Rattle.schedule.specs.Quantities.{Valid, run, uses, device}
 use Rattle.schedule.specs.Visiting.{ticks}
-use Rattle.vertex.specs.Vertices.{Vertex, unplaced, ahead, paidStep, endStep, placeAt, endAt, paidAt, closeOf, closeAt, closed, floorOf, floorAt, floor}
+use Rattle.vertex.specs.Vertices.{Vertex, unplaced, ahead, unused, leadOf, paidStep, endStep, placeAt, endAt, paidAt, firstAt, closeOf, closeAt, closed, floorOf, floorAt, floor}
 use Rattle.vertex.specs.Layout.{placedOf, vertexOf, nextFloor}
 use Rattle.vertex.specs.Sums.{Holds, Fitting}
 use Rattle.vertex.proofs.Adding.{rest-less, rest-none, ahead-few}
-use Rattle.vertex.proofs.Charging.{product-fits, gap-cheap, end-now, paid-now}
+use Rattle.vertex.proofs.Charging.{end-now, paid-now}
 use Rattle.vertex.proofs.Reading.{row-at, row-long, end-cell, placed-long}
 
 -- ---- one device: the job's own ticks change sides
@@ -28,10 +28,10 @@ floor-used d h b g s c a =
     let e : h - s - (a + c) ≡ h - (s + c) - a = omega arith in
     rw e (omega arith)
 
-next-is : (u : Bool) (d : Device) (h b e a s c : ℕ) → nextFloor u d h b e (a + cond u c 0) s ≡ floorOf d h (paidStep u d b e s c) (endStep u e s c) a
+next-is : (u x : Bool) (d : Device) (h b e a s c : ℕ) → nextFloor u x d h b e (a + cond u c 0) s ≡ floorOf d h (paidStep u x d b e s c) (endStep u e s c) a
 unfolding nextFloor paidStep endStep
-next-is true d h b e a s c = floor-used d h b (gapCost d (s - e)) s c a
-next-is false d h b e a s c = let z : a + 0 ≡ a = omega arith in rw z
+next-is true x d h b e a s c = floor-used d h b (leadOf x d e s) s c a
+next-is false x d h b e a s c = let z : a + 0 ≡ a = omega arith in rw z
 
 -- ---- a child that places job j at s
 
@@ -58,17 +58,17 @@ module _ (R : Recorder) (ok : Valid R) (l : List ℕ) (j s : ℕ) (held : Holds 
 
   -- and that it gives the child's floor.
   pub floor-step :
-      nextFloor (uses R k j) (device R k) (R .horizon) (getD l (8 + k) 0) (getD l k 0) (getD l (16 + k) 0) s ≡ floorAt R (placeAt R (vertexOf l s) j s) k
+      nextFloor (uses R k j) (unused (R .round) (getD l k 0)) (device R k) (R .horizon) (getD l (8 + k) 0) (getD l k 0) (getD l (16 + k) 0) s ≡ floorAt R (placeAt R (vertexOf l s) j s) k
   unfolding vertexOf
   floor-step =
       rw (
-        end-now R ok (vertexOf l s) (row-long 0 8 l) (row-long 8 8 l) j s k b,
-        paid-now R ok (vertexOf l s) (row-long 0 8 l) (row-long 8 8 l) j s k b,
+        end-now R ok (vertexOf l s) (row-long 0 8 l) (row-long 8 8 l) (row-long 56 8 l) j s k b,
+        paid-now R ok (vertexOf l s) (row-long 0 8 l) (row-long 8 8 l) (row-long 56 8 l) j s k b,
         row-at 8 8 l k few-device,
         end-cell l k few-device,
         tick-is,
       )
-      (next-is (uses R k j) (device R k) (R .horizon) (getD l (8 + k) 0) (getD l k 0) (ahead R (set (placedOf l) j true) k) s (run R j))
+      (next-is (uses R k j) (unused (R .round) (getD l k 0)) (device R k) (R .horizon) (getD l (8 + k) 0) (getD l k 0) (ahead R (set (placedOf l) j true) k) s (run R j))
 
 -- ---- a complete vertex
 
@@ -76,33 +76,34 @@ module _ (R : Recorder) (ok : Valid R) (l : List ℕ) (t : ℕ) (held : Holds R 
   near : k < 8
   near = omega (arith, b, ok .few-devices)
 
-  may-close : (getD l (8 + k) 0 ≤ device R k .pw * getD l k 0) × (getD l k 0 ≤ R .horizon)
+  pub may-close :
+      (getD l k 0 ≤ R .horizon) × (getD l (56 + k) 0 ≤ getD l k 0) × (deep (device R k) * getD l (56 + k) 0 ≤ getD l (8 + k) 0)
+      × (getD l (8 + k) 0 ≤ deep (device R k) * getD l (56 + k) 0 + device R k .pw * (getD l k 0 - getD l (56 + k) 0))
   unfolding vertexOf
-  may-close =
-      (rw (← row-at 8 8 l k near, ← end-cell l k near) (held .settled .cheap k b), rw (← end-cell l k near) (omega (arith, held .settled .ended k b, held .settled .within)))
+  may-close = (
+    rw (← end-cell l k near) (omega (arith, held .settled .ended k b, held .settled .within)),
+    rw (← row-at 56 8 l k near, ← end-cell l k near) (held .settled .begun k b),
+    rw (← row-at 56 8 l k near, ← row-at 8 8 l k near) (held .settled .front k b),
+    rw (← row-at 56 8 l k near, ← row-at 8 8 l k near, ← end-cell l k near) (held .settled .later k b),
+  )
 
-  pub ended-within : getD l k 0 ≤ R .horizon
-  ended-within = may-close .1
-
-  -- What device k costs over the whole round, and that this is no more than work throughout.
-  pub close-step : getD l (8 + k) 0 + gapCost (device R k) (R .horizon - getD l k 0) ≡ closeAt R (vertexOf l t) k
-  unfolding vertexOf closeOf
-  close-step = rw (row-at 8 8 l k near, end-cell l k near)
-
-  pub close-most : device R k .pw < 65536 → getD l (8 + k) 0 + gapCost (device R k) (R .horizon - getD l k 0) ≤ 268431360
-  close-most few =
-      let most = gap-cheap (device R k) (getD l (8 + k) 0) (getD l k 0) (R .horizon) (may-close .0) (may-close .1) in
-      omega (arith, product-fits (device R k .pw) (R .horizon) few (ok .few-ticks))
+  pub close-step :
+      closeOf (unused (R .round) (getD l k 0)) (device R k) (R .horizon) (getD l (8 + k) 0) (getD l k 0) (getD l (56 + k) 0) ≡ closeAt R (vertexOf l t) k
+  unfolding vertexOf
+  close-step = rw (row-at 8 8 l k near, end-cell l k near, row-at 56 8 l k near)
 
 -- The energy of a complete vertex is at least its floor: cut B may be tested before it is known whether a job is left.
-floor-least : (d : Device) → Sound d → (h b e : ℕ) → floorOf d h b e 0 ≤ closeOf d h b e
+floor-least : (x : Bool) (d : Device) → Sound d → (h b e f : ℕ) → floorOf d h b e 0 ≤ closeOf x d h b e f
 unfolding floorOf closeOf
-floor-least d ok h b e =
+floor-least true d ok h b e f =
     let z : h - e - 0 ≡ h - e = omega arith in
-    rw z (omega (arith, gap-low d ok (h - e)))
+    rw z (omega arith)
+floor-least false d ok h b e f =
+    let z : h - e - 0 ≡ h - e = omega arith in
+    rw z (omega (arith, gap-low d ok (f + (h - e))))
 
 pub floor-below : (R : Recorder) → Valid R → (v : Vertex) → unplaced R (v .placed) ≡ 0 → floor R v ≤ closed R v
 unfolding floor closed
 floor-below R ok v none =
     sum-le (R .devices .count) (floorAt R v) (closeAt R v)
-    (λ k l. rw (rest-none R (v .placed) none (ticks R k)) (floor-least (device R k) (ok .sound k l) (R .horizon) (paidAt v k) (endAt v k)))
+    (λ k l. rw (rest-none R (v .placed) none (ticks R k)) (floor-least (unused (R .round) (endAt v k)) (device R k) (ok .sound k l) (R .horizon) (paidAt v k) (endAt v k) (firstAt v k)))

@@ -11,66 +11,91 @@ use Rattle.base.specs.Loops.{each}
 use Rattle.base.proofs.Turns.{each-more}
 use Rattle.base.proofs.Stores.{stored-at, stored-kept}
 use Rattle.device.specs.declared.Device.{Device}
-use Rattle.device.specs.Row.{gapCost}
 use Rattle.schedule.specs.declared.Recorder.{Recorder}
 use Rattle.schedule.specs.Quantities.{Valid, run, uses, device}
 use Rattle.schedule.specs.Visiting.{ticks}
-use Rattle.vertex.specs.Vertices.{Vertex, ahead, paidStep, endStep, storing, placeAt, Settled}
+use Rattle.vertex.specs.Vertices.{Vertex, ahead, unused, leadOf, paidStep, firstStep, endStep, storing, placeAt, Settled}
 use Rattle.vertex.specs.Layout.{row, placedOf, vertexOf, put, marked}
 use Rattle.vertex.specs.Sums.{Holds, Fitting}
 use Rattle.vertex.proofs.Adding.{rest-less}
 use Rattle.vertex.proofs.Charging.{placed-settled}
-use Rattle.vertex.proofs.Reading.{row-at, row-long, row-other, row-store, end-cell, end-store, placed-long, placed-other, placed-store}
+use Rattle.vertex.proofs.Reading.{row-at, row-long, row-other, row-store, end-cell, end-store, placed-long, placed-other, placed-after, placed-store}
 
 -- ---- one device
 
-module _ (d : Device) (k s c : ℕ) (h : k < 8) (l : List ℕ) (m : length l ≡ 56) where
+module _ (round : Bool) (d : Device) (k s c : ℕ) (h : k < 8) (l : List ℕ) (m : length l ≡ 64) where
+  abbrev new : Bool
+  new = unused round (getD l k 0)
+
+  abbrev paying-now : ℕ
+  paying-now = getD l (8 + k) 0 + (leadOf new d (getD l k 0) s + d .pw * c)
+
   abbrev one : List ℕ
-  one = set l (8 + k) (getD l (8 + k) 0 + (gapCost d (s - getD l k 0) + d .pw * c))
+  one = set l (8 + k) paying-now
 
   abbrev two : List ℕ
   two = set one k (s + c)
 
-  one-long : length one ≡ 56
+  abbrev three : List ℕ
+  three = set two (16 + k) (getD l (16 + k) 0 - c)
+
+  one-long : length one ≡ 64
   one-long = rw length-set m
 
-  two-long : length two ≡ 56
+  two-long : length two ≡ 64
   two-long = rw length-set one-long
 
-  put-long : length (put d k s c l) ≡ 56
-  unfolding put
-  put-long = rw length-set two-long
+  three-long : length three ≡ 64
+  three-long = rw length-set two-long
 
-  put-ends : row 0 8 (put d k s c l) ≡ set (row 0 8 l) k (s + c)
+  put-long : length (put round d k s c l) ≡ 64
   unfolding put
+  put-long = rw length-set three-long
+
+  -- The rows that end before the first uses.
+  put-row : (o n : ℕ) → o + n ≤ 56 → row o n (put round d k s c l) ≡ row o n three
+  unfolding put
+  put-row o n b = row-other o n three (56 + k) _ (λ i c e. omega (arith, b, c, e))
+
+  put-ends : row 0 8 (put round d k s c l) ≡ set (row 0 8 l) k (s + c)
   put-ends =
-      row-other 0 8 two (16 + k) _ (λ i b e. omega (arith, b, e)) ∙ end-store one k (s + c) h one-long
+      put-row 0 8 (omega arith)
+      ∙ row-other 0 8 two (16 + k) _ (λ i b e. omega (arith, b, e)) ∙ end-store one k (s + c) h one-long
       ∙ ap (λ (r : List ℕ). set r k (s + c)) (row-other 0 8 l (8 + k) _ (λ i b e. omega (arith, b, e)))
 
-  put-paid : row 8 8 (put d k s c l) ≡ set (row 8 8 l) k (getD l (8 + k) 0 + (gapCost d (s - getD l k 0) + d .pw * c))
-  unfolding put
+  put-paid : row 8 8 (put round d k s c l) ≡ set (row 8 8 l) k paying-now
   put-paid =
-      row-other 8 8 two (16 + k) _ (λ i b e. omega (arith, b, e)) ∙ row-other 8 8 one k (s + c) (λ i b e. omega (arith, b, e))
+      put-row 8 8 (omega arith)
+      ∙ row-other 8 8 two (16 + k) _ (λ i b e. omega (arith, b, e)) ∙ row-other 8 8 one k (s + c) (λ i b e. omega (arith, b, e))
       ∙ row-store 8 8 l k _ h (omega arith)
 
-  put-ticks : row 16 8 (put d k s c l) ≡ set (row 16 8 l) k (getD l (16 + k) 0 - c)
-  unfolding put
+  put-ticks : row 16 8 (put round d k s c l) ≡ set (row 16 8 l) k (getD l (16 + k) 0 - c)
   put-ticks =
-      row-store 16 8 two k _ h (omega (arith, two-long))
+      put-row 16 8 (omega arith)
+      ∙ row-store 16 8 two k _ h (omega (arith, two-long))
       ∙ ap (λ (r : List ℕ). set r k (getD l (16 + k) 0 - c)) (row-other 16 8 one k (s + c) (λ i b e. omega (arith, b, e)) ∙ row-other 16 8 l (8 + k) _ (λ i b e. omega (arith, b, e)))
 
-  put-starts : row 24 16 (put d k s c l) ≡ row 24 16 l
-  unfolding put
+  put-starts : row 24 16 (put round d k s c l) ≡ row 24 16 l
   put-starts =
-      row-other 24 16 two (16 + k) _ (λ i b e. omega (arith, b, e)) ∙ row-other 24 16 one k (s + c) (λ i b e. omega (arith, b, e))
+      put-row 24 16 (omega arith)
+      ∙ row-other 24 16 two (16 + k) _ (λ i b e. omega (arith, b, e)) ∙ row-other 24 16 one k (s + c) (λ i b e. omega (arith, b, e))
       ∙ row-other 24 16 l (8 + k) _ (λ i b e. omega (arith, b, e))
 
-  put-placed : placedOf (put d k s c l) ≡ placedOf l
+  put-firsts : row 56 8 (put round d k s c l) ≡ set (row 56 8 l) k (cond new s (getD l (56 + k) 0))
   unfolding put
-  put-placed = placed-other two (16 + k) _ (omega arith) ∙ placed-other one k (s + c) (omega arith) ∙ placed-other l (8 + k) _ (omega arith)
+  put-firsts =
+      row-store 56 8 three k _ h (omega (arith, three-long))
+      ∙ ap (λ (r : List ℕ). set r k (cond new s (getD l (56 + k) 0)))
+      (row-other 56 8 two (16 + k) _ (λ i b e. omega (arith, b, e)) ∙ row-other 56 8 one k (s + c) (λ i b e. omega (arith, b, e)) ∙ row-other 56 8 l (8 + k) _ (λ i b e. omega (arith, b, e)))
 
-pub put-as : (d : Device) (k s c c′ : ℕ) (l a : List ℕ) → c ≡ c′ → a ≡ put d k s c l → a ≡ put d k s c′ l
-put-as d k s c c′ l a e h = h ∙ ap (λ (x : ℕ). put d k s x l) e
+  put-placed : placedOf (put round d k s c l) ≡ placedOf l
+  unfolding put
+  put-placed =
+      placed-after three (56 + k) _ (omega arith)
+      ∙ placed-other two (16 + k) _ (omega arith) ∙ placed-other one k (s + c) (omega arith) ∙ placed-other l (8 + k) _ (omega arith)
+
+pub put-as : (b b′ : Bool) (d : Device) (k s c c′ : ℕ) (l a : List ℕ) → b ≡ b′ → c ≡ c′ → a ≡ put b d k s c l → a ≡ put b′ d k s c′ l
+put-as b b′ d k s c c′ l a e f h = h ∙ ap (λ (x : Bool). put x d k s c l) e ∙ ap (λ (x : ℕ). put b′ d k s x l) f
 
 -- ---- the devices in turn
 
@@ -79,23 +104,27 @@ module _ (R : Recorder) (j s : ℕ) (w : List ℕ) where
   ending k = endStep (uses R k j) (getD (row 0 8 w) k 0) s (run R j)
 
   abbrev paying : ℕ → ℕ
-  paying k = paidStep (uses R k j) (device R k) (getD (row 8 8 w) k 0) (getD (row 0 8 w) k 0) s (run R j)
+  paying k = paidStep (uses R k j) (unused (R .round) (getD (row 0 8 w) k 0)) (device R k) (getD (row 8 8 w) k 0) (getD (row 0 8 w) k 0) s (run R j)
+
+  abbrev beginning : ℕ → ℕ
+  beginning k = firstStep (uses R k j) (unused (R .round) (getD (row 0 8 w) k 0)) (getD (row 56 8 w) k 0) s
 
   abbrev coming : ℕ → ℕ
   coming k = getD (row 16 8 w) k 0 - ticks R k j
 
   -- l is w after the first k devices.
   pub record Put (k : ℕ) (l : List ℕ) : Type 0 where
-    pub long : length l ≡ 56
+    pub long : length l ≡ 64
     pub ends : row 0 8 l ≡ each (storing ending) k (row 0 8 w)
     pub paid : row 8 8 l ≡ each (storing paying) k (row 8 8 w)
+    pub firsts : row 56 8 l ≡ each (storing beginning) k (row 56 8 w)
     pub ticks : row 16 8 l ≡ each (storing coming) k (row 16 8 w)
     pub starts : row 24 16 l ≡ row 24 16 w
     pub placed : placedOf l ≡ placedOf w
 
-  pub put-none : length w ≡ 56 → Put 0 w
+  pub put-none : length w ≡ 64 → Put 0 w
   unfolding each
-  put-none h = record { long = h; ends = refl; paid = refl; ticks = refl; starts = refl; placed = refl }
+  put-none h = record { long = h; ends = refl; paid = refl; firsts = refl; ticks = refl; starts = refl; placed = refl }
 
   module _ (k : ℕ) (l : List ℕ) (h : k < 8) (p : Put k l) where
     -- Its numbers of device k are still w's.
@@ -105,34 +134,39 @@ module _ (R : Recorder) (j s : ℕ) (w : List ℕ) where
     paid-kept : getD l (8 + k) 0 ≡ getD (row 8 8 w) k 0
     paid-kept = sym (row-at 8 8 l k h) ∙ ap (λ (r : List ℕ). getD r k 0) (p .paid) ∙ stored-kept paying k (row 8 8 w) k 0 (omega arith)
 
+    first-kept : getD l (56 + k) 0 ≡ getD (row 56 8 w) k 0
+    first-kept = sym (row-at 56 8 l k h) ∙ ap (λ (r : List ℕ). getD r k 0) (p .firsts) ∙ stored-kept beginning k (row 56 8 w) k 0 (omega arith)
+
     tick-kept : getD l (16 + k) 0 ≡ getD (row 16 8 w) k 0
     tick-kept = sym (row-at 16 8 l k h) ∙ ap (λ (r : List ℕ). getD r k 0) (p .ticks) ∙ stored-kept coming k (row 16 8 w) k 0 (omega arith)
 
     more-of : (f : ℕ → ℕ) (o : ℕ) (a : List ℕ) → row o 8 l ≡ each (storing f) k (row o 8 w) → a ≡ set (row o 8 l) k (f k) → a ≡ each (storing f) (k + 1) (row o 8 w)
     more-of f o a e g = g ∙ ap (λ (r : List ℕ). set r k (f k)) e ∙ sym (each-more (storing f) k (row o 8 w))
 
-    pub put-used : uses R k j ≡ true → Put (k + 1) (put (device R k) k s (run R j) l)
-    unfolding endStep paidStep
+    pub put-used : uses R k j ≡ true → Put (k + 1) (put (R .round) (device R k) k s (run R j) l)
+    unfolding endStep paidStep firstStep
     put-used u =
         record {
-          long = put-long (device R k) k s (run R j) h l (p .long);
-          ends = more-of ending 0 _ (p .ends) (put-ends (device R k) k s (run R j) h l (p .long) ∙ simp u);
-          paid = more-of paying 8 _ (p .paid) (put-paid (device R k) k s (run R j) h l (p .long) ∙ simp (u, paid-kept, end-kept));
-          ticks = more-of coming 16 _ (p .ticks) (put-ticks (device R k) k s (run R j) h l (p .long) ∙ simp (u, tick-kept));
-          starts = put-starts (device R k) k s (run R j) h l (p .long) ∙ p .starts;
-          placed = put-placed (device R k) k s (run R j) h l (p .long) ∙ p .placed;
+          long = put-long (R .round) (device R k) k s (run R j) h l (p .long);
+          ends = more-of ending 0 _ (p .ends) (put-ends (R .round) (device R k) k s (run R j) h l (p .long) ∙ simp u);
+          paid = more-of paying 8 _ (p .paid) (put-paid (R .round) (device R k) k s (run R j) h l (p .long) ∙ simp (u, paid-kept, end-kept));
+          firsts = more-of beginning 56 _ (p .firsts) (put-firsts (R .round) (device R k) k s (run R j) h l (p .long) ∙ simp (u, first-kept, end-kept));
+          ticks = more-of coming 16 _ (p .ticks) (put-ticks (R .round) (device R k) k s (run R j) h l (p .long) ∙ simp (u, tick-kept));
+          starts = put-starts (R .round) (device R k) k s (run R j) h l (p .long) ∙ p .starts;
+          placed = put-placed (R .round) (device R k) k s (run R j) h l (p .long) ∙ p .placed;
         }
 
     same-as : (o : ℕ) (x : ℕ) → x ≡ getD (row o 8 l) k 0 → row o 8 l ≡ set (row o 8 l) k x
     same-as o x e = sym (set-getD (row o 8 l) k 0) ∙ ap (set (row o 8 l) k) (sym e)
 
     pub put-unused : uses R k j ≡ false → Put (k + 1) l
-    unfolding endStep paidStep
+    unfolding endStep paidStep firstStep
     put-unused u =
         record {
           long = p .long;
           ends = more-of ending 0 _ (p .ends) (same-as 0 (ending k) (simp u (sym end-kept ∙ sym (end-cell l k h))));
           paid = more-of paying 8 _ (p .paid) (same-as 8 (paying k) (simp u (sym paid-kept ∙ sym (row-at 8 8 l k h))));
+          firsts = more-of beginning 56 _ (p .firsts) (same-as 56 (beginning k) (simp u (sym first-kept ∙ sym (row-at 56 8 l k h))));
           ticks = more-of coming 16 _ (p .ticks) (same-as 16 (coming k) (simp u (omega (arith, tick-kept, row-at 16 8 l k h))));
           starts = p .starts;
           placed = p .placed;
@@ -147,11 +181,11 @@ module _ (R : Recorder) (ok : Valid R) (l : List ℕ) (j s : ℕ) (held : Holds 
   abbrev base : List ℕ
   base = marked j s l
 
-  pub base-long : length base ≡ 56
+  pub base-long : length base ≡ 64
   unfolding marked
   base-long = rw (length-set, length-set) (held .long)
 
-  started-long : length (set l (24 + j) s) ≡ 56
+  started-long : length (set l (24 + j) s) ≡ 64
   started-long = rw length-set (held .long)
 
   base-row : (o : ℕ) → o ≤ 16 → row o 8 base ≡ row o 8 l
@@ -159,6 +193,12 @@ module _ (R : Recorder) (ok : Valid R) (l : List ℕ) (j s : ℕ) (held : Holds 
   base-row o b =
       let f = few-job in
       row-other o 8 (set l (24 + j) s) (40 + j) 0 (λ i c e. omega (arith, b, c, e)) ∙ row-other o 8 l (24 + j) s (λ i c e. omega (arith, b, c, e))
+
+  base-firsts : row 56 8 base ≡ row 56 8 l
+  unfolding marked
+  base-firsts =
+      let f = few-job in
+      row-other 56 8 (set l (24 + j) s) (40 + j) 0 (λ i c e. omega (arith, c, e)) ∙ row-other 56 8 l (24 + j) s (λ i c e. omega (arith, c, e))
 
   base-starts : row 24 16 base ≡ set (row 24 16 l) j s
   unfolding marked
@@ -216,18 +256,26 @@ module _ (R : Recorder) (ok : Valid R) (l : List ℕ) (j s : ℕ) (held : Holds 
     paid-are : row 8 8 w ≡ child .paid
     unfolding vertexOf
     paid-are =
-        p .paid ∙ ap (λ (r : List ℕ). each (λ k a. set a k (paidStep (uses R k j) (device R k) (getD r k 0) (getD (row 0 8 base) k 0) s (run R j))) (R .devices .count) r) (base-row 8 (omega arith))
-        ∙ ap (λ (r : List ℕ). each (λ k a. set a k (paidStep (uses R k j) (device R k) (getD (row 8 8 l) k 0) (getD r k 0) s (run R j))) (R .devices .count) (row 8 8 l)) (base-row 0 (omega arith))
+        p .paid
+        ∙ ap (λ (r : List ℕ). each (λ k a. set a k (paidStep (uses R k j) (unused (R .round) (getD (row 0 8 base) k 0)) (device R k) (getD r k 0) (getD (row 0 8 base) k 0) s (run R j))) (R .devices .count) r) (base-row 8 (omega arith))
+        ∙ ap (λ (r : List ℕ). each (λ k a. set a k (paidStep (uses R k j) (unused (R .round) (getD r k 0)) (device R k) (getD (row 8 8 l) k 0) (getD r k 0) s (run R j))) (R .devices .count) (row 8 8 l)) (base-row 0 (omega arith))
+
+    firsts-are : row 56 8 w ≡ child .firsts
+    unfolding vertexOf
+    firsts-are =
+        p .firsts
+        ∙ ap (λ (r : List ℕ). each (λ k a. set a k (firstStep (uses R k j) (unused (R .round) (getD (row 0 8 base) k 0)) (getD r k 0) s)) (R .devices .count) r) base-firsts
+        ∙ ap (λ (r : List ℕ). each (λ k a. set a k (firstStep (uses R k j) (unused (R .round) (getD r k 0)) (getD (row 56 8 l) k 0) s)) (R .devices .count) (row 56 8 l)) (base-row 0 (omega arith))
 
     pub child-made : vertexOf w (s + run R j) ≡ child
     unfolding vertexOf
-    child-made = rw (placed-now, p .starts ∙ base-starts, ends-are, paid-are)
+    child-made = rw (placed-now, p .starts ∙ base-starts, ends-are, paid-are, firsts-are)
 
     pub child-held : Holds R w (s + run R j)
     unfolding vertexOf
     child-held =
         record {
           long = p .long;
-          settled = subst (Settled R) (sym child-made) (placed-settled R ok (vertexOf l s) (row-long 0 8 l) (row-long 8 8 l) j s (held .settled) (omega arith) (omega (arith, fit .fits)));
+          settled = subst (Settled R) (sym child-made) (placed-settled R ok (vertexOf l s) (row-long 0 8 l) (row-long 8 8 l) (row-long 56 8 l) j s (held .settled) (omega arith) (omega (arith, fit .fits)));
           ticks = ticks-right;
         }

@@ -24,7 +24,7 @@ use Rattle.vertex.proofs.Limits.{cut-latest}
 use Rattle.vertex.proofs.Reading.{row-at, row-other, row-store, placed-other}
 
 abbrev fresh : List ℕ
-fresh = each (λ j. λ l. set l (40 + j) 1) 16 (replicate 56 0)
+fresh = each (λ j. λ l. set l (40 + j) 1) 16 (replicate 64 0)
 
 module _ (R : Recorder) where
   abbrev coming : ℕ → ℕ
@@ -32,16 +32,17 @@ module _ (R : Recorder) where
 
   -- The numbers once the first k devices have their ticks.
   record Rooted (k : ℕ) (l : List ℕ) : Type 0 where
-    pub long : length l ≡ 56
+    pub long : length l ≡ 64
     pub ends : row 0 8 l ≡ replicate 8 0
     pub paid : row 8 8 l ≡ replicate 8 0
+    pub firsts : row 56 8 l ≡ replicate 8 0
     pub ticks : row 16 8 l ≡ each (storing coming) k (replicate 8 0)
     pub starts : row 24 16 l ≡ replicate 16 0
     pub placed : placedOf l ≡ replicate 16 false
 
   rooted-none : Rooted 0 fresh
   unfolding each row placedOf upTo
-  rooted-none = record { long = refl; ends = refl; paid = refl; ticks = refl; starts = refl; placed = refl }
+  rooted-none = record { long = refl; ends = refl; paid = refl; firsts = refl; ticks = refl; starts = refl; placed = refl }
 
   rooted-more : (k : ℕ) (l : List ℕ) → k < 8 → Rooted k l → Rooted (suc k) (set l (16 + k) (coming k))
   unfolding each
@@ -50,6 +51,7 @@ module _ (R : Recorder) where
         long = rw length-set (p .long);
         ends = row-other 0 8 l (16 + k) (coming k) (λ i c e. omega (arith, c, e)) ∙ p .ends;
         paid = row-other 8 8 l (16 + k) (coming k) (λ i c e. omega (arith, c, e)) ∙ p .paid;
+        firsts = row-other 56 8 l (16 + k) (coming k) (λ i c e. omega (arith, b, c, e)) ∙ p .firsts;
         ticks = row-store 16 8 l k (coming k) b (omega (arith, p .long)) ∙ ap (λ (r : List ℕ). set r k (coming k)) (p .ticks);
         starts = row-other 24 16 l (16 + k) (coming k) (λ i c e. omega (arith, c, e)) ∙ p .starts;
         placed = placed-other l (16 + k) (coming k) (omega arith) ∙ p .placed;
@@ -67,7 +69,7 @@ module _ (R : Recorder) where
 
     pub root-is : vertexOf (rootCells R) 0 ≡ root
     unfolding vertexOf
-    root-is = rw (rooted .ends, rooted .paid, rooted .starts, rooted .placed)
+    root-is = rw (rooted .ends, rooted .paid, rooted .firsts, rooted .starts, rooted .placed)
 
     pub root-holds : Holds R (rootCells R) 0
     root-holds =

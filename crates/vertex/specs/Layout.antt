@@ -1,5 +1,5 @@
--- A vertex laid out in fifty-six numbers, which the search lends: 0 to 7 the devices' ends, 8 to 15 what they have cost, 16 to 23 their ticks to come, 24 to 39 the
--- jobs' starts, 40 to 55 1 for an unplaced job.
+-- A vertex laid out in sixty-four numbers, which the search lends: 0 to 7 the devices' ends, 8 to 15 what they have cost, 16 to 23 their ticks to come, 24 to 39 the
+-- jobs' starts, 40 to 55 1 for an unplaced job, 56 to 63 the starts of the devices' first uses.
 -- Assumes nothing.
 use mathlib.Core.Bool.{Bool, not, cond}
 use mathlib.Core.List.{List}
@@ -10,11 +10,10 @@ use Rattle.base.specs.Lists.{upTo}
 use Rattle.base.specs.Loops.{each}
 use Rattle.base.specs.Sums.{sum}
 use Rattle.device.specs.declared.Device.{Device}
-use Rattle.device.specs.Row.{gapCost}
 use Rattle.schedule.specs.declared.Recorder.{Recorder}
 use Rattle.schedule.specs.Quantities.{jobs}
 use Rattle.schedule.specs.Visiting.{ticks}
-use Rattle.vertex.specs.Vertices.{Vertex, floorOf}
+use Rattle.vertex.specs.Vertices.{Vertex, unused, leadOf, floorOf}
 
 -- n numbers of a list from the place o on.
 unfoldable pub row : ℕ → ℕ → List ℕ → List ℕ
@@ -25,22 +24,24 @@ placedOf l = upTo (λ j. not (eqb (getD l (40 + j) 0) 1)) 16
 
 -- The vertex that the numbers hold, at the time t.
 unfoldable pub vertexOf : List ℕ → ℕ → Vertex
-vertexOf l t = record { time = t; placed = placedOf l; starts = row 24 16 l; ends = row 0 8 l; paid = row 8 8 l }
+vertexOf l t = record { time = t; placed = placedOf l; starts = row 24 16 l; ends = row 0 8 l; paid = row 8 8 l; firsts = row 56 8 l }
 
 -- The numbers with job j's start and flag set.
 unfoldable pub marked : ℕ → ℕ → List ℕ → List ℕ
 marked j s l = set (set l (24 + j) s) (40 + j) 0
 
--- The numbers with a job that starts at s and runs for c ticks charged to device k, which is d.
-unfoldable pub put : Device → ℕ → ℕ → ℕ → List ℕ → List ℕ
-put d k s c l =
-    set (set (set l (8 + k) (getD l (8 + k) 0 + (gapCost d (s - getD l k 0) + d .pw * c))) k (s + c)) (16 + k) (getD l (16 + k) 0 - c)
+-- The numbers with a job that starts at s and runs for c ticks charged to device k, which is d, in a round or not.
+unfoldable pub put : Bool → Device → ℕ → ℕ → ℕ → List ℕ → List ℕ
+put round d k s c l =
+    let x = unused round (getD l k 0) in
+    set (set (set (set l (8 + k) (getD l (8 + k) 0 + (leadOf x d (getD l k 0) s + d .pw * c))) k (s + c)) (16 + k) (getD l (16 + k) 0 - c))
+    (56 + k) (cond x s (getD l (56 + k) 0))
 
--- The floor of device d once a job that starts at s is placed, where a ticks, with that job's, are to come.
-unfoldable pub nextFloor : Bool → Device → ℕ → ℕ → ℕ → ℕ → ℕ → ℕ
-nextFloor u d h b e a s = cond u (floorOf d h (b + gapCost d (s - e)) s a) (floorOf d h b e a)
+-- The floor of device d once a job that starts at s is placed, where a ticks, with that job's, are to come; x where it is d's first in a round.
+unfoldable pub nextFloor : Bool → Bool → Device → ℕ → ℕ → ℕ → ℕ → ℕ → ℕ
+nextFloor u x d h b e a s = cond u (floorOf d h (b + leadOf x d e s) s a) (floorOf d h b e a)
 
 -- The numbers of the root.
 unfoldable pub rootCells : Recorder → List ℕ
 rootCells R =
-    each (λ k. λ l. set l (16 + k) (sum (jobs R) (ticks R k))) (R .devices .count) (each (λ j. λ l. set l (40 + j) 1) 16 (replicate 56 0))
+    each (λ k. λ l. set l (16 + k) (sum (jobs R) (ticks R k))) (R .devices .count) (each (λ j. λ l. set l (40 + j) 1) 16 (replicate 64 0))

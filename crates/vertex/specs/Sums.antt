@@ -72,6 +72,6 @@ pub record Offered (R : Recorder) (l : List ℕ) (n x y j s : ℕ) : Type 0 wher
 
 -- The numbers hold a vertex as it stands at the time t, and each device's ticks to come are those of the unplaced jobs.
 pub record Holds (R : Recorder) (l : List ℕ) (t : ℕ) : Type 0 where
-  pub long : length l ≡ 56
+  pub long : length l ≡ 64
   pub settled : Settled R (vertexOf l t)
   pub ticks : (k : ℕ) → k < R .devices .count → getD l (16 + k) 0 ≡ ahead R (placedOf l) k

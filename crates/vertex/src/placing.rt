@@ -1,10 +1,12 @@
 // A job placed: its ticks go from those to come to those that its devices have paid for. And the root, where no job is placed.
 use crate::Cells;
+use crate::leads::is_unused;
+use crate::leads::lead_of;
 use base::JobNumber;
 use flat::Flat;
 use flat::costs::Costs;
-use flat::costs::gap_cost;
 use flat::device_count;
+use flat::is_round;
 use flat::is_used;
 use flat::job_count;
 use flat::numbers::wide;
@@ -32,18 +34,29 @@ pub fn mark(w: &mut Cells, j: JobNumber, s: u32)
     w[40 + j.0] = 0;
 }
 
+// The start of a device's first use, where the use at s is another or the first.
+fn first_of(unused: bool, first: u32, s: u32) -> u32
+    ensures { λ x. ⌜ x ≡ cond unused s first ⌝ }
+{
+    if unused { s } else { first }
+}
+
 // A job that starts at s and runs for c ticks, charged to device k.
-fn charge(r: &Flat, costs: &Costs, w: &mut Cells, k: usize, s: u32, c: u32)
+fn charge(r: &Flat, costs: &Costs, w: &mut Cells, round: bool, k: usize, s: u32, c: u32)
     requires { ⌜ Ready (recorderOf (now r)) (now costs) × ((k < recorderOf (now r) .devices .count) × ((getD (now w) (8 + k) 0 ≤ device (recorderOf (now r)) k .pw * getD (now w) k 0) × ((getD (now w) k 0 ≤ s) × ((s + c ≤ recorderOf (now r) .horizon) × (c ≤ getD (now w) (16 + k) 0))))) ⌝ }
-    ensures { λ _. ⌜ now (w .exit) ≡ put (device (recorderOf (now (r .entry))) k) k s c (now (w .entry)) ⌝ }
+    ensures { λ _. ⌜ now (w .exit) ≡ put round (device (recorderOf (now (r .entry))) k) k s c (now (w .entry)) ⌝ }
 {
     let end = w[k];
     let paid = w[8 + k];
     let ahead = w[16 + k];
-    let gap = gap_cost(costs, k, s - end);
-    w[8 + k] = paid + (gap + wide(work_power(r, k)) * c);
+    let unused = is_unused(round, end);
+    let lead = lead_of(r, costs, k, unused, end, s);
+    let first = first_of(unused, w[56 + k], s);
+    let work = wide(work_power(r, k));
+    w[8 + k] = paid + (lead + work * c);
     w[k] = s + c;
     w[16 + k] = ahead - c;
+    w[56 + k] = first;
 }
 
 // Places job j at s.
@@ -53,12 +66,13 @@ pub fn place(r: &Flat, costs: &Costs, w: &mut Cells, j: JobNumber, s: u32)
     ensures held { λ _. ⌜ Holds (recorderOf (now (r .entry))) (now (w .exit)) (s + run (recorderOf (now (r .entry))) (j .0)) ⌝ }
 {
     let c = wide(run_of(r, j.0));
+    let round = is_round(r);
     let m = device_count(r);
     mark(w, j, s);
     let mut k = 0;
     while k < m {
         if is_used(r, k, j.0) {
-            charge(r, costs, w, k, s, c);
+            charge(r, costs, w, round, k, s, c);
         }
         k += 1;
     }
@@ -92,7 +106,7 @@ pub fn root_of(r: &Flat) -> Cells
     ensures { λ x. ⌜ x ≡ rootCells (recorderOf (now (r .entry))) ⌝ }
 {
     let m = device_count(r);
-    let mut v = [0u32; 56];
+    let mut v = [0u32; 64];
     let mut j = 0;
     while j < 16 {
         v[40 + j] = 1;

@@ -2,33 +2,37 @@
 -- So what the search answers follows from the visiting order and the budget.
 -- Assumes nothing.
 use mathlib.Core.Path.{_≡_, refl, sym, ap, _∙_, subst}
-use mathlib.Core.Bool.{Bool, true, false, not, cond}
+use mathlib.Core.Bool.{Bool, true, false, not, cond, _&&_, true≢false}
 use mathlib.Core.Option.{Option, none, some}
 use mathlib.Core.List.{List, [], _∷_, _++_}
-use Prim.Native.Nat.{ℕ, zero, suc, _+_, _-_, _≤_, _<_, max}
+use Prim.Native.Nat.{ℕ, zero, suc, _+_, _-_, _*_, _≤_, _<_, max}
 use native.Mathlib.Omega.{arith}
-use lib.Dec.{ltb}
+use lib.Dec.{ltb, eqb}
 use lib.ListN.{getD, length, set, take, replicate, length-set, length-replicate, replicate-append-replicate}
 use lib.Seq.{set-append-left, take-at}
+use borrow.Author.Tests.{eqb-true}
 use Rattle.base.specs.Lists.{padded}
 use Rattle.base.specs.Loops.{each, through, under}
 use Rattle.base.specs.Sums.{total}
 use Rattle.base.proofs.Additions.{sum-same}
 use Rattle.base.proofs.Arrays.{getD-padded}
 use Rattle.base.proofs.Cases.{test-cases}
+use Rattle.device.specs.Row.{deep, gapCost}
 use Rattle.schedule.specs.declared.Recorder.{Recorder}
-use Rattle.schedule.specs.Quantities.{Valid, jobs, release, run, deadline}
+use Rattle.schedule.specs.Quantities.{Valid, device, jobs, release, run, deadline, uses}
 use Rattle.schedule.specs.Listing.{place}
 use Rattle.schedule.specs.Visiting as doc
-use Rattle.vertex.specs.Vertices.{Vertex, flagged, unflagged, cutA, endAt, paidAt, endStep, paidStep, placeAt, root, closeOf, closeAt, closed, floorOf, floorAt, floor, Settled}
+use Rattle.vertex.specs.Vertices.{Vertex, flagged, unflagged, cutA, endAt, paidAt, firstAt, endStep, leadOf, paidStep, firstStep, placeAt, root, closeOf, closeAt, closed, floorOf, floorAt, floor, Settled}
 use Rattle.visit.specs.Steps.{Best, Tally, improves, offer, cutB, counting, completed, opens, earliest, span, tryStart, tryJob, visitOf, bare, searched}
 use Rattle.schedule.proofs.Runs.{length-starts}
 use Rattle.schedule.proofs.Tree.{Reached, starts-child, root-reached, child-reached}
-use Rattle.schedule.proofs.Gaps.{paidFrom, paidWhole, last-snoc, paid-snoc, plan-complete}
+use Rattle.schedule.proofs.Gaps.{paidFrom, last-snoc}
+use Rattle.schedule.proofs.Rounds as rounds
+use Rattle.schedule.proofs.Rounds.{idle, paidWhole, gap-free, since-place, paid-place, plan-complete}
 use Rattle.schedule.proofs.Floors.{floor-is}
 use Rattle.vertex.specs.Layout.{vertexOf}
 use Rattle.vertex.specs.Sums.{Holds, Stored}
-use Rattle.vertex.proofs.Charging.{end-now, paid-now, ends-long, paid-long, placed-settled, root-settled}
+use Rattle.vertex.proofs.Charging.{end-now, paid-now, first-now, ends-long, paid-long, firsts-long, placed-settled, root-settled}
 use Rattle.vertex.proofs.Cutting.{cut-visiting}
 use Rattle.visit.proofs.Order.{job-placed, job-open}
 use Rattle.vertex.proofs.Flags.{among, none-flagged, flag-more, over-flags, over-span}
@@ -44,8 +48,10 @@ pub record Same (R : Recorder) (v : Vertex) (w : doc.Vertex) : Type 0 where
   pub starts : v .starts ≡ padded 16 0 (doc.startsOf R w)
   pub eight : length (v .ends) ≡ 8
   pub eight-paid : length (v .paid) ≡ 8
+  pub eight-firsts : length (v .firsts) ≡ 8
   pub ends : (k : ℕ) → k < R .devices .count → endAt v k ≡ doc.lastEnd R k 0 (w .placed)
-  pub paid : (k : ℕ) → k < R .devices .count → paidAt v k ≡ paidFrom R k 0 (w .placed)
+  pub firsts : (k : ℕ) → k < R .devices .count → firstAt v k ≡ doc.since R k (w .placed)
+  pub paid : (k : ℕ) → k < R .devices .count → paidAt v k ≡ deep (device R k) * doc.since R k (w .placed) + rounds.paid R k (w .placed)
 
 unfoldable SameBest : Recorder → Best → Option (List ℕ) → Type 0
 SameBest R b none = b .found ≡ false
@@ -77,11 +83,38 @@ module _ (R : Recorder) (v : Vertex) (w : doc.Vertex) (same : Same R v w) where
       sum-same (R .devices .count) (floorAt R v) (λ k. doc.deviceFloor R k w)
       (λ k l. rw (same .ends k l, same .paid k l, ← same .unplaced, floor-is R k w (w .time) (reached .in-turn)))
 
+  -- A device at a complete vertex: without a use it has paid nothing yet; else the gap over the seam takes the place of what was charged before its first use.
+  close-same : (k : ℕ) → k < R .devices .count → closeAt R v k ≡ paidWhole R k (w .placed)
+  unfolding closeOf
+  close-same k l =
+      let d = device R k in
+      let e = doc.lastEnd R k 0 (w .placed) in
+      let a = doc.since R k (w .placed) in
+      let b = rounds.paid R k (w .placed) in
+      let most : deep d * a + b ≤ d .pw * e = rw (same .paid k l, same .ends k l) at (same .settled .cheap k l) in
+      let rest : (deep d * a + b) - deep d * a ≡ b = omega arith in
+      rw (same .ends k l, same .paid k l, same .firsts k l, rest)
+      (go (R .round) (eqb e 0) refl most)
+    where
+      go : (round z : Bool) → eqb (doc.lastEnd R k 0 (w .placed)) 0 ≡ z
+          → deep (device R k) * doc.since R k (w .placed) + rounds.paid R k (w .placed) ≤ device R k .pw * doc.lastEnd R k 0 (w .placed)
+          → cond (cond round z false)
+          (deep (device R k) * doc.since R k (w .placed) + rounds.paid R k (w .placed) + deep (device R k) * (R .horizon - doc.lastEnd R k 0 (w .placed)))
+          (rounds.paid R k (w .placed) + gapCost (device R k) (doc.since R k (w .placed) + (R .horizon - doc.lastEnd R k 0 (w .placed))))
+          ≡ cond (round && z) (deep (device R k) * R .horizon)
+          (rounds.paid R k (w .placed) + gapCost (device R k) (doc.since R k (w .placed) + (R .horizon - doc.lastEnd R k 0 (w .placed))))
+      go true true q m =
+          let none : doc.lastEnd R k 0 (w .placed) ≡ 0 = eqb-true (doc.lastEnd R k 0 (w .placed)) 0 q in
+          let free : device R k .pw * doc.lastEnd R k 0 (w .placed) ≡ 0 = rw none (omega arith) in
+          let all : R .horizon - doc.lastEnd R k 0 (w .placed) ≡ R .horizon = omega arith in
+          rw all (omega arith)
+      go true false q m = refl
+      go false z q m = refl
+
   closed-same : Valid R → Reached R 0 w → closed R v ≡ doc.planEnergy R (doc.startsOf R w)
-  unfolding closed closeOf
+  unfolding closed
   closed-same valid reached =
-      sum-same (R .devices .count) (closeAt R v) (λ k. paidWhole R k (w .placed)) (λ k l. rw (same .ends k l, same .paid k l))
-      ∙ sym (plan-complete R valid w reached)
+      sum-same (R .devices .count) (closeAt R v) (λ k. paidWhole R k (w .placed)) close-same ∙ sym (plan-complete R valid w reached)
 
 -- ---- the best
 
@@ -133,29 +166,77 @@ unfolding padded
 padded-set s j x l = rw (length-set, set-append-left s (replicate (16 - length s) 0) j x l)
 
 module _
-    (R : Recorder) (valid : Valid R) (v : Vertex) (w : doc.Vertex) (same : Same R v w)
+    (R : Recorder) (valid : Valid R) (m : ℕ) (v : Vertex) (w : doc.Vertex) (same : Same R v w) (reached : Reached R m w)
     (j x : ℕ) (l : j < jobs R) (free : flagged (v .placed) j ≡ false) (after : w .time ≤ x) (fits : x + run R j ≤ deadline R j) where
   next-ends : (k : ℕ) → k < R .devices .count → endAt (placeAt R v j x) k ≡ doc.lastEnd R k 0 (w .placed ++ place j x ∷ [])
   unfolding endStep
-  next-ends k h = end-now R valid v (same .eight) (same .eight-paid) j x k h ∙ rw (same .ends k h, last-snoc R k (w .placed) (place j x))
+  next-ends k h = end-now R valid v (same .eight) (same .eight-paid) (same .eight-firsts) j x k h ∙ rw (same .ends k h, last-snoc R k (w .placed) (place j x))
 
-  next-paid : (k : ℕ) → k < R .devices .count → paidAt (placeAt R v j x) k ≡ paidFrom R k 0 (w .placed ++ place j x ∷ [])
-  unfolding paidStep
+  -- A first use in a round is tested alike.
+  test-same : (round z : Bool) → cond round z false ≡ (round && z)
+  test-same true z = refl
+  test-same false z = refl
+
+  next-firsts : (k : ℕ) → k < R .devices .count → firstAt (placeAt R v j x) k ≡ doc.since R k (w .placed ++ place j x ∷ [])
+  unfolding firstStep
+  next-firsts k h =
+      first-now R valid v (same .eight) (same .eight-paid) (same .eight-firsts) j x k h
+      ∙ rw (same .ends k h, same .firsts k h, since-place R k (w .placed) (place j x) (w .time) (reached .in-turn), test-same (R .round) (eqb (doc.lastEnd R k 0 (w .placed)) 0))
+      (either (uses R k j) (idle R k (w .placed)))
+    where
+      either : (u z : Bool) → cond u (cond z x (doc.since R k (w .placed))) (doc.since R k (w .placed)) ≡ cond (u && z) x (doc.since R k (w .placed))
+      either true z = refl
+      either false z = refl
+
+  -- What is charged before a first use is what the floor has for it; before another it is the gap.
+  next-paid : (k : ℕ) → k < R .devices .count
+      → paidAt (placeAt R v j x) k ≡ deep (device R k) * doc.since R k (w .placed ++ place j x ∷ []) + rounds.paid R k (w .placed ++ place j x ∷ [])
+  unfolding paidStep leadOf
   next-paid k h =
-      paid-now R valid v (same .eight) (same .eight-paid) j x k h ∙ rw (same .ends k h, same .paid k h, paid-snoc R k (w .placed) (place j x))
+      let e = doc.lastEnd R k 0 (w .placed) in
+      paid-now R valid v (same .eight) (same .eight-paid) (same .eight-firsts) j x k h
+      ∙ rw (
+        same .ends k h,
+        same .paid k h,
+        paid-place R k (w .placed) (place j x) (w .time) (reached .in-turn),
+        since-place R k (w .placed) (place j x) (w .time) (reached .in-turn),
+        test-same (R .round) (eqb e 0),
+      )
+      (either (uses R k j) (idle R k (w .placed)) idle-since)
+    where
+      both : (a c : Bool) → (a && c) ≡ true → c ≡ true
+      both true c q = q
+      both false c q = absurd (true≢false (sym q))
+
+      idle-since : idle R k (w .placed) ≡ true → doc.since R k (w .placed) ≡ 0
+      idle-since q =
+          let none : doc.lastEnd R k 0 (w .placed) ≡ 0 = eqb-true (doc.lastEnd R k 0 (w .placed)) 0 (both (R .round) _ q) in
+          omega (arith, none, same .firsts k h, same .ends k h, same .settled .begun k h)
+
+      either : (u z : Bool) → (z ≡ true → doc.since R k (w .placed) ≡ 0)
+          → cond u (deep (device R k) * doc.since R k (w .placed) + rounds.paid R k (w .placed)
+          + (cond z (deep (device R k) * x) (gapCost (device R k) (x - doc.lastEnd R k 0 (w .placed))) + device R k .pw * run R j))
+          (deep (device R k) * doc.since R k (w .placed) + rounds.paid R k (w .placed))
+          ≡ deep (device R k) * cond (u && z) x (doc.since R k (w .placed))
+          + cond u (rounds.paid R k (w .placed) + (gapCost (device R k) (cond z 0 (x - doc.lastEnd R k 0 (w .placed))) + device R k .pw * run R j)) (rounds.paid R k (w .placed))
+      either true true q = rw (q refl, gap-free (device R k)) (omega arith)
+      either true false q = omega arith
+      either false z q = refl
 
   child-same : Same R (placeAt R v j x) (doc.child R w j x)
   child-same =
       record {
         settled =
-            placed-settled R valid v (same .eight) (same .eight-paid) j x (same .settled) (omega (arith, same .time)) (omega (arith, valid .ends j l));
+            placed-settled R valid v (same .eight) (same .eight-paid) (same .eight-firsts) j x (same .settled) (omega (arith, same .time)) (omega (arith, valid .ends j l));
         time = refl;
         flags = rw length-set (same .flags);
         unplaced = rw (same .unplaced, flag-more (v .placed) j (jobs R) (omega (arith, same .flags, valid .few-jobs)) l free);
         starts = rw (same .starts, starts-child R w j x) (padded-set (doc.startsOf R w) j x (rw (length-starts R (w .placed)) l));
-        eight = ends-long R valid v (same .eight) (same .eight-paid) j x;
-        eight-paid = paid-long R valid v (same .eight) (same .eight-paid) j x;
+        eight = ends-long R valid v (same .eight) (same .eight-paid) (same .eight-firsts) j x;
+        eight-paid = paid-long R valid v (same .eight) (same .eight-paid) (same .eight-firsts) j x;
+        eight-firsts = firsts-long R valid v (same .eight) (same .eight-paid) (same .eight-firsts) j x;
         ends = next-ends;
+        firsts = next-firsts;
         paid = next-paid;
       }
 
@@ -230,7 +311,7 @@ module _ (R : Recorder) (valid : Valid R) (m : ℕ) (v : Vertex) (w : doc.Vertex
       (λ k i a b g.
       let x = doc.earliest R (w .time) j + k in
       subst (λ (s : ℕ). SameTally R (visitOf R m (placeAt R v j (s + k)) a) (doc.visit R m (doc.child R w j x) b)) (sym (earliest-same j))
-      (visits (placeAt R v j x) (doc.child R w j x) (child-same R valid v w same j x l free (omega arith) (omega arith))
+      (visits (placeAt R v j x) (doc.child R w j x) (child-same R valid (suc m) v w same reached j x l free (omega arith) (omega arith))
       (child-reached R valid m w reached j x (rw (same .unplaced) (among (v .placed) (jobs R) j l free)) (omega arith, omega arith)) a b g))
       t st h)
 
@@ -261,8 +342,16 @@ root-starts : (n : ℕ) → n ≤ 16 → _≡_ {A = List ℕ} (replicate 16 0) (
 unfolding padded
 root-starts n l = let e : n + (16 - n) ≡ 16 = omega arith in rw (length-replicate, replicate-append-replicate, e)
 
+root-since : (R : Recorder) (k : ℕ) → doc.since R k [] ≡ 0
+unfolding doc.since doc.firstStart
+root-since R k = test-cases (λ (b : Bool). _≡_ {A = ℕ} (cond b 0 0) 0) (R .round) (λ q. refl) (λ q. refl)
+
+root-paid : (R : Recorder) (k : ℕ) → deep (device R k) * doc.since R k [] + rounds.paid R k [] ≡ 0
+unfolding paidFrom
+root-paid R k = rw (root-since R k) (omega arith)
+
 root-same : (R : Recorder) → Valid R → Same R root (doc.root R)
-unfolding padded doc.written doc.lastEnd paidFrom
+unfolding padded doc.written doc.lastEnd
 root-same R valid =
     record {
       settled = root-settled R;
@@ -272,8 +361,10 @@ root-same R valid =
       starts = root-starts (jobs R) (valid .few-jobs);
       eight = refl;
       eight-paid = refl;
+      eight-firsts = refl;
       ends = λ k l. getD-padded 8 0 [] k;
-      paid = λ k l. getD-padded 8 0 [] k;
+      firsts = λ k l. getD-padded 8 0 [] k ∙ sym (root-since R k);
+      paid = λ k l. getD-padded 8 0 [] k ∙ sym (root-paid R k);
     }
 
 module _ (R : Recorder) (valid : Valid R) where

@@ -70,7 +70,14 @@ unfolding vertexOf
 holds-later R l t s h a b =
     record {
       long = h .long;
-      settled = record { within = b; ended = λ k i. omega (arith, h .settled .ended k i); cheap = h .settled .cheap };
+      settled = record {
+        within = b;
+        ended = λ k i. omega (arith, h .settled .ended k i);
+        cheap = h .settled .cheap;
+        begun = h .settled .begun;
+        front = h .settled .front;
+        later = h .settled .later;
+      };
       ticks = h .ticks;
     }
 

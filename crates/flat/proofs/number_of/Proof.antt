@@ -1,7 +1,7 @@
 -- `flat::number_of` meets its contract.
 -- Assumes nothing.
 use borrow.Author.Needs.{needs}
-use borrow.Author.Tests.{lt-ltb, le-ltb, eq-eqb, ne-eqb}
+use borrow.Author.Tests.{lt-ltb, le-ltb}
 use Rattle.flat.specs.Flat.{numberOf}
 use Rattle.flat.proofs.number_of.Statement.{statement}
 use Rattle.flat.proofs.number_of.Tie as tie
@@ -38,27 +38,12 @@ returns-3 : tie.Need-returns-3
 unfolding numberOf
 returns-3 c = simp (le-ltb _ _ (c .before .before .if1 .left), lt-ltb _ _ (c .before .if2 .taken), le-ltb _ _ (c .if3 .left))
 
+own-number-requires : tie.Need-own-number-requires
+own-number-requires c κs = search needs
+
 returns-4 : tie.Need-returns-4
 unfolding numberOf
-returns-4 c = simp (le-ltb _ _ (c .before .before .if1 .left), le-ltb _ _ (c .before .if2 .left), eq-eqb _ _ (c .if4 .taken))
-
-cast-result : tie.Need-cast-result
-cast-result c = search needs
-
-returns-5 : tie.Need-returns-5
-unfolding numberOf
-returns-5 c =
-    let t = c .before .before in
-    simp (le-ltb _ _ (t .before .before .if1 .left), le-ltb _ _ (t .before .if2 .left), ne-eqb _ _ (t .if4 .left), eq-eqb _ _ (c .before .if5 .taken))
-
-cast-result-2 : tie.Need-cast-result-2
-cast-result-2 c = search needs
-
-returns-6 : tie.Need-returns-6
-unfolding numberOf
-returns-6 c =
-    let t = c .before .before in
-    simp (le-ltb _ _ (t .before .before .if1 .left), le-ltb _ _ (t .before .if2 .left), ne-eqb _ _ (t .if4 .left), ne-eqb _ _ (c .before .if5 .left))
+returns-4 c = simp (le-ltb _ _ (c .before .before .if1 .left), le-ltb _ _ (c .before .if2 .left)) (c .own-number .ensures)
 
 pub number-of-spec : {M : Type 1} → statement M
 number-of-spec =
@@ -73,8 +58,5 @@ number-of-spec =
     device-number-requires
     returns-2
     returns-3
-    returns-4
-    cast-result
-    returns-5
-    cast-result-2
-    returns-6)
+    own-number-requires
+    returns-4)

@@ -1,64 +1,57 @@
 -- `vertex::floors::next_floor` meets its contract.
 -- Assumes nothing.
-use mathlib.Core.Path.{_≡_, _∙_}
-use Prim.Native.Nat.{ℕ, _+_, _-_, _*_, _≤_, _<_}
+use mathlib.Core.Path.{_≡_}
+use Prim.Native.Nat.{ℕ, _+_, _*_, _≤_}
 use native.Mathlib.Omega.{arith}
 use borrow.Author.Needs.{needs}
-use Rattle.device.specs.Row.{gapCost}
 use Rattle.schedule.specs.Quantities.{device}
 use Rattle.flat.specs.Flat.{recorderOf}
 use Rattle.vertex.specs.Vertices.{floorOf}
 use Rattle.vertex.specs.Layout.{nextFloor}
-use Rattle.vertex.proofs.Charging.{product-fits, gap-cheap}
+use Rattle.vertex.proofs.Charging.{product-fits, lead-cheap}
 use Rattle.vertex.proofs.floors.next_floor.Statement.{statement}
 use Rattle.vertex.proofs.floors.next_floor.Tie as tie
 
 work-power-requires : tie.Need-work-power-requires
-work-power-requires c κs = omega (arith, c .pre .0 .valid .few-devices)
+work-power-requires c κs = omega (arith, c .pre .1 .0, c .pre .0 .valid .few-devices)
 
 deep-power-requires : tie.Need-deep-power-requires
-deep-power-requires c κs = (omega (arith, c .before .pre .0 .valid .few-devices), c .before .pre .0 .valid .sound (c .before .args .k) (c .before .pre .1 .0))
+deep-power-requires c κs = let s = c .before in (omega (arith, s .pre .1 .0, s .pre .0 .valid .few-devices), s .pre .0 .valid .sound (s .args .k) (s .pre .1 .0))
 
-sub-gap-cost : tie.Need-sub-gap-cost
-sub-gap-cost c = search needs
+is-unused-requires : tie.Need-is-unused-requires
+is-unused-requires c κs = search needs
 
-gap-cost-requires : tie.Need-gap-cost-requires
-gap-cost-requires c κs =
-    let s = c .before .before .before in
-    (omega (arith, s .pre .0 .valid .few-devices), omega (arith, s .pre .1, s .pre .0 .valid .few-ticks))
-
--- The gap's number is its cost,
-gap-is : (c : tie.After-gap-cost) → let s = c .before .before .before .before in
-    c .gap-cost .result ≡ gapCost (device (recorderOf (s .args .r .now)) (s .args .k)) (s .args .s - s .args .end)
-gap-is c =
+lead-of-requires : tie.Need-lead-of-requires
+lead-of-requires c κs =
     let s = c .before .before .before .before in
-    c .gap-cost .ensures ∙ s .pre .0 .costs (s .args .k) (s .args .s - s .args .end) (s .pre .1 .0) (omega (arith, s .pre .1))
+    (s .pre .0, (s .pre .1 .0, (s .pre .1 .1 .1 .0, omega (arith, s .pre .1))))
 
--- with which the device has still cost no more than work throughout.
-with-gap : (c : tie.After-gap-cost) → let s = c .before .before .before .before in
-    s .args .paid + c .gap-cost .result ≤ c .before .before .before .work-power .result * s .args .s
-with-gap c =
-    let w = c .before .before .before in
+-- With what is charged before the job, what the device has cost stays below work throughout.
+with-lead : (c : tie.After-lead-of) → let s = c .before .before .before .before .before in
+    s .args .paid + c .lead-of .result ≤ c .before .before .before .before .work-power .result * s .args .s
+with-lead c =
+    let w = c .before .before .before .before in
     let s = w .before in
-    let d = device (recorderOf (s .args .r .now)) (s .args .k) in
-    rw (w .work-power .ensures, gap-is c) (gap-cheap d (s .args .paid) (s .args .end) (s .args .s) (s .pre .1 .1 .0) (s .pre .1 .1 .1 .0))
+    let a = s .args in
+    rw (w .work-power .ensures, c .lead-of .ensures, c .before .is-unused .ensures)
+    (lead-cheap (a .round) (device (recorderOf (a .r .now)) (a .k)) (s .pre .0 .valid .sound (a .k) (s .pre .1 .0)) (a .paid) (a .end) (a .s) (s .pre .1 .1 .0) (s .pre .1 .1 .1 .0))
 
 add-device-floor : tie.Need-add-device-floor
 add-device-floor c =
-    let s = c .before .before .before .before in
-    record { fits = omega (arith, with-gap c, product-fits (c .before .before .before .work-power .result) (s .args .s) (omega arith) (omega (arith, s .pre .1, s .pre .0 .valid .few-ticks))) }
+    let s = c .before .before .before .before .before in
+    record { fits = omega (arith, with-lead c, product-fits (c .before .before .before .before .work-power .result) (s .args .s) (omega arith) (omega (arith, s .pre .1, s .pre .0 .valid .few-ticks))) }
 
 device-floor-requires : tie.Need-device-floor-requires
 device-floor-requires c κs =
-    let s = c .before .before .before .before in
-    (with-gap c, (s .pre .1 .1 .1 .1 .0, omega (arith, s .pre .1, s .pre .0 .valid .few-ticks)))
+    let s = c .before .before .before .before .before in
+    (with-lead c, (s .pre .1 .1 .1 .1 .0, omega (arith, s .pre .1, s .pre .0 .valid .few-ticks)))
 
 returns : tie.Need-returns
 unfolding nextFloor floorOf
 returns c =
-    let w = c .before .before .before .before in
-    let made = rw (w .work-power .ensures, c .before .before .before .deep-power .ensures, gap-is (c .before)) at (c .device-floor .ensures .0) in
-    (simp (c .before .before .if1 .taken) made, c .device-floor .ensures .1)
+    let w = c .before .before .before .before .before in
+    let made = rw (w .work-power .ensures, c .before .before .before .before .deep-power .ensures, c .before .lead-of .ensures, c .before .before .is-unused .ensures) at (c .device-floor .ensures .0) in
+    (simp (c .before .before .before .if1 .taken) made, c .device-floor .ensures .1)
 
 device-floor-requires-2 : tie.Need-device-floor-requires-2
 device-floor-requires-2 c κs =
@@ -77,8 +70,8 @@ next-floor-spec =
     (tie.spec
     work-power-requires
     deep-power-requires
-    sub-gap-cost
-    gap-cost-requires
+    is-unused-requires
+    lead-of-requires
     add-device-floor
     device-floor-requires
     returns

@@ -1,15 +1,15 @@
 -- `vertex::placing::charge` meets its contract.
 -- Assumes nothing.
-use mathlib.Core.Path.{_≡_, _∙_}
-use Prim.Native.Nat.{ℕ, _+_, _-_, _*_, _<_, _≤_}
+use mathlib.Core.Path.{_≡_, sym}
+use Prim.Native.Nat.{ℕ, _+_, _*_, _≤_, _<_}
 use native.Mathlib.Omega.{arith}
+use borrow.Author.Needs.{needs}
 use lib.ListN.{getD}
-use Rattle.device.specs.Row.{gapCost}
 use Rattle.schedule.specs.Quantities.{device}
 use Rattle.flat.specs.Flat.{recorderOf}
-use Rattle.vertex.proofs.Charging.{product-fits, gap-cheap}
+use Rattle.vertex.specs.Vertices.{unused, leadOf}
 use Rattle.vertex.specs.Layout.{put}
-use borrow.Author.Needs.{needs}
+use Rattle.vertex.proofs.Charging.{product-fits, lead-cheap}
 use Rattle.vertex.proofs.placing.charge.Statement.{statement}
 use Rattle.vertex.proofs.placing.charge.Tie as tie
 
@@ -37,44 +37,50 @@ mul-ahead c = search needs
 element-copy-out-ahead : tie.Need-element-copy-out-ahead
 element-copy-out-ahead c = search needs
 
-sub-gap-cost : tie.Need-sub-gap-cost
-sub-gap-cost c = search needs
+is-unused-requires : tie.Need-is-unused-requires
+is-unused-requires c κs = search needs
 
-gap-cost-requires : tie.Need-gap-cost-requires
-gap-cost-requires c κs =
-    let s = c .before .before .before in
-    (omega (arith, s .pre .0 .valid .few-devices), omega (arith, s .pre .1, s .pre .0 .valid .few-ticks))
+lead-of-requires : tie.Need-lead-of-requires
+lead-of-requires c κs =
+    let s = c .before .before .before .before in
+    (s .pre .0, (s .pre .1 .0, (s .pre .1 .1 .1 .0, omega (arith, s .pre .1))))
+
+add-first-of : tie.Need-add-first-of
+add-first-of c = search needs
+
+mul-first-of : tie.Need-mul-first-of
+mul-first-of c = search needs
+
+element-copy-out-first-of : tie.Need-element-copy-out-first-of
+element-copy-out-first-of c = search needs
+
+first-of-requires : tie.Need-first-of-requires
+first-of-requires c κs = search needs
 
 work-power-requires : tie.Need-work-power-requires
-work-power-requires c κs =
-    let s = c .before .before .before .before in
-    omega (arith, s .pre .0 .valid .few-devices)
+work-power-requires c κs = let s = c .before .before .before .before .before .before .before in omega (arith, s .pre .1 .0, s .pre .0 .valid .few-devices)
 
 wide-requires : tie.Need-wide-requires
 wide-requires c κs = search needs
 
--- The gap's number is its cost.
-gap-is : (c : tie.After-gap-cost) → let s = c .before .before .before .before in
-    c .gap-cost .result ≡ gapCost (device (recorderOf (s .args .r .now)) (s .args .k)) (s .args .s - getD (s .args .w .now) (s .args .k) 0)
-gap-is c =
-    let s = c .before .before .before .before in
-    c .gap-cost .ensures ∙ s .pre .0 .costs (s .args .k) (s .args .s - getD (s .args .w .now) (s .args .k) 0) (s .pre .1 .0) (omega (arith, s .pre .1))
-
--- The cost with the gap before the job, and with the job's own ticks.
+-- The cost with what is charged before the job, and with the job's own ticks.
 most :
-    (c : tie.After-wide) → let a = c .before .before .before .before .before .before .args in
-    getD (a .w .now) (8 + a .k) 0 + (c .before .before .gap-cost .result + c .wide .result * a .c) < 4294967296
+    (c : tie.After-wide) → let a = c .before .before .before .before .before .before .before .before .before .args in
+    getD (a .w .now) (8 + a .k) 0 + (c .before .before .before .before .lead-of .result + c .wide .result * a .c) < 4294967296
 most c =
-    let s = c .before .before .before .before .before .before in
+    let s = c .before .before .before .before .before .before .before .before .before in
     let a = s .args in
     let d = device (recorderOf (a .r .now)) (a .k) in
-    let ticks : a .s ≤ 4096 = omega (arith, s .pre .1, s .pre .0 .valid .few-ticks) in
+    let end = getD (a .w .now) (a .k) 0 in
+    let lead : c .before .before .before .before .lead-of .result ≡ leadOf (unused (a .round) end) d end (a .s)
+    = rw (c .before .before .before .before .before .is-unused .ensures) at (c .before .before .before .before .lead-of .ensures) in
+    let ticks : a .s + a .c ≤ 4096 = omega (arith, s .pre .1, s .pre .0 .valid .few-ticks) in
     omega (
       arith,
-      product-fits (c .wide .result) (a .c) (omega arith) (omega (arith, s .pre .1, s .pre .0 .valid .few-ticks)),
-      gap-is (c .before .before),
-      gap-cheap d (getD (a .w .now) (8 + a .k) 0) (getD (a .w .now) (a .k) 0) (a .s) (s .pre .1 .1 .0) (s .pre .1 .1 .1 .0),
-      product-fits (d .pw) (a .s) (s .pre .0 .narrow (a .k) (s .pre .1 .0)) ticks,
+      lead,
+      product-fits (c .wide .result) (a .c) (omega arith) (omega arith),
+      lead-cheap (a .round) d (s .pre .0 .valid .sound (a .k) (s .pre .1 .0)) (getD (a .w .now) (8 + a .k) 0) end (a .s) (s .pre .1 .1 .0) (s .pre .1 .1 .1 .0),
+      product-fits (d .pw) (a .s) (s .pre .0 .narrow (a .k) (s .pre .1 .0)) (omega arith),
     )
 
 mul-w : tie.Need-mul-w
@@ -116,9 +122,25 @@ mul-w-4 c = search needs
 element-write-w-3 : tie.Need-element-write-w-3
 element-write-w-3 c = search needs
 
+add-w-6 : tie.Need-add-w-6
+add-w-6 c = search needs
+
+mul-w-5 : tie.Need-mul-w-5
+mul-w-5 c = search needs
+
+element-write-w-4 : tie.Need-element-write-w-4
+element-write-w-4 c = search needs
+
 returns : tie.Need-returns
 unfolding put
-returns c = rw (gap-is (c .before .before), c .wide .ensures .0, c .before .work-power .ensures)
+returns c =
+    rw (
+      c .before .before .before .before .lead-of .ensures,
+      c .before .before .first-of .ensures,
+      c .before .before .before .before .before .is-unused .ensures,
+      c .wide .ensures .0,
+      c .before .work-power .ensures,
+    )
 
 pub charge-spec : {M : Type 1} → statement M
 charge-spec =
@@ -132,8 +154,12 @@ charge-spec =
     add-ahead
     mul-ahead
     element-copy-out-ahead
-    sub-gap-cost
-    gap-cost-requires
+    is-unused-requires
+    lead-of-requires
+    add-first-of
+    mul-first-of
+    element-copy-out-first-of
+    first-of-requires
     work-power-requires
     wide-requires
     mul-w
@@ -149,4 +175,7 @@ charge-spec =
     add-w-5
     mul-w-4
     element-write-w-3
+    add-w-6
+    mul-w-5
+    element-write-w-4
     returns)

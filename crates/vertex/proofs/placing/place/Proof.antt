@@ -13,10 +13,10 @@ use Rattle.vertex.proofs.placing.place.Statement.{statement}
 use Rattle.vertex.proofs.placing.place.Tie as tie
 
 abbrev Inv-loop : tie.InvT-loop
-Inv-loop r costs w₀ j s c m k₀ w k = (k ≤ m) × (m ≤ 8) × Put (recorderOf r) (j .0) s w₀ k w
+Inv-loop r costs w₀ j s c round m k₀ w k = (k ≤ m) × (m ≤ 8) × Put (recorderOf r) (j .0) s w₀ k w
 
 abbrev μ-loop : tie.MeasureT-loop
-μ-loop r costs w₀ j s c m k₀ w k = m - k
+μ-loop r costs w₀ j s c round m k₀ w k = m - k
 
 run-of-requires : tie.Need-run-of-requires Inv-loop μ-loop
 run-of-requires c κs = omega (arith, c .pre .1 .1 .known, c .pre .0 .valid .few-jobs)
@@ -24,26 +24,31 @@ run-of-requires c κs = omega (arith, c .pre .1 .1 .known, c .pre .0 .valid .few
 wide-requires : tie.Need-wide-requires Inv-loop μ-loop
 wide-requires c κs = search needs
 
+is-round-requires : tie.Need-is-round-requires Inv-loop μ-loop
+is-round-requires c κs = search needs
+
 device-count-requires : tie.Need-device-count-requires Inv-loop μ-loop
 device-count-requires c κs = search needs
 
 mark-requires : tie.Need-mark-requires Inv-loop μ-loop
-mark-requires c κs = few-job _ (c .before .before .before .before .pre .0 .valid) _ _ _ (c .before .before .before .before .pre .1 .0) (c .before .before .before .before .pre .1 .1)
+mark-requires c κs = let s = c .before .before .before .before .before in few-job _ (s .pre .0 .valid) _ _ _ (s .pre .1 .0) (s .pre .1 .1)
 
 loop-holds : tie.Need-loop-holds Inv-loop μ-loop
-loop-holds c = (omega arith, omega (arith, c .before .before .device-count .ensures, c .before .before .before .before .before .pre .0 .valid .few-devices), put-none _ _ _ _ (rw (c .mark .ensures) (base-long _ (c .before .before .before .before .before .pre .0 .valid) _ _ _ (c .before .before .before .before .before .pre .1 .0) (c .before .before .before .before .before .pre .1 .1))))
+loop-holds c =
+    let s = c .before .before .before .before .before .before in
+    (omega arith, omega (arith, c .before .before .device-count .ensures, s .pre .0 .valid .few-devices), put-none _ _ _ _ (rw (c .mark .ensures) (base-long _ (s .pre .0 .valid) _ _ _ (s .pre .1 .0) (s .pre .1 .1))))
 
 is-used-requires : tie.Need-is-used-requires Inv-loop μ-loop
-is-used-requires c κs = (omega arith, few-job _ (c .before .before .before .before .before .before .before .pre .0 .valid) _ _ _ (c .before .before .before .before .before .before .before .pre .1 .0) (c .before .before .before .before .before .before .before .pre .1 .1))
+is-used-requires c κs = let s = c .before .before .before .before .before .before .before .before in (omega arith, few-job _ (s .pre .0 .valid) _ _ _ (s .pre .1 .0) (s .pre .1 .1))
 
 charge-requires : tie.Need-charge-requires Inv-loop μ-loop
 charge-requires c κs =
-    let l = c .before .before .before .before in
-    let start = l .before .before .before .before .before .before in
+    let start = c .before .before .before .before .before .before .before .before .before .before .before in
     let R = recorderOf (start .args .r .now) in
-    let made : Put R (start .args .j .0) (start .args .s) (marked (start .args .j .0) (start .args .s) (start .args .w .now)) (l .loop .k) (l .loop .w) = subst (λ (b : List ℕ). Put R (start .args .j .0) (start .args .s) b (l .loop .k) (l .loop .w)) (l .before .mark .ensures) (l .loop .inv .2) in
-    let few : l .loop .k < R .devices .count = omega (arith, c .before .before .before .loop-test .taken, l .before .before .before .device-count .ensures) in
-    rw (l .before .before .before .before .wide .ensures .0, l .before .before .before .before .before .run-of .ensures)
+    let l = c .before .before .before .before .loop in
+    let made : Put R (start .args .j .0) (start .args .s) (marked (start .args .j .0) (start .args .s) (start .args .w .now)) (l .k) (l .w) = subst (λ (b : List ℕ). Put R (start .args .j .0) (start .args .s) b (l .k) (l .w)) (c .before .before .before .before .before .mark .ensures) (l .inv .2) in
+    let few : l .k < R .devices .count = omega (arith, c .before .before .before .loop-test .taken, c .before .before .before .before .before .before .before .device-count .ensures) in
+    rw (c .before .before .before .before .before .before .before .before .before .wide .ensures .0, c .before .before .before .before .before .before .before .before .before .before .run-of .ensures)
     (start .pre .0, (few, may-charge R (start .pre .0 .valid) _ _ _ (start .pre .1 .0) (start .pre .1 .1) _ _ few made (sym (c .before .before .is-used .ensures) ∙ c .before .if1 .taken)))
 
 add-k : tie.Need-add-k Inv-loop μ-loop
@@ -53,11 +58,18 @@ loop-less : tie.Need-loop-less Inv-loop μ-loop
 loop-less c = omega arith
 
 loop-again : tie.Need-loop-again Inv-loop μ-loop
-loop-again c = ⊎-elim (λ x. (omega arith, c .before .before .before .loop .inv .1, subst (Put _ _ _ _ _) (sym (x .3 ∙ put-as _ _ _ _ _ _ _ (c .before .before .before .before .before .before .before .wide .ensures .0 ∙ c .before .before .before .before .before .before .before .before .run-of .ensures) (x .2 .ensures))) (put-used _ _ _ _ _ _ (omega arith) (c .before .before .before .loop .inv .2) (sym (c .before .is-used .ensures) ∙ x .0 .taken)))) (λ x. (omega arith, c .before .before .before .loop .inv .1, subst (Put _ _ _ _ _) (sym (x .1)) (put-unused _ _ _ _ _ _ (omega arith) (c .before .before .before .loop .inv .2) (sym (c .before .is-used .ensures) ∙ x .0 .left)))) (c .if1 .came)
+loop-again c =
+    let l = c .before .before .before .loop in
+    let round = c .before .before .before .before .before .before .before .is-round .ensures in
+    let ticks = c .before .before .before .before .before .before .before .before .wide .ensures .0 ∙ c .before .before .before .before .before .before .before .before .before .run-of .ensures in
+    ⊎-elim
+    (λ x. (omega arith, l .inv .1, subst (Put _ _ _ _ _) (sym (x .3 ∙ put-as _ _ _ _ _ _ _ _ _ round ticks (x .2 .ensures))) (put-used _ _ _ _ _ _ (omega arith) (l .inv .2) (sym (c .before .is-used .ensures) ∙ x .0 .taken))))
+    (λ x. (omega arith, l .inv .1, subst (Put _ _ _ _ _) (sym (x .1)) (put-unused _ _ _ _ _ _ (omega arith) (l .inv .2) (sym (c .before .is-used .ensures) ∙ x .0 .left))))
+    (c .if1 .came)
 
 returns : tie.Need-returns Inv-loop μ-loop
 returns c =
-    let start = c .before .before .before .before .before .before .before in
+    let start = c .before .before .before .before .before .before .before .before in
     let R = recorderOf (start .args .r .now) in
     let l = c .before .loop in
     let all : l .k ≡ R .devices .count = omega (arith, c .before .before .before .before .device-count .ensures) in
@@ -72,6 +84,7 @@ place-spec =
     μ-loop
     run-of-requires
     wide-requires
+    is-round-requires
     device-count-requires
     mark-requires
     loop-holds
