@@ -8,7 +8,7 @@ use mathlib.Core.Logic.{⊎-elim}
 use Prim.Native.Nat.{ℕ, _+_, _*_, _<_, _≤_}
 use native.Mathlib.Omega.{arith}
 use native.Mathlib.Nat.{eq-zero-or-pos}
-use lib.Dec.{eqb, leb}
+use lib.Dec.{eqb, leb, ltb}
 use borrow.Author.Tests.{eq-eqb, eqb-true}
 use Rattle.base.specs.Bytes.{byteAt, pairAt}
 use Rattle.base.specs.Lists.{upTo}
@@ -21,7 +21,7 @@ use Rattle.tables.specs.declared.Kind.{Kind}
 use Rattle.tables.specs.declared.Kind.the-variants.{First, Second}
 use Rattle.tables.specs.Records.{averaged, firstAt, secondAt, deviceAt, jobAt}
 use Rattle.tables.specs.Layout.{kindOf, bodyOf, devicePlace, tasksPlace, taskCount, jobsPlace}
-use Rattle.request.specs.Format.{accepted, deviceOf, listedJob, deviceTable, horizonOf, horizonIn, devicesIn, unfolded, jobsOf, jobsIn, listed, recorderAs, readAs, readOf}
+use Rattle.request.specs.Format.{accepted, deviceOf, listedJob, deviceTable, horizonOf, horizonIn, devicesIn, unfolded, jobsOf, jobsIn, listed, recorderAs, readAs, readOf, roundIn}
 use Rattle.request.proofs.Faultless.{faultless, tasks-alone}
 use Rattle.request.proofs.Accepted.{accepted-as}
 use Rattle.request.proofs.Beyond.{SameTasks, horizon-same, unfolded-same}
@@ -90,6 +90,9 @@ module _ (k : Kind) (s : List ℕ) (k′ : Kind) (s′ : List ℕ) (e : Equal k 
       horizon-same s s′ (taskCount k s) (tasksPlace k s + 1) (tasksPlace k′ s′ + 1) (e .field) (e .same-tasks)
       ∙ ap (λ (n : ℕ). horizonOf s′ n (tasksPlace k′ s′ + 1)) (e .tasks)
 
+  one-round : roundIn k s ≡ roundIn k′ s′
+  one-round = ap (ltb 0) (e .tasks)
+
   one-list : devicesIn k s ≡ devicesIn k′ s′
   one-list =
       upTo-same _ (λ i. deviceOf (deviceAt k′ s′ (devicePlace k′ s′ i))) (byteAt s 2) (λ i l. ap deviceOf (e .same-devices i l))
@@ -112,4 +115,4 @@ module _ (k : Kind) (s : List ℕ) (k′ : Kind) (s′ : List ℕ) (e : Equal k 
 
   pub one-recorder : recorderAs k s ≡ recorderAs k′ s′
   unfolding recorderAs
-  one-recorder = rw (one-horizon, one-list, one-jobs)
+  one-recorder = rw (one-horizon, one-round, one-list, one-jobs)

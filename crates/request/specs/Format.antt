@@ -182,6 +182,10 @@ faultAs k s =
 abbrev pub horizonIn : Kind → List ℕ → ℕ
 horizonIn k s = horizonOf s (taskCount k s) (tasksPlace k s + 1)
 
+-- A request with tasks is a round that is repeated for ever; one without is a list, though it may name no job (rule 85).
+abbrev pub roundIn : Kind → List ℕ → Bool
+roundIn k s = ltb 0 (taskCount k s)
+
 abbrev pub devicesIn : Kind → List ℕ → List Device
 devicesIn k s = upTo (λ i. deviceOf (deviceAt k s (devicePlace k s i))) (byteAt s 2)
 
@@ -202,7 +206,7 @@ abbrev pub jobsHeld : List Job → Jobs
 jobsHeld l = record { count = length l; list = padded 16 emptyJob l }
 
 unfoldable pub recorderAs : Kind → List ℕ → Recorder
-recorderAs k s = record { horizon = horizonIn k s; devices = devicesHeld (devicesIn k s); jobs = jobsHeld (jobsIn k s) }
+recorderAs k s = record { horizon = horizonIn k s; round = roundIn k s; devices = devicesHeld (devicesIn k s); jobs = jobsHeld (jobsIn k s) }
 
 -- The reading of a kind, and that of a file: by its own kind (rule 75).
 unfoldable pub readAs : Kind → List ℕ → Reading
@@ -216,7 +220,7 @@ readOf s = readAs (kindOf s) (bodyOf s)
 
 -- What the code hands on of a reading: its number, with the recorder or an empty one.
 abbrev pub noRecorder : Recorder
-noRecorder = record { horizon = 0; devices = devicesHeld []; jobs = jobsHeld [] }
+noRecorder = record { horizon = 0; round = false; devices = devicesHeld []; jobs = jobsHeld [] }
 
 unfoldable pub handedOn : Reading → Request
 handedOn (refused n) = record { number = n; recorder = noRecorder }

@@ -63,6 +63,7 @@ pub(crate) fn recorder_in(s: &[u8], kind: Kind) -> Recorder
     let jobs = jobs::jobs_of(s, tasks, place + 1, place + 1 + tasks * 5, h);
     Recorder {
         horizon: h as u16,
+        round: 0 < tasks,
         devices,
         jobs,
     }
@@ -76,6 +77,7 @@ pub(crate) fn no_recorder() -> Recorder
     let jobs = jobs::no_jobs();
     Recorder {
         horizon: 0,
+        round: false,
         devices,
         jobs,
     }
