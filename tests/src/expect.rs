@@ -2,7 +2,7 @@
 
 use crate::listing::{first_of_the_least, uses, Schedule};
 use crate::request::{read, Request};
-use crate::rows::least_row;
+use crate::rows::row_given;
 use crate::visit::visit;
 
 /// The budget of the printing program.
@@ -62,7 +62,7 @@ pub fn text(outcome: &Outcome) -> String {
     }
     for (number, device) in request.devices.iter().enumerate() {
         let uses = uses(request, &schedule.starts, number);
-        let row = least_row(device, &uses, request.horizon);
+        let row = row_given(request.round, device, &uses, request.horizon);
         text += &format!("device {number} {row}\n");
     }
     text

@@ -1,10 +1,10 @@
-//! The oracle itself, held to the figures P1 to P12 and E1 to E6 (crates/figures) and to a few worked
+//! The oracle itself, held to the figures P1 to P12, E1 to E6 and G1 to G13 (crates/figures) and to a few worked
 //! out by hand or taken from the two papers that docs/RULES.md names.
 
 use crate::expect::{search, text, Outcome, BUDGET};
 use crate::listing::{energy, uses};
 use crate::request::{read, Device, Request};
-use crate::rows::{least_row, Energies, Use};
+use crate::rows::{row_given, Energies, Use};
 use crate::tables::{device_a, job, task, DeviceRecord, JobRecord, Tables, TaskRecord};
 use crate::visit::visit_by;
 
@@ -36,14 +36,14 @@ fn planned(file: &[u8]) -> (Outcome, Vec<u32>, u64) {
 }
 
 fn cost(request: &Request, starts: &[u32]) -> u64 {
-    energy(request, starts, &mut Energies::new(&request.devices))
+    energy(request, starts, &mut Energies::of(request))
 }
 
 /// The row of device 0 and the energy of all devices for given starts.
 fn row(file: &[u8], starts: &[u32]) -> (String, u64) {
     let request = read(file).unwrap();
     let uses = uses(&request, starts, 0);
-    let row = least_row(&request.devices[0], &uses, request.horizon);
+    let row = row_given(request.round, &request.devices[0], &uses, request.horizon);
     (row, cost(&request, starts))
 }
 
@@ -163,13 +163,16 @@ fn x1_jobs_out_of_release_order() {
     assert_eq!((starts, energy, outcome.count), (vec![2, 5, 0], 23, 14));
 }
 
-/// The two tasks of the pruning paper's Table 3, with device A each.
+/// The two tasks of the pruning paper's Table 3, with device A each; device 0 sleeps over the seam. With
+/// every round begun and ended at work it was 136, and 3,144 vertices.
 #[test]
 fn x3_table_3_of_the_pruning_paper() {
     let file = periodic(2, vec![task(4, 1, 0b01), task(5, 3, 0b10)]);
     let (outcome, _, energy) = planned(&file);
     let (request, _) = outcome.plan.as_ref().unwrap();
-    assert_eq!((request.horizon, energy, outcome.count), (20, 136, 3_144));
+    assert_eq!((request.horizon, energy, outcome.count), (20, 132, 3_180));
+    let rows = "device 0 SSUWWDSUWDSSSSUWWDSS\ndevice 1 WWWDUWWWDUWWWDSSUWWW\n";
+    assert!(text(&outcome).ends_with(rows));
 }
 
 /// The eight jobs of the I/O paper's Table 2, with device A as k1 to k5. The horizon is 45: the paper
@@ -188,6 +191,39 @@ fn x4_table_2_of_the_io_paper() {
     ];
     let (outcome, _, energy) = planned(&listed(45, 5, jobs));
     assert_eq!((energy, outcome.count), (497, 660));
+}
+
+/// A round of one task: the device sleeps over the seam, where a list of the same job wakes it.
+#[test]
+fn g1_and_g13_a_round_and_a_list_of_one_job() {
+    let round = periodic(1, vec![task(5, 2, 1)]);
+    let list = listed(5, 1, vec![job(0, 5, 2, 1)]);
+    assert_eq!(row(&round, &[1]), ("UWWDS".to_string(), 17));
+    assert_eq!(row(&list, &[1]), ("WWWDU".to_string(), 21));
+    assert_eq!(row(&round, &[0]), row(&list, &[0]));
+}
+
+/// Blocks that run over the end: T 2, so that the seam's gap of four is all moves.
+#[test]
+fn g5_a_move_begins_before_the_seam_and_ends_after_it() {
+    let slow = DeviceRecord {
+        transition: 2,
+        ..device_a()
+    };
+    let file = Tables {
+        devices: vec![slow],
+        tasks: vec![task(6, 2, 1)],
+        ..Tables::default()
+    };
+    assert_eq!(row(&file.bytes(), &[1]), ("UWWDDU".to_string(), 22));
+}
+
+/// A device that the round never uses sleeps throughout.
+#[test]
+fn g6_a_device_that_is_never_used() {
+    let outcome = search(&periodic(2, vec![task(5, 2, 1)]), BUDGET);
+    let printed = "energy 22\nvertices 5\njob 0 start 0 margin 3\ndevice 0 WWDSU\ndevice 1 SSSSS\n";
+    assert_eq!(text(&outcome), printed);
 }
 
 /// A device of T 1, Pw 5 and Ps 1, alone.

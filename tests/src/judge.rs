@@ -31,7 +31,7 @@ pub fn judge(request: &Request, starts: &[u32]) -> Result<u64, Fault> {
     Ok(energy(
         request,
         starts,
-        &mut Energies::new(&request.devices),
+        &mut Energies::of(request),
     ))
 }
 

@@ -25,7 +25,7 @@ pub fn size(request: &Request) -> u64 {
 }
 
 pub fn first_of_the_least(request: &Request) -> Option<Schedule> {
-    let mut energies = Energies::new(&request.devices);
+    let mut energies = Energies::of(request);
     let mut best: Option<Schedule> = None;
     let mut starts: Vec<u32> = request.jobs.iter().map(|job| job.release).collect();
     loop {

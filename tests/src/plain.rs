@@ -34,6 +34,24 @@ impl Device {
             worked.min(self.moving + (ticks - self.moves) * self.sleeping)
         }
     }
+
+    /// What is charged before a use at `start`: a gap, or the power of sleep before a round's first.
+    fn lead(&self, round: bool, end: u32, start: u32) -> u32 {
+        if round && end == 0 {
+            self.sleeping * start
+        } else {
+            self.gap(start - end)
+        }
+    }
+
+    /// What it costs by the horizon: the gap after the last use goes on to a round's first.
+    fn close(&self, round: bool, horizon: u32, first: u32, end: u32, spent: u32) -> u32 {
+        if round && end == 0 {
+            self.sleeping * horizon
+        } else {
+            spent - self.sleeping * first + self.gap(first + (horizon - end))
+        }
+    }
 }
 
 #[derive(Clone, Copy, Default)]
@@ -62,6 +80,7 @@ fn members(mut set: u16) -> impl Iterator<Item = usize> {
 /// What is to be planned.
 struct Problem {
     horizon: u32,
+    round: bool,
     devices: Vec<Device>,
     jobs: [Job; MOST_JOBS],
     job_count: usize,
@@ -87,6 +106,7 @@ impl Problem {
         };
         Ok(Problem {
             horizon: request.horizon,
+            round: request.round,
             devices: request.devices.iter().map(device).collect(),
             jobs,
             job_count: request.jobs.len(),

@@ -85,6 +85,8 @@ impl Job {
 #[derive(Clone, Debug, PartialEq, Eq)]
 pub struct Request {
     pub horizon: u32,
+    /// Tasks are given, so that the round is repeated for ever.
+    pub round: bool,
     pub devices: Vec<Device>,
     pub jobs: Vec<Job>,
 }
@@ -153,6 +155,7 @@ pub fn read_as(kind: FileKind, rest: &[u8]) -> Result<Request, Refusal> {
     }
     Ok(Request {
         horizon,
+        round: !tasks.is_empty(),
         devices,
         jobs,
     })

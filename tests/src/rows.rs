@@ -3,9 +3,10 @@
 //! The program under test fills gaps by a rule about their length and their cost. This file must not
 //! know that rule: it only steps from tick to tick through every state that the rules allow, and keeps
 //! the least energy with which each state can be reached, and of the ways that cost as little the
-//! fewest ticks in which the device moves.
+//! fewest ticks in which the device moves. A row that is repeated for ever (rule 86) is a cycle of
+//! states: it is stepped through from a used tick, after which the device works, to that tick again.
 
-use crate::request::Device;
+use crate::request::{Device, Request};
 use std::cmp::Ordering;
 use std::collections::HashMap;
 
@@ -131,22 +132,52 @@ fn used_ticks(uses: &[Use], length: u32) -> Vec<bool> {
         .collect()
 }
 
-fn ways(device: &Device, uses: &[Use], length: u32) -> Ways {
+/// From work to work.
+fn ways(device: &Device, ticks: &[bool]) -> Ways {
     let mut column = Column::before_the_row(device);
-    for used in used_ticks(uses, length) {
+    for &used in ticks {
         column = column.step(device, used);
     }
     column.at_the_end()
 }
 
+/// A used tick, and the ticks of the cycle from the one after it to the one before it.
+fn cycle(uses: &[Use], length: u32) -> Option<(usize, Vec<bool>)> {
+    let ticks = used_ticks(uses, length);
+    let used = ticks.iter().position(|&used| used)?;
+    let others = [&ticks[used + 1..], &ticks[..used]].concat();
+    Some((used, others))
+}
+
+/// No letter costs less than S, so that a cycle without a use is all S.
+fn round_ways(device: &Device, uses: &[Use], length: u32) -> Ways {
+    match cycle(uses, length) {
+        Some((_, others)) => ways(device, &others).stays(device.working),
+        None => (0..length).fold(Ways::BEGIN, |ways, _| ways.stays(device.sleeping)),
+    }
+}
+
+fn ways_of(round: bool, device: &Device, uses: &[Use], length: u32) -> Ways {
+    if round {
+        round_ways(device, uses, length)
+    } else {
+        ways(device, &used_ticks(uses, length))
+    }
+}
+
 /// The least energy of a legal row of the given length.
 pub fn least_energy(device: &Device, uses: &[Use], length: u32) -> u64 {
-    ways(device, uses, length).energy
+    ways_of(false, device, uses, length).energy
+}
+
+/// The least energy of a row that is legal repeated for ever.
+pub fn round_energy(device: &Device, uses: &[Use], length: u32) -> u64 {
+    ways_of(true, device, uses, length).energy
 }
 
 /// Whether the tie decides: a legal row that costs as little as the one given moves in more ticks.
-pub fn is_tied(device: &Device, uses: &[Use], length: u32) -> bool {
-    let ways = ways(device, uses, length);
+pub fn is_tied(round: bool, device: &Device, uses: &[Use], length: u32) -> bool {
+    let ways = ways_of(round, device, uses, length);
     ways.fewest < ways.most
 }
 
@@ -199,20 +230,36 @@ fn end_state(column: &Column) -> State {
     )
 }
 
-/// The row given, as its letters.
-pub fn least_row(device: &Device, uses: &[Use], length: u32) -> String {
+/// The best letters from work to work.
+fn letters(device: &Device, ticks: &[bool]) -> Vec<char> {
     let mut columns = vec![Column::before_the_row(device)];
-    for used in used_ticks(uses, length) {
+    for &used in ticks {
         let next = columns[columns.len() - 1].step(device, used);
         columns.push(next);
     }
     let mut letters = Vec::new();
-    let mut state = end_state(&columns[length as usize]);
-    for earlier in columns[..length as usize].iter().rev() {
+    let mut state = end_state(&columns[ticks.len()]);
+    for earlier in columns[..ticks.len()].iter().rev() {
         letters.push(state.letter());
         state = state.before(earlier);
     }
-    letters.iter().rev().collect()
+    letters.reverse();
+    letters
+}
+
+/// The row given, as its letters.
+pub fn row_given(round: bool, device: &Device, uses: &[Use], length: u32) -> String {
+    if !round {
+        return letters(device, &used_ticks(uses, length)).iter().collect();
+    }
+    match cycle(uses, length) {
+        None => "S".repeat(length as usize),
+        Some((used, others)) => {
+            let (after, before) = (length as usize - used - 1, letters(device, &others));
+            let (last, first) = before.split_at(after);
+            first.iter().chain(&['W']).chain(last).collect()
+        }
+    }
 }
 
 /// Least energies that were worked out before. Schedules differ in many jobs but repeat the uses of
@@ -227,8 +274,14 @@ pub struct Energies<'a> {
 pub type Rule = fn(&Device, &[Use], u32) -> u64;
 
 impl<'a> Energies<'a> {
-    pub fn new(devices: &'a [Device]) -> Energies<'a> {
-        Energies::by(devices, least_energy)
+    /// By the rule of the request's kind (rule 85).
+    pub fn of(request: &'a Request) -> Energies<'a> {
+        let rule: Rule = if request.round {
+            round_energy
+        } else {
+            least_energy
+        };
+        Energies::by(&request.devices, rule)
     }
 
     pub fn by(devices: &'a [Device], rule: Rule) -> Energies<'a> {
@@ -300,22 +353,52 @@ mod tests {
         (0..1 << (2 * length)).map(word)
     }
 
+    /// Rule 86 read off the row repeated four times: whatever runs wholly inside of these is legal, and
+    /// none of them goes on for ever but W and S.
+    fn is_legal_for_ever(row: &[u8], device: &Device, used: &[bool]) -> bool {
+        let works = |(tick, used): (usize, &bool)| !used || row[tick] == b'W';
+        if !used.iter().enumerate().all(works) {
+            return false;
+        }
+        let long = row.repeat(4);
+        let runs: Vec<&[u8]> = long.chunk_by(|one, next| one == next).collect();
+        let [_, inside @ .., _] = &runs[..] else {
+            return b"WS".contains(&row[0]);
+        };
+        let whole = |run: &[u8], one: Move| run.len() as u32 == one.ticks;
+        (1..=inside.len()).all(|place| {
+            let (before, run, after) = (runs[place - 1][0], runs[place], runs[place + 1][0]);
+            match run[0] {
+                b'D' => whole(run, device.shut) && before == b'W' && b"SU".contains(&after),
+                b'S' => before == b'D' && after == b'U',
+                b'U' => whole(run, device.wake) && b"DS".contains(&before) && after == b'W',
+                _ => true,
+            }
+        })
+    }
+
     /// All legal rows of a length, written out, for one pattern of use. One if the tie decides.
-    fn check_pattern(device: &Device, pattern: u32, rows: &[Vec<u8>], length: u32) -> u64 {
+    fn check_pattern(round: bool, device: &Device, pattern: u32, rows: &[Vec<u8>], length: u32) -> u64 {
         let used: Vec<bool> = (0..length).map(|tick| pattern >> tick & 1 == 1).collect();
         let uses: Vec<Use> = (0..length)
             .filter(|&tick| used[tick as usize])
             .map(|tick| (tick, tick + 1))
             .collect();
-        let legal = rows.iter().filter(|row| is_legal(row, device, &used));
+        let legal = rows.iter().filter(|row| {
+            if round {
+                is_legal_for_ever(row, device, &used)
+            } else {
+                is_legal(row, device, &used)
+            }
+        });
         let least = legal.clone().map(|row| energy(row, device)).min().unwrap();
         let cheapest: Vec<&Vec<u8>> = legal.filter(|row| energy(row, device) == least).collect();
         let fewest = cheapest.iter().map(|row| moves(row)).min().unwrap();
         let (given, others): (Vec<&Vec<u8>>, Vec<&Vec<u8>>) =
             cheapest.iter().partition(|row| moves(row) == fewest);
-        assert_eq!(least_energy(device, &uses, length), least);
-        assert_eq!(given, [least_row(device, &uses, length).as_bytes()]);
-        assert_eq!(is_tied(device, &uses, length), !others.is_empty());
+        assert_eq!(ways_of(round, device, &uses, length).energy, least);
+        assert_eq!(given, [row_given(round, device, &uses, length).as_bytes()]);
+        assert_eq!(is_tied(round, device, &uses, length), !others.is_empty());
         u64::from(!others.is_empty())
     }
 
@@ -350,9 +433,8 @@ mod tests {
 
     /// The steps from tick to tick, held to all rows that there are: the same least energy, and the
     /// same row, which is the only one of those that moves least. Moving costs less than work, as much
-    /// and more; in 492 of 6,096 patterns the tie decides.
-    #[test]
-    fn the_row_given_is_the_only_one_of_least_energy_that_moves_least() {
+    /// and more. How often the tie decides, and the patterns.
+    fn check_all(round: bool) -> (u64, u64) {
         let (mut patterns, mut ties) = (0, 0);
         for length in 1..=7 {
             let all: Vec<Vec<u8>> = words(length).collect();
@@ -370,14 +452,30 @@ mod tests {
                     },
                 };
                 let unused = vec![false; length as usize];
-                let legal = |row: &Vec<u8>| is_legal(row, &device, &unused);
+                let legal = |row: &Vec<u8>| {
+                    if round {
+                        is_legal_for_ever(row, &device, &unused)
+                    } else {
+                        is_legal(row, &device, &unused)
+                    }
+                };
                 let rows: Vec<Vec<u8>> = all.iter().filter(|row| legal(row)).cloned().collect();
                 for pattern in 0..1 << length {
-                    ties += check_pattern(&device, pattern, &rows, length);
+                    ties += check_pattern(round, &device, pattern, &rows, length);
                     patterns += 1;
                 }
             }
         }
-        assert_eq!((ties, patterns), (492, 6_096));
+        (ties, patterns)
+    }
+
+    #[test]
+    fn the_row_given_is_the_only_one_of_least_energy_that_moves_least() {
+        assert_eq!(check_all(false), (492, 6_096));
+    }
+
+    #[test]
+    fn so_it_is_where_the_row_is_repeated_for_ever() {
+        assert_eq!(check_all(true), (485, 6_096));
     }
 }

@@ -45,7 +45,7 @@ impl Rows {
                 *self.moving.entry(moving).or_default() += 1;
             }
             self.apart += u64::from(device.shut != device.wake);
-            self.ties += u64::from(is_tied(device, &uses, request.horizon));
+            self.ties += u64::from(is_tied(request.round, device, &uses, request.horizon));
         }
     }
 
@@ -154,6 +154,7 @@ mod tests {
     fn alone(moving: u32) -> Request {
         Request {
             horizon: 2,
+            round: false,
             devices: vec![Device::averaged(1, 5, 1, moving)],
             jobs: Vec::new(),
         }

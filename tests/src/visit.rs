@@ -1,4 +1,4 @@
-//! The vertex count by the visiting order (rules 40 to 46).
+//! The vertex count by the visiting order (rules 40 to 46 and 89).
 //!
 //! As plain as the rules have it: a vertex is its sequence of placed jobs with their starts, and
 //! everything else about it is worked out from that sequence when it is asked for.
@@ -24,7 +24,7 @@ pub(crate) fn visit_by(request: &Request, limit: u64, floor: Rule) -> Visit {
     let mut visitor = Visitor {
         request,
         limit,
-        energies: Energies::new(&request.devices),
+        energies: Energies::of(request),
         floors: Energies::by(&request.devices, floor),
         placed: Vec::new(),
         found: Visit {
@@ -146,10 +146,20 @@ impl Visitor<'_> {
             .sum()
     }
 
+    /// The ticks before the first placed use of a round are charged at the power of sleep; the rest up
+    /// to the end of the last one is a list of its own.
     fn floor_of(&mut self, device: usize) -> u64 {
-        let mut uses = self.uses(device);
-        let end = uses.last().map_or(0, |&(_, end)| end);
-        uses.push((end, end));
+        let placed = self.uses(device);
+        let first = match placed.first() {
+            Some(&(start, _)) if self.request.round => start,
+            _ => 0,
+        };
+        let end = placed.last().map_or(0, |&(_, end)| end);
+        let mut uses: Vec<Use> = placed
+            .iter()
+            .map(|&(start, end)| (start - first, end - first))
+            .collect();
+        uses.push((end - first, end - first));
         let to_come: u32 = self
             .unplaced()
             .filter(|job| job.uses(device))
@@ -159,6 +169,6 @@ impl Visitor<'_> {
         let powers = &self.request.devices[device];
         self.floors.least(device, &uses)
             + u64::from(powers.working) * u64::from(to_come)
-            + u64::from(powers.sleeping) * u64::from(others)
+            + u64::from(powers.sleeping) * u64::from(first + others)
     }
 }

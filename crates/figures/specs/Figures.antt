@@ -1,5 +1,5 @@
--- The figures to reproduce, P1 to P12, three more, X1 to X3 (X2 is P9's count, 95), and E1 to E6, of devices that are dear to move: one table of cases, and
--- one statement over it. A case is an operation's complete outcome on a file, and says what that operation promises; so it says that the file is read, or by
+-- The figures to reproduce, P1 to P12, three more, X1 to X3 (X2 is P9's count, 95), E1 to E6, of devices that are dear to move, and G1 to G13, of rounds without a
+-- seam (G8 is X3): one table of cases, and one statement over it. A case is an operation's complete outcome on a file, and says what that operation promises; so it says that the file is read, or by
 -- which number it is refused.
 -- proofs/Hold: the table holds.
 -- Assumes nothing.
@@ -97,6 +97,21 @@ H4 = second (two 9 ++ 1 ∷ B ++ 0 ∷ 1 ∷ jobFile 2 7 2 1)
 abbrev H7 : List ℕ
 H7 = second (two 5 ++ 1 ∷ A′ ++ 0 ∷ 1 ∷ jobFile 0 5 2 1)
 
+-- One task of running time 2 that uses the first device, over a round of p ticks.
+abbrev round : ℕ → List ℕ
+round p = 1 ∷ two p ++ two 2 ++ 1 ∷ 0 ∷ []
+
+abbrev G1 : List ℕ
+G1 = two 0 ++ 1 ∷ A ++ round 5
+
+-- Its moves take two ticks each.
+abbrev G5 : List ℕ
+G5 = two 0 ++ 1 ∷ 2 ∷ two 5 ++ two 1 ++ two 3 ++ round 6
+
+-- A second device A that is never used.
+abbrev G6 : List ℕ
+G6 = two 0 ++ 2 ∷ A ++ A ++ round 5
+
 -- ---- what a file has
 
 pub data Figure : Type 0 where
@@ -162,7 +177,7 @@ table =
     ∷ P12 has check (refusal 10)
     ∷ P12′ has check (refusal 12)
     ∷ X1 has search 1000 (replicate 4 9) (success 7 23 14) (2 ∷ 5 ∷ 0 ∷ 9 ∷ [])
-    ∷ X3 has search 1000000 (replicate 10 9) (success 20 136 3144) (3 ∷ 0 ∷ 4 ∷ 5 ∷ 8 ∷ 10 ∷ 15 ∷ 17 ∷ 16 ∷ 9 ∷ [])
+    ∷ X3 has search 1000000 (replicate 10 9) (success 20 132 3180) (3 ∷ 0 ∷ 4 ∷ 5 ∷ 8 ∷ 10 ∷ 15 ∷ 17 ∷ 16 ∷ 9 ∷ [])
     -- E1 and E3: on equal cost it works. E2: slept. E4 and E5: moving, or work, at the power of sleep
     ∷ (two 4 ++ 1 ∷ deviceFile 5 1 9 ++ idle) has rows [] (replicate 5 9) (success 4 20 0) (letters (W ∷ W ∷ W ∷ W ∷ []) ++ 9 ∷ [])
     ∷ (two 5 ++ 1 ∷ deviceFile 5 1 9 ++ idle) has rows [] (replicate 6 9) (success 5 21 0) (letters (D ∷ S ∷ S ∷ S ∷ U ∷ []) ++ 9 ∷ [])
@@ -185,6 +200,15 @@ table =
     ∷ (255 ∷ []) has check (refusal 1)
     ∷ second [] has check (refusal 1)
     ∷ second (replicate 5 0) has check (refusal 10)
+    -- G1 and G2: asleep over the seam, where the same job in a list (G13) is followed by waking
+    ∷ G1 has rows (1 ∷ []) (replicate 6 9) (success 5 17 0) (letters (U ∷ W ∷ W ∷ D ∷ S ∷ []) ++ 9 ∷ [])
+    ∷ G1 has search 1000000 (9 ∷ 9 ∷ []) (success 5 17 5) (0 ∷ 9 ∷ [])
+    ∷ P3 has rows (1 ∷ []) (replicate 6 9) (success 5 21 0) (letters (W ∷ W ∷ W ∷ D ∷ U ∷ []) ++ 9 ∷ [])
+    -- G5: a move that runs over the end
+    ∷ G5 has rows (1 ∷ []) (replicate 7 9) (success 6 22 0) (letters (U ∷ W ∷ W ∷ D ∷ D ∷ U ∷ []) ++ 9 ∷ [])
+    -- G6: a device that is never used
+    ∷ G6 has search 1000000 (9 ∷ 9 ∷ []) (success 5 22 5) (0 ∷ 9 ∷ [])
+    ∷ G6 has rows (0 ∷ []) (replicate 11 9) (success 5 22 0) (letters (W ∷ W ∷ D ∷ S ∷ U ∷ S ∷ S ∷ S ∷ S ∷ S ∷ []) ++ 9 ∷ [])
     ∷ []
 
 -- ---- the statement

@@ -4,7 +4,7 @@
 use outside::judge::judge;
 use outside::listing::{first_of_the_least, uses, Schedule};
 use outside::request::{read, Request};
-use outside::rows::least_row;
+use outside::rows::row_given;
 use outside::sheets::{plan_text, Made};
 use outside::visit::visit;
 use outside::writing::Written;
@@ -215,7 +215,7 @@ impl Searched {
             Ok(energy) => {
                 let row = |(number, device)| {
                     let uses = uses(request, &starts, number);
-                    least_row(device, &uses, request.horizon).into_bytes()
+                    row_given(request.round, device, &uses, request.horizon).into_bytes()
                 };
                 let rows: Vec<u8> = request.devices.iter().enumerate().flat_map(row).collect();
                 before.after(success(request, energy, 0), &rows)

@@ -10,7 +10,7 @@ use outside::mend::{self, Answer};
 use outside::possible::{self, Outcome};
 use outside::random::Random;
 use outside::request::{read, Request};
-use outside::rows::least_row;
+use outside::rows::row_given;
 use std::cell::RefCell;
 
 const SEED: u64 = 22;
@@ -74,7 +74,7 @@ pub fn verdicts(floe: &Floe) -> Tried {
                 let mut text = format!("energy {energy}\n");
                 for (number, device) in request.devices.iter().enumerate() {
                     let uses = uses(&request, &starts, number);
-                    let row = least_row(device, &uses, request.horizon);
+                    let row = row_given(request.round, device, &uses, request.horizon);
                     text += &format!("device {number} {row}\n");
                 }
                 same(refused(rows), Ok(text.into_bytes()), named)?;

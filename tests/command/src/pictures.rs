@@ -6,7 +6,7 @@ use outside::cases::{draw, Kind};
 use outside::expect::{search, BUDGET};
 use outside::listing::uses;
 use outside::request::{unmarked, Device, FileKind};
-use outside::rows::least_row;
+use outside::rows::row_given;
 use std::collections::BTreeSet;
 use std::fs;
 use std::path::Path;
@@ -42,7 +42,8 @@ pub fn test(floe: &Floe) -> Tried {
             ));
         }
         for (device, figures) in request.devices.iter().enumerate() {
-            let row = least_row(
+            let row = row_given(
+                request.round,
                 figures,
                 &uses(&request, &schedule.starts, device),
                 request.horizon,

@@ -8,9 +8,11 @@ use crate::request::MOST_JOBS;
 struct Vertex {
     time: u32,
     unplaced: u16,
-    /// For each device, the end of its last placed use, and the least energy before that end.
+    /// For each device, the end of its last placed use, and the energy charged before that end; and
+    /// in a round the start of its first.
     ends: [u32; DEVICES],
     spent: [u32; DEVICES],
+    firsts: [u32; DEVICES],
 }
 
 struct Search<'a> {
@@ -59,8 +61,11 @@ impl Search<'_> {
         let job = self.problem.jobs[number];
         for (k, device) in self.problem.devices.iter().enumerate() {
             if job.uses(k) {
-                vertex.spent[k] +=
-                    device.gap(start - vertex.ends[k]) + device.working * job.running;
+                let (round, end) = (self.problem.round, vertex.ends[k]);
+                if round && end == 0 {
+                    vertex.firsts[k] = start;
+                }
+                vertex.spent[k] += device.lead(round, end, start) + device.working * job.running;
                 vertex.ends[k] = vertex.time;
             }
         }
@@ -75,7 +80,10 @@ impl Search<'_> {
     fn energy(&self, vertex: &Vertex) -> u32 {
         let devices = self.problem.devices.iter().enumerate();
         devices
-            .map(|(k, device)| vertex.spent[k] + device.gap(self.problem.horizon - vertex.ends[k]))
+            .map(|(k, device)| {
+                let (first, end, spent) = (vertex.firsts[k], vertex.ends[k], vertex.spent[k]);
+                device.close(self.problem.round, self.problem.horizon, first, end, spent)
+            })
             .sum()
     }
 
@@ -98,6 +106,7 @@ pub fn search(file: &[u8], budget: u32) -> Found {
             unplaced: problem.all_jobs(),
             ends: [0; DEVICES],
             spent: [0; DEVICES],
+            firsts: [0; DEVICES],
         };
         let mut search = Search {
             problem,
