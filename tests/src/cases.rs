@@ -12,6 +12,7 @@ pub enum Kind {
     Second,
     SecondFault,
     Tasks,
+    Rounds,
     Tight,
     OverBudget,
     NearLimits,
@@ -34,6 +35,7 @@ impl Kind {
             Kind::Second => "of the second kind",
             Kind::SecondFault => "of the second kind, damaged",
             Kind::Tasks => "valid task lists",
+            Kind::Rounds => "rounds of devices dear to move, or unused",
             Kind::Tight => "tight windows, aimed at 19",
             Kind::OverBudget => "loose jobs, aimed at 20",
             Kind::NearLimits => "near the limits",
@@ -59,12 +61,13 @@ pub struct Case {
 
 /// The kinds in turn, so that any hundred cases have all of them. A case over the budget costs a
 /// million vertices on both sides, so there is only one.
-const ROUND: [(Kind, u64); 17] = [
+const ROUND: [(Kind, u64); 18] = [
     (Kind::Jobs, 8),
     (Kind::Dear, 6),
     (Kind::Second, 8),
     (Kind::SecondFault, 6),
-    (Kind::Tasks, 10),
+    (Kind::Tasks, 6),
+    (Kind::Rounds, 4),
     (Kind::Tight, 8),
     (Kind::OverBudget, 1),
     (Kind::NearLimits, 5),
@@ -115,6 +118,7 @@ fn file_of(random: &mut Random, kind: Kind) -> Vec<u8> {
         Kind::Second => second::accepted(random).bytes(),
         Kind::SecondFault => second::damaged(random),
         Kind::Tasks => accepted_tasks(random).bytes(),
+        Kind::Rounds => accepted(random, valid::dear_round).bytes(),
         Kind::Tight => tight(random).bytes(),
         Kind::OverBudget => over_budget(random).bytes(),
         Kind::NearLimits => near_limits(random).bytes(),
@@ -146,13 +150,17 @@ fn file_of(random: &mut Random, kind: Kind) -> Vec<u8> {
 }
 
 /// Periods drawn one by one may have a long common multiple: only accepted tables are kept.
-fn accepted_tasks(random: &mut Random) -> Tables {
+fn accepted(random: &mut Random, tables: fn(&mut Random) -> Tables) -> Tables {
     loop {
-        let tables = valid::task_list(random);
+        let tables = tables(random);
         if read(&tables.bytes()).is_ok() {
             return tables;
         }
     }
+}
+
+fn accepted_tasks(random: &mut Random) -> Tables {
+    accepted(random, valid::task_list)
 }
 
 fn tight(random: &mut Random) -> Tables {
@@ -274,6 +282,7 @@ mod tests {
             Kind::Dear,
             Kind::Second,
             Kind::Tasks,
+            Kind::Rounds,
             Kind::Tight,
             Kind::NearLimits,
         ];

@@ -28,11 +28,7 @@ pub fn judge(request: &Request, starts: &[u32]) -> Result<u64, Fault> {
     if let Some(job) = (0..jobs.len()).find(|&job| meets_another(job)) {
         return Err((18, job));
     }
-    Ok(energy(
-        request,
-        starts,
-        &mut Energies::of(request),
-    ))
+    Ok(energy(request, starts, &mut Energies::of(request)))
 }
 
 #[cfg(test)]

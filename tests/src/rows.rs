@@ -378,7 +378,13 @@ mod tests {
     }
 
     /// All legal rows of a length, written out, for one pattern of use. One if the tie decides.
-    fn check_pattern(round: bool, device: &Device, pattern: u32, rows: &[Vec<u8>], length: u32) -> u64 {
+    fn check_pattern(
+        round: bool,
+        device: &Device,
+        pattern: u32,
+        rows: &[Vec<u8>],
+        length: u32,
+    ) -> u64 {
         let used: Vec<bool> = (0..length).map(|tick| pattern >> tick & 1 == 1).collect();
         let uses: Vec<Use> = (0..length)
             .filter(|&tick| used[tick as usize])

@@ -3,7 +3,7 @@
 use crate::cases::Kind;
 use crate::listing::uses;
 use crate::request::Request;
-use crate::rows::is_tied;
+use crate::rows::{is_tied, row_given};
 use std::cmp::Ordering;
 use std::collections::BTreeMap;
 use std::fmt::Write;
@@ -34,6 +34,10 @@ pub struct Rows {
     ties: u64,
     /// Those of a device whose two moves are not alike.
     apart: u64,
+    /// Of rounds: in which the tie decides, that are not at work at the seam, and that have no use.
+    round_ties: u64,
+    over_the_seam: u64,
+    unused: u64,
 }
 
 impl Rows {
@@ -45,8 +49,26 @@ impl Rows {
                 *self.moving.entry(moving).or_default() += 1;
             }
             self.apart += u64::from(device.shut != device.wake);
-            self.ties += u64::from(is_tied(request.round, device, &uses, request.horizon));
+            let tied = u64::from(is_tied(request.round, device, &uses, request.horizon));
+            self.ties += tied;
+            if request.round {
+                let row = row_given(true, device, &uses, request.horizon);
+                self.round_ties += tied;
+                self.unused += u64::from(uses.is_empty());
+                self.over_the_seam += u64::from(!uses.is_empty() && row.starts_with(['S', 'U']));
+            }
         }
+    }
+
+    /// The same of rounds.
+    pub fn rounds_never_met(&self) -> Vec<String> {
+        let met = [
+            (self.round_ties, "a tie in a round"),
+            (self.over_the_seam, "a row asleep over the seam"),
+            (self.unused, "a device that a round never uses"),
+        ];
+        let missed = met.iter().filter(|(count, _)| *count == 0);
+        missed.map(|(_, name)| name.to_string()).collect()
     }
 
     pub fn never_met(&self) -> Vec<String> {
@@ -71,7 +93,11 @@ impl Rows {
             text += &format!("{count:7}  {name}\n");
         }
         text += &format!("rows in which the tie decides: {}\n", self.ties);
-        text + &format!("rows of devices whose moves differ: {}\n", self.apart)
+        text += &format!("rows of devices whose moves differ: {}\n", self.apart);
+        text + &format!(
+            "rows of rounds in which it decides: {}, asleep over the seam: {}, without a use: {}\n",
+            self.round_ties, self.over_the_seam, self.unused
+        )
     }
 }
 
@@ -90,6 +116,7 @@ impl Tally {
         numbers.retain(|number| !self.outcomes.contains_key(number));
         let mut missed: Vec<String> = numbers.iter().map(u8::to_string).collect();
         missed.extend(self.rows.never_met());
+        missed.extend(self.rows.rounds_never_met());
         missed
     }
 
@@ -147,7 +174,7 @@ fn hex(file: &[u8]) -> String {
 #[cfg(test)]
 mod tests {
     use super::*;
-    use crate::request::Device;
+    use crate::request::{Device, Job};
 
     /// A device that is not used, for 2 ticks: slept at 3, worked through at 5 and at 9, and at 5 both
     /// cost 10.
@@ -169,14 +196,47 @@ mod tests {
         for moving in [3, 9] {
             tally.rows.add(&alone(moving), &[]);
         }
-        let missed = ["19", "moving costs as much", "a tie", "moves apart"];
-        assert_eq!(tally.never_met(), missed);
+        let rounds = tally.rows.rounds_never_met();
+        assert_eq!(rounds.len(), 3);
+        let missed = [
+            &["19", "moving costs as much", "a tie", "moves apart"].map(String::from),
+            &rounds[..],
+        ];
+        assert_eq!(tally.never_met(), missed.concat());
         tally.add(Kind::Tight, 19, 2);
         tally.rows.add(&alone(5), &[]);
         let mut apart = alone(9);
         apart.devices[0].wake.power = 3;
         tally.rows.add(&apart, &[]);
-        assert!(tally.never_met().is_empty());
+        assert_eq!(tally.never_met(), rounds);
+    }
+
+    /// A round of four ticks with one use of two, or with none. Two ticks of moves cost as much as work.
+    fn round(devices: u8, moving: u32) -> Request {
+        let job = Job {
+            release: 0,
+            deadline: 4,
+            running: 2,
+            devices,
+        };
+        Request {
+            horizon: 4,
+            round: true,
+            jobs: vec![job],
+            ..alone(moving)
+        }
+    }
+
+    #[test]
+    fn so_are_rows_of_rounds() {
+        let mut rows = Rows::default();
+        rows.add(&round(1, 3), &[0]);
+        assert_eq!(rows.rounds_never_met().len(), 3);
+        rows.add(&round(1, 3), &[1]);
+        rows.add(&round(0, 3), &[0]);
+        assert_eq!(rows.rounds_never_met(), ["a tie in a round"]);
+        rows.add(&round(1, 5), &[1]);
+        assert!(rows.rounds_never_met().is_empty());
     }
 
     #[test]

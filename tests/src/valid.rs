@@ -151,6 +151,24 @@ pub fn task_list(random: &mut Random) -> Tables {
     tables
 }
 
+/// A round of tasks whose devices are like those of `dear_list`; in one of three a device is in no set.
+pub fn dear_round(random: &mut Random) -> Tables {
+    let mut tables = Tables {
+        devices: (0..random.within(1, 3))
+            .map(|_| dear_device(random))
+            .collect(),
+        ..Tables::default()
+    };
+    let used = if random.one_in(3) { 0xFE } else { 0xFF };
+    for _ in 0..random.within(1, 3) {
+        let period = random.pick(&[4, 5, 6, 6, 8, 10, 12]);
+        let running = random.u16(1, (period / 3).max(1));
+        let set = device_set(random, &tables) & used;
+        tables.tasks.push(task(period, running, set));
+    }
+    tables
+}
+
 /// Windows with hardly any room, many of them in each other's way.
 pub fn tight_list(random: &mut Random) -> Tables {
     let mut tables = Tables {

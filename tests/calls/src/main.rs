@@ -8,6 +8,7 @@ mod figures;
 mod library;
 mod mend;
 mod possible;
+mod rounds;
 mod sheets;
 mod tails;
 mod writing;
@@ -214,6 +215,7 @@ fn test() -> Result<String, String> {
         }
     }
     dear::test(&mut tester)?;
+    rounds::test(&mut tester)?;
     writing::test(&mut tester)?;
     catalogue::test(&mut tester)?;
     sheets::test(&mut tester)?;

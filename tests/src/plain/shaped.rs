@@ -133,8 +133,7 @@ impl Search<'_> {
                 if round && state.end == 0 {
                     state.first = start;
                 }
-                state.spent +=
-                    device.lead(round, state.end, start) + device.working * job.running;
+                state.spent += device.lead(round, state.end, start) + device.working * job.running;
                 state.end = start + job.running;
                 state.ahead -= job.running;
             }
