@@ -36,18 +36,32 @@ impl From<plain::Found> for Outcome {
     }
 }
 
-/// A search and the best time it has had.
+/// A search, and over all requests its vertices and the best times it has had.
 struct Racer {
     name: &'static str,
     search: fn(&[u8], u32) -> Outcome,
-    total: Duration,
+    total: Run,
+}
+
+/// The vertices that a search counted, and how long it took.
+#[derive(Clone, Copy, Default)]
+struct Run {
+    vertices: u64,
+    time: Duration,
+}
+
+impl Run {
+    /// Millions of vertices a second.
+    fn speed(self) -> f64 {
+        self.vertices as f64 / self.time.as_secs_f64() / 1e6
+    }
 }
 
 fn racers() -> Vec<Racer> {
     let racer = |name, search| Racer {
         name,
         search,
-        total: Duration::ZERO,
+        total: Run::default(),
     };
     vec![
         racer("anew", |file, budget| {
@@ -66,42 +80,43 @@ fn racers() -> Vec<Racer> {
     ]
 }
 
-/// The racers take turns, so that a slow spell of the machine meets them all.
-fn race(racers: &[Racer], file: &[u8]) -> Result<(Outcome, Vec<Duration>), String> {
-    let mut best = vec![Duration::MAX; racers.len()];
+/// The racers take turns, so that a slow spell of the machine meets them all. All agree but for an
+/// earlier commit's search, whose rules may have been others.
+fn race(racers: &[Racer], file: &[u8]) -> Result<Vec<Run>, String> {
+    let mut best = vec![Run::default(); racers.len()];
     let mut agreed: Option<Outcome> = None;
-    for _ in 0..ROUNDS {
+    for round in 0..ROUNDS {
         for (racer, best) in racers.iter().zip(&mut best) {
             let begin = Instant::now();
             let outcome = (racer.search)(file, BUDGET);
-            *best = begin.elapsed().min(*best);
+            let time = begin.elapsed();
+            if round == 0 || time < best.time {
+                let vertices = outcome.count.into();
+                *best = Run { vertices, time };
+            }
+            if racer.name == "before" {
+                continue;
+            }
             let agreed = *agreed.get_or_insert(outcome);
             if outcome != agreed {
                 return Err(format!("{}: {outcome:?}, not {agreed:?}", racer.name));
             }
         }
     }
-    agreed
-        .map(|outcome| (outcome, best))
-        .ok_or("no racer".into())
-}
-
-fn millions(vertices: u64, time: Duration) -> f64 {
-    vertices as f64 / time.as_secs_f64() / 1e6
+    Ok(best)
 }
 
 /// One line: vertices, then millions of them per second for each racer, then the ratio of the proved
 /// search's speed to that of each other one.
-fn line(name: &str, vertices: u64, times: &[Duration], racers: &[Racer]) -> String {
-    let mut line = format!("{name:30} {vertices:>11} vertices");
-    for (racer, time) in racers.iter().zip(times) {
-        let speed = millions(vertices, *time);
-        line += &format!("  {} {speed:6.1} M/s", racer.name);
+fn line(name: &str, runs: &[Run], racers: &[Racer]) -> String {
+    let mut line = format!("{name:30} {:>11} vertices", runs[0].vertices);
+    for (racer, run) in racers.iter().zip(runs) {
+        line += &format!("  {} {:6.1} M/s", racer.name, run.speed());
     }
-    let race: Vec<_> = racers.iter().zip(times).collect();
+    let race: Vec<_> = racers.iter().zip(runs).collect();
     if let [others @ .., (Racer { name: "proved", .. }, proved)] = &race[..] {
-        for (racer, time) in others {
-            let ratio = time.as_secs_f64() / proved.as_secs_f64();
+        for (racer, run) in others {
+            let ratio = proved.speed() / run.speed();
             line += &format!("  proved/{} {ratio:.2}", racer.name);
         }
     }
@@ -110,20 +125,16 @@ fn line(name: &str, vertices: u64, times: &[Duration], racers: &[Racer]) -> Stri
 
 fn bench() -> Result<(), String> {
     let mut racers = racers();
-    let mut vertices = 0;
     for request in requests::all() {
-        let (outcome, times) = race(&racers, &request.file)?;
-        println!(
-            "{}",
-            line(request.name, outcome.count.into(), &times, &racers)
-        );
-        vertices += u64::from(outcome.count);
-        for (racer, time) in racers.iter_mut().zip(times) {
-            racer.total += time;
+        let runs = race(&racers, &request.file)?;
+        println!("{}", line(request.name, &runs, &racers));
+        for (racer, run) in racers.iter_mut().zip(runs) {
+            racer.total.vertices += run.vertices;
+            racer.total.time += run.time;
         }
     }
-    let totals: Vec<Duration> = racers.iter().map(|racer| racer.total).collect();
-    println!("{}", line("all", vertices, &totals, &racers));
+    let totals: Vec<Run> = racers.iter().map(|racer| racer.total).collect();
+    println!("{}", line("all", &totals, &racers));
     Ok(())
 }
 
@@ -147,7 +158,12 @@ fn answers() {
     for request in requests::all().into_iter().chain(others) {
         let (any, soon) = timed(proved::possible, &request.file);
         let (_, late) = timed(proved::search, &request.file);
-        let speed = millions(any.count.into(), soon);
+        let vertices = any.count.into();
+        let speed = Run {
+            vertices,
+            time: soon,
+        }
+        .speed();
         println!(
             "{:30} {:>11} vertices  any plan: answer {:2} in {soon:>10.1?}  {speed:6.1} M/s  search {late:>8.1?}",
             request.name, any.count, any.number

@@ -8,8 +8,7 @@ const STARTS: usize = 32;
 const RESULT: usize = 11;
 
 /// As all are declared: the file, the budget, the start times and the result buffer.
-type Call =
-    unsafe extern "C" fn(*const u8, usize, u32, *mut u8, usize, *mut u8, usize) -> u8;
+type Call = unsafe extern "C" fn(*const u8, usize, u32, *mut u8, usize, *mut u8, usize) -> u8;
 
 extern "C" {
     fn floe_search(
