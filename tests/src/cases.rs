@@ -238,8 +238,7 @@ fn is_small(request: &Request) -> bool {
     listing::size(request) <= 100_000 && steps.fold(0, u64::saturating_add) <= 60_000_000
 }
 
-/// Most files come in one piece, the others in pieces so close together that a read finds now one of
-/// them and now several. (`slow` has those that tell a program which stops at its first read.)
+/// Most files come in one piece. (`slow` has those that tell a program which stops at its first read.)
 fn pieces(random: &mut Random, length: usize) -> Vec<usize> {
     let mut pieces = Vec::new();
     let mut left = length;

@@ -16,6 +16,7 @@ pub mod fixed;
 pub mod judge;
 pub mod listing;
 pub mod mend;
+pub mod pipes;
 pub mod plain;
 pub mod possible;
 pub mod random;

@@ -12,15 +12,11 @@ use std::process::{Command, ExitCode};
 use std::sync::atomic::{AtomicU64, Ordering};
 use std::sync::Mutex;
 use std::thread;
-use std::time::Duration;
 
 const USAGE: &str = "usage: outside PROGRAM [--seed N] [--cases N]";
 const SEED: u64 = 2002;
-const CASES: u64 = 4_000;
+const CASES: u64 = 800;
 const THREADS: usize = 2;
-
-/// Between the pieces of a random case.
-const PAUSE: Duration = Duration::from_millis(2);
 
 /// More of them seldom say more.
 const MOST_MISMATCHES: usize = 3;
@@ -165,7 +161,6 @@ fn work(arguments: &Arguments, next: &AtomicU64, findings: &Mutex<Findings>) {
         let feed = Feed {
             file: &case.file,
             pieces: case.pieces.clone(),
-            pause: PAUSE,
         };
         let mismatch = compare(&name, piped(&arguments.program), &feed, text(&outcome));
         let mut findings = findings.lock().expect("no thread has failed");

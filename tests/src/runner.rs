@@ -1,5 +1,6 @@
 //! Running the program on one file.
 
+use crate::pipes::wait_for_reader;
 use std::io::{self, Read, Write};
 use std::os::unix::process::ExitStatusExt;
 use std::path::Path;
@@ -8,14 +9,15 @@ use std::sync::mpsc::{self, Receiver};
 use std::thread;
 use std::time::Duration;
 
-/// Far longer than any case takes: a program that hangs must fail the tests and not hang them.
-const PATIENCE: Duration = Duration::from_secs(60);
+/// Far longer than any case takes on the busiest machine: a program that hangs must fail the tests and
+/// not hang them.
+const PATIENCE: Duration = Duration::from_secs(600);
 
-/// What is fed: a file in pieces of these lengths, with a pause between two of them.
+/// What is fed: a file in pieces of these lengths, of which each comes when the one before it has been
+/// read.
 pub struct Feed<'a> {
     pub file: &'a [u8],
     pub pieces: Vec<usize>,
-    pub pause: Duration,
 }
 
 impl Feed<'_> {
@@ -23,7 +25,6 @@ impl Feed<'_> {
         Feed {
             file,
             pieces: vec![file.len()],
-            pause: Duration::ZERO,
         }
     }
 }
@@ -92,8 +93,8 @@ fn talk(child: &mut Child, feed: &Feed) -> Result<(Vec<u8>, Vec<u8>), String> {
     let output = child.stdout.take().map(listen);
     let errors = child.stderr.take().map(listen);
     let feeder = child.stdin.take().map(|stdin| {
-        let (file, pieces, pause) = (feed.file.to_vec(), feed.pieces.clone(), feed.pause);
-        thread::spawn(move || write_pieces(stdin, &file, &pieces, pause))
+        let (file, pieces) = (feed.file.to_vec(), feed.pieces.clone());
+        thread::spawn(move || write_pieces(stdin, &file, &pieces))
     });
     let output = heard(output)?;
     let errors = heard(errors)?;
@@ -125,16 +126,11 @@ fn heard(stream: Option<Receiver<io::Result<Vec<u8>>>>) -> Result<Vec<u8>, Strin
         .map_err(|fault| format!("a stream of the program: {fault}"))
 }
 
-fn write_pieces(
-    mut stdin: ChildStdin,
-    file: &[u8],
-    pieces: &[usize],
-    pause: Duration,
-) -> io::Result<()> {
+fn write_pieces(mut stdin: ChildStdin, file: &[u8], pieces: &[usize]) -> io::Result<()> {
     let mut rest = file;
-    for (number, &length) in pieces.iter().enumerate() {
-        if number > 0 {
-            thread::sleep(pause);
+    for &length in pieces {
+        if !wait_for_reader(&stdin)? {
+            return Ok(());
         }
         let (piece, later) = rest.split_at(length);
         rest = later;

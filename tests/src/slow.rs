@@ -1,14 +1,9 @@
-//! Files in pieces with a long pause between: the program has read the first piece, and waits, before
-//! the second is there. The pieces of the random cases come so close together that a program which
-//! takes a moment to start finds them all in its first read.
+//! Files in pieces: the program has read the first piece, and waits, before the second is there.
 
 use crate::expect::{search, text, BUDGET};
 use crate::runner::Feed;
 use crate::second::Second;
 use crate::tables::{device_a, job, task, Tables};
-use std::time::Duration;
-
-const PAUSE: Duration = Duration::from_millis(300);
 
 /// Each of them has another answer than its first piece alone.
 pub struct Slow {
@@ -22,7 +17,6 @@ impl Slow {
         Feed {
             file: &self.file,
             pieces: self.pieces.clone(),
-            pause: PAUSE,
         }
     }
 

@@ -2,6 +2,7 @@
 //! of a file that it could not read, and nothing after a write that did not go through.
 
 use crate::expect::{search, text, BUDGET};
+use crate::pipes;
 use crate::runner::{piped, run, Feed, Printed};
 use crate::tables::{device_a, Tables};
 use std::fs::{File, OpenOptions};
@@ -128,11 +129,11 @@ fn unwritable(program: &Path, trials: &mut Trials) -> io::Result<()> {
 
         // Where the signal is not ignored the system ends the program at the write.
         let mut unheard = piped(program);
-        unheard.stdout(io::pipe()?.1);
+        unheard.stdout(pipes::unheard()?);
         expect("nobody reads", &mut unheard, ("", Some(SIGPIPE)));
 
         let mut unmoved = by_shell("trap '' PIPE; exec \"$0\"", program);
-        unmoved.stdout(io::pipe()?.1);
+        unmoved.stdout(pipes::unheard()?);
         let how = "nobody reads, and the signal is ignored";
         expect(how, &mut unmoved, (CANNOT_WRITE, None));
     }

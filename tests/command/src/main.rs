@@ -10,6 +10,7 @@ mod malformed;
 mod parts;
 mod pictures;
 mod planning;
+mod pty;
 mod second;
 mod sentences;
 mod sheets;

@@ -8,7 +8,6 @@ use outside::example;
 use outside::expect::{search, text, BUDGET};
 use outside::request::read;
 use outside::runner::{run, Feed};
-use std::time::Duration;
 
 const SEED: u64 = 20;
 const CASES: u64 = 1_200;
@@ -40,7 +39,6 @@ pub fn test(floe: &Floe) -> Tried {
             let feed = Feed {
                 file,
                 pieces: case.pieces.clone(),
-                pause: Duration::from_millis(1),
             };
             let printed = run(&mut floe.command(&words), &feed)?;
             let got = (printed.status, printed.output, printed.errors);

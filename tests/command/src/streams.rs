@@ -2,6 +2,7 @@
 //! its reason, and nothing that was read in part is taken for the whole.
 
 use crate::floe::{same, Floe, Tried};
+use outside::pipes;
 use outside::runner::{piped, run, Feed};
 use outside::slow;
 use outside::tables::{device_a, job, Tables};
@@ -71,7 +72,7 @@ fn unwritable(floe: &Floe) -> Tried {
         let full_device = OpenOptions::new().write(true).open("/dev/full");
         full.stdout(full_device.map_err(not_set_up)?);
         let mut unheard = floe.command(words);
-        unheard.stdout(io::pipe().map_err(not_set_up)?.1);
+        unheard.stdout(pipes::unheard().map_err(not_set_up)?);
         let words = words.join(" ");
         let mut closed = by_shell(floe, &format!("exec \"$0\" {words} >&-"));
         let mut read_only = by_shell(floe, &format!("exec \"$0\" {words} 1</dev/null"));

@@ -1,6 +1,7 @@
 //! How far the search has come, on a terminal and only there; and the script at the top.
 
 use crate::floe::{same, Floe, Tried};
+use crate::pty;
 use outside::runner::{piped, run, Feed};
 use std::fs;
 use std::os::unix::fs::symlink;
@@ -43,20 +44,12 @@ fn in_folder(floe: &Floe, folder: &Path) -> Tried {
     })?;
     let mut runs = 3;
 
-    let mut terminal = piped(Path::new("script"));
-    let line = format!("'{}' plan '{request}'", floe.program().display());
-    terminal.args(["-qec", &line, "/dev/null"]);
-    match run(&mut terminal, &Feed::whole(b"")) {
-        Err(_) => println!("there is no script(1): the terminal is not tried"),
-        Ok(printed) => {
-            let said = String::from_utf8_lossy(&printed.output).replace("\r\n", "\n");
-            let is_told = said.contains("\rfloe: 1000000 vertices searched")
-                && said.contains("on to 64000000")
-                && said.ends_with(&format!("\r\x1b[K{plan}"));
-            same((printed.status, is_told), (Some(0), true), || said.clone())?;
-            runs += 1;
-        }
-    }
+    let (printed, said) = pty::shown(floe.command(&["plan", &request]))?;
+    let is_told = said.contains("\rfloe: 1000000 vertices searched")
+        && said.contains("on to 64000000")
+        && said.ends_with(&format!("\r\x1b[K{plan}"));
+    same((printed.status, is_told), (Some(0), true), || said.clone())?;
+    runs += 1;
 
     // The script finds its house from anywhere, through a link too.
     let script = Path::new(env!("CARGO_MANIFEST_DIR")).join("../../floe");
