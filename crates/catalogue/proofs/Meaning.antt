@@ -11,7 +11,7 @@ use lib.Seq.{take-all, take-nil}
 use lib.Dec.{eqb, ltb}
 use borrow.Author.Tests.{eqb-true, ltb-false, not-true, not-false}
 use Rattle.base.specs.Lists.{upTo}
-use Rattle.catalogue.specs.Parts.{all, one, same, has, wellFormed, malformed, repeated, pieces, Part, partOf, partsOf, numbers, whole, unfit, lacking, Has}
+use Rattle.catalogue.specs.Parts.{all, one, same, has, wellFormed, malformed, repeated, pieces, inRow, Part, partOf, partsOf, numbers, whole, unfit, lacking, Has}
 use Rattle.catalogue.proofs.PartNumbers.{both, neither, or-right, same-true, same-self}
 use Rattle.catalogue.proofs.Lookup.{has-found}
 
@@ -67,13 +67,9 @@ lacking-means ps ws h =
 
 -- ---- the pieces in a row
 
-abbrev pub inRow : List (List ℕ) → List ℕ
-inRow [] = []
-inRow (p ∷ ps) = p ++ inRow ps
-
-row-append : (ps qs : List (List ℕ)) → inRow (ps ++ qs) ≡ inRow ps ++ inRow qs
-row-append [] qs = refl
-row-append (p ∷ ps) qs = rw (row-append ps qs, append-assoc)
+pub row-snoc : (ps : List (List ℕ)) (p : List ℕ) → inRow (ps ++ p ∷ []) ≡ inRow ps ++ p
+row-snoc [] p = append-nil p
+row-snoc (q ∷ ps) p = rw (row-snoc ps p, append-assoc)
 
 take-add : (a b : ℕ) (s : List ℕ) → take a s ++ take b (drop a s) ≡ take (b + a) s
 take-add zero b s = let e : b + 0 ≡ b = omega arith in rw e
@@ -85,16 +81,18 @@ unfolding upTo
 front-row n zero s = rw (mul-zero n)
 front-row n (suc m) s =
     let e : n + n * m ≡ n * suc m = omega (arith, mul-suc n m) in
-    row-append (upTo (λ k. take n (drop (n * k) s)) m) (take n (drop (n * m) s) ∷ [])
-    ∙ rw (front-row n m s, append-nil, take-add (n * m) n s) (ap (λ (x : ℕ). take x s) e)
+    row-snoc (upTo (λ k. take n (drop (n * k) s)) m) (take n (drop (n * m) s)) ∙ rw (front-row n m s, take-add (n * m) n s) (ap (λ (x : ℕ). take x s) e)
+
+-- For every size of which so many pieces reach to the end of the bytes: each numeral but 0 is one.
+pub pieces-row : (n : ℕ) (s : List ℕ) → length s ≤ n * ((length s + (n - 1)) / n) → inRow (pieces n s) ≡ s
+unfolding pieces
+pieces-row n s h = front-row n ((length s + (n - 1)) / n) s ∙ take-all (n * ((length s + (n - 1)) / n)) s h
 
 pub parts-row : (s : List ℕ) → inRow (pieces 15 s) ≡ s
-unfolding pieces
-parts-row s = front-row 15 ((length s + 14) / 15) s ∙ take-all (15 * ((length s + 14) / 15)) s (omega arith)
+parts-row s = pieces-row 15 s (omega arith)
 
 pub wanted-row : (s : List ℕ) → inRow (pieces 8 s) ≡ s
-unfolding pieces
-wanted-row s = front-row 8 ((length s + 7) / 8) s ∙ take-all (8 * ((length s + 7) / 8)) s (omega arith)
+wanted-row s = pieces-row 8 s (omega arith)
 
 -- ---- 21: with it passed, the catalogue is whole parts of 15 bytes, at most 64 of them
 

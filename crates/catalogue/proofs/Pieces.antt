@@ -30,6 +30,17 @@ use Rattle.catalogue.proofs.Meaning.{whole-catalogue}
 pub slice-is : (s : List ℕ) (n at : ℕ) → take ((at + n) - at) (drop at s) ≡ take n (drop at s)
 slice-is s n at = let e : (at + n) - at ≡ n = omega arith in rw e
 
+-- ---- pieces of any size
+
+module _ (n : ℕ) (s : List ℕ) where
+  pub pieces-count : length (pieces n s) ≡ (length s + (n - 1)) / n
+  unfolding pieces
+  pieces-count = length-upTo (λ k. take n (drop (n * k) s)) ((length s + (n - 1)) / n)
+
+  pub piece-at : (k : ℕ) → k < (length s + (n - 1)) / n → getD (pieces n s) k [] ≡ take n (drop (n * k) s)
+  unfolding pieces
+  piece-at k h = getD-upTo (λ k. take n (drop (n * k) s)) ((length s + (n - 1)) / n) k [] h
+
 -- ---- parts
 
 module _ (s : List ℕ) where
@@ -41,10 +52,7 @@ module _ (s : List ℕ) where
   numbers-count = length-map (partsOf s) (λ (p : Part). p .number) ∙ parts-count
 
   pub part-at : (i : ℕ) → i < (length s + 14) / 15 → getD (partsOf s) i noPart ≡ partOf (take 15 (drop (15 * i) s))
-  unfolding pieces
-  part-at i h =
-      List·getD-map partOf (pieces 15 s) i []
-      ∙ ap partOf (getD-upTo (λ k. take 15 (drop (15 * k) s)) ((length s + 14) / 15) i [] h)
+  part-at i h = List·getD-map partOf (pieces 15 s) i [] ∙ ap partOf (piece-at 15 s i h)
 
   pub number-at : (i : ℕ) → i < (length s + 14) / 15 → getD (numbers (partsOf s)) i [] ≡ numberAt s i
   number-at i h =
@@ -155,8 +163,7 @@ module _ (w : List ℕ) where
   wanted-count = length-upTo (λ k. take 8 (drop (8 * k) w)) ((length w + 7) / 8)
 
   pub wanted-at : (i : ℕ) → i < (length w + 7) / 8 → getD (pieces 8 w) i [] ≡ wantedAt w i
-  unfolding pieces
-  wanted-at i h = getD-upTo (λ k. take 8 (drop (8 * k) w)) ((length w + 7) / 8) i [] h
+  wanted-at i h = piece-at 8 w i h
 
 module _ (s w : List ℕ) (ok : unfit (partsOf s) ≡ false) where
   -- A last piece under 8 bytes.

@@ -2,7 +2,7 @@
 -- Assumes nothing.
 use mathlib.Core.Path.{_≡_}
 use mathlib.Core.Bool.{Bool, true, false, not, cond, _&&_, _||_}
-use mathlib.Core.List.{List, [], _∷_, map}
+use mathlib.Core.List.{List, [], _∷_, _++_, map}
 use mathlib.Core.Logic.{_⊎_}
 use Prim.Native.Nat.{ℕ, _+_, _-_, _*_, _/_}
 use lib.ListN.{length, take, drop}
@@ -59,6 +59,11 @@ repeated (n ∷ ns) = has ns n || repeated ns
 -- Bytes in pieces of n; the last may be shorter.
 unfoldable pub pieces : ℕ → List ℕ → List (List ℕ)
 pieces n s = upTo (λ k. take n (drop (n * k) s)) ((length s + (n - 1)) / n)
+
+-- Pieces one after the other.
+abbrev pub inRow : List (List ℕ) → List ℕ
+inRow [] = []
+inRow (p ∷ ps) = p ++ inRow ps
 
 -- A part: 8 bytes of number, 7 of device record.
 pub record Part : Type 0 where

@@ -5,11 +5,11 @@ ghost use Prim.Native.Nat.{_/_, min};
 use calls::RESULT;
 use calls::get_starts;
 use calls::tell;
-use sheet::export_devices;
-use sheet::export_jobs;
-use sheet::export_plan;
-use sheet::import_devices;
-use sheet::import_jobs;
+use exporting::export_devices;
+use exporting::export_jobs;
+use importing::import_devices;
+use importing::import_jobs;
+use plan_sheet::export_plan;
 
 pub const SHUT: u8 = 255;
 

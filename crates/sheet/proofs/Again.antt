@@ -1,33 +1,33 @@
 -- Importing what was exported gives the table again, to the byte, for whatever an export accepts; and nothing that was imported is refused on export.
 -- Assumes nothing.
-use mathlib.Core.Path.{_≡_, refl, sym, ap, subst, _∙_}
-use mathlib.Core.Bool.{Bool, true, false, not, cond, _&&_}
-use mathlib.Core.List.{List, [], _∷_, _++_, map}
-use mathlib.Core.Option.{Option, none, some, Option·getD}
-use Prim.Native.Nat.{ℕ, zero, suc, _+_, _*_, _<_, _≤_}
+use mathlib.Core.Path.{_≡_, refl, sym, ap, _∙_}
+use mathlib.Core.Bool.{true, false}
+use mathlib.Core.List.{List, [], _∷_, map}
+use mathlib.Core.Option.{Option, some, Option·getD}
+use Prim.Native.Nat.{ℕ, _≤_}
 use native.Mathlib.Omega.{arith}
-use lib.ListN.{length, drop, getD, length-map}
+use lib.ListN.{length, length-map}
 use lib.Dec.{eqb, ltb}
-use borrow.Author.Tests.{not-false, le-ltb}
-use Rattle.base.specs.Bytes.{byteAt, pairAt}
+use borrow.Author.Tests.{le-ltb}
 use Rattle.base.specs.Lists.{padded}
-use Rattle.base.specs.Refusals.{firstThat, orElse, _⇒_}
+use Rattle.base.specs.Refusals.{_⇒_, firstThat}
 use Rattle.base.proofs.Every.{Every, every-append}
 use Rattle.base.proofs.Clear.{clear}
 use Rattle.base.proofs.Records.{orElse-zero}
 use Rattle.tables.specs.declared.DeviceRecord.{DeviceRecord}
 use Rattle.tables.specs.declared.JobRecord.{JobRecord}
-use Rattle.tables.specs.Records.{firstAt, firstBytes, jobAt, jobBytes}
-use Rattle.catalogue.specs.Parts.{all, sign, space, front, wellFormed, malformed, repeated, Part, partsOf, numbers, whole, unfit}
-use Rattle.catalogue.proofs.PartNumbers.{both, neither, formed, all-front}
-use Rattle.text.specs.Grammar.{cr, comma, quote, then, linesOf, textOf, fieldsFrom, fieldsOf}
-use Rattle.text.specs.Numerals.{valueOf, isNumber, digitsOf, numbersText}
+use Rattle.tables.specs.Records.{firstAt, firstBytes, jobBytes}
+use Rattle.catalogue.specs.Parts.{all, space, front, repeated, Part, partsOf, numbers, unfit, pieces}
+use Rattle.catalogue.proofs.PartNumbers.{all-front}
+use Rattle.text.specs.Grammar.{cr, comma, quote, then, linesOf, textOf, fieldsOf}
+use Rattle.text.specs.Numerals.{valueOf, digitsOf, numbersText}
 use Rattle.text.proofs.Decimal.{value-digits, is-number}
 use Rattle.text.proofs.Split.{Unbroken, lines-text, signs-unbroken, quoted-more, Small, numbers-fields, numbers-unbroken}
 use Rattle.sheet.specs.declared.Rows.{Rows}
 use Rattle.sheet.specs.declared.Rows.the-variants.{Devices, Jobs}
-use Rattle.sheet.specs.Sheets.{layout, areNumbers, fieldsIn, lineFault, linesFault, partIn, jobIn, partsIn, jobsIn, partsFault, devicesRefused, jobsRefused, partLine, jobLine, devicesText, jobsText, catalogueOf}
-use Rattle.sheet.proofs.Tables.{parts-back, fit-sized}
+use Rattle.sheet.specs.Sheets.{areNumbers, fieldsIn, lineFault, linesFault, partIn, jobIn, partsIn, jobsIn, partsFault, recordsFault, devicesRefused, jobsRefused, partLine, jobLine, devicesText, jobsText, catalogueOf, recordsOf}
+use Rattle.sheet.proofs.LineFaults.{passes}
+use Rattle.sheet.proofs.Laid.{Sized, row-long, pieces-back, parts-back, fit-sized}
 
 -- Numbers as their bytes hold them.
 abbrev pub FitsDevice : DeviceRecord → Type 0
@@ -41,10 +41,6 @@ pub record Kept (p : Part) : Type 0 where
   pub spaced : p .number ≡ padded 8 space (front (p .number))
   pub fits : FitsDevice (firstAt (p .device) 0)
   pub back : firstBytes (firstAt (p .device) 0) ≡ p .device
-
-passes : (r : Rows) (l : List ℕ) (fs : List (List ℕ)) → fieldsOf l ≡ some fs → eqb (length fs) (layout r .texts + 4) ≡ true
-    → areNumbers (layout r .most) (drop (layout r .texts) fs) ≡ true → lineFault r l ≡ 0
-passes r l fs e p q = rw (e, p, q)
 
 four : (m₁ m₂ m₃ m₄ a b c d : ℕ) → a ≤ m₁ → b ≤ m₂ → c ≤ m₃ → d ≤ m₄ → Small a → Small b → Small c → Small d
     → areNumbers (m₁ ∷ m₂ ∷ m₃ ∷ m₄ ∷ []) (map digitsOf (a ∷ b ∷ c ∷ d ∷ [])) ≡ true
@@ -164,3 +160,19 @@ imported-exports text e =
     let p = orElse-zero (linesFault Devices (linesOf text)) (partsFault (partsIn text)) (sym e) .1 in
     let c = clear ((unfit (partsIn text) ⇒ 21) ∷ (repeated (numbers (partsIn text)) ⇒ 22) ∷ []) (tt, (tt, tt)) p in
     ap partsFault (parts-back (partsIn text) (fit-sized (partsIn text) (c .0))) ∙ sym p
+
+pub imported-jobs-export : (text : List ℕ) → jobsRefused text ≡ 0 → recordsFault (pieces 7 (recordsOf (jobsIn text))) ≡ 0
+imported-jobs-export text e =
+    let js = jobsIn text in
+    let p = orElse-zero (linesFault Jobs (linesOf text)) (firstThat ((ltb 16 (length js) ⇒ 12) ∷ [])) (sym e) .1 in
+    let c = clear ((ltb 16 (length js) ⇒ 12) ∷ []) (tt, tt) p in
+    let back = pieces-back 7 (map jobBytes js) (sevens js) (omega (arith, row-long 7 (map jobBytes js) (sevens js))) in
+    rw (back, length-map js jobBytes, c .0, all-seven js)
+  where
+    sevens : (qs : List JobRecord) → Every (Sized 7) (map jobBytes qs)
+    sevens [] = tt
+    sevens (q ∷ qs) = (refl, sevens qs)
+
+    all-seven : (qs : List JobRecord) → all (λ (r : List ℕ). eqb (length r) 7) (map jobBytes qs) ≡ true
+    all-seven [] = refl
+    all-seven (q ∷ qs) = all-seven qs

@@ -1,10 +1,6 @@
-pub mod Raw
-pub mod Faults
-pub mod Lines
-pub mod Printed
-pub mod Tables
-pub mod Outcomes
-pub mod Spares
+pub mod LineFaults
+pub mod Laid
+pub mod Answers
 pub mod Only
 pub mod Again
 pub mod Round

@@ -2,18 +2,16 @@
 -- Assumes nothing.
 use mathlib.Core.Path.{_≡_, refl, sym, ap, subst, _∙_}
 use mathlib.Core.List.{List, [], _∷_, map}
-use Prim.Native.Nat.{ℕ, _<_}
+use Prim.Native.Nat.{ℕ}
 use native.Mathlib.Omega.{arith}
-use lib.IntN.{ℤ, pos, natAbs}
+use lib.IntN.{pos, natAbs}
 use lib.ListN.{length, replicate}
-use Rattle.catalogue.specs.Parts.{partsOf, pieces}
 use Rattle.planner.specs.declared.Answer.{Answer}
-use Rattle.planner.specs.Promises.{Judged, Margined}
+use Rattle.planner.specs.Promises.{Margined}
 use Rattle.planner.proofs.Only.{only-judged, only-margined}
 use Rattle.sheet.specs.Sheets.{planText}
 use Rattle.sheet.specs.Promises.{Filled, ImportedDevices, ImportedJobs, ExportedDevices, ExportedJobs, ExportedPlan}
 use Rattle.sheet.specs.Promises as P
-use Rattle.sheet.proofs.Spares.{back-natural}
 
 pub only-filled : (fault horizon count : ℕ) (made lent : List ℕ) {a a′ : Answer} {m m′ : List ℕ}
     → Filled fault horizon count made lent a m → Filled fault horizon count made lent a′ m′ → (a ≡ a′) × (m ≡ m′)
@@ -40,6 +38,11 @@ pub only-exported-jobs : (records lent : List ℕ) {a a′ : Answer} {m m′ : L
 only-exported-jobs records lent = only-filled _ _ _ _ lent
 
 -- The plan: one verdict, and one list of margins.
+-- A margin read back from its natural number.
+back-natural : (ms : List ℕ) → map natAbs (map pos ms) ≡ ms
+back-natural [] = refl
+back-natural (m ∷ ms) = ap {B = List ℕ} (λ x. m ∷ x) (back-natural ms)
+
 module _ (file starts lent : List ℕ) where
   one-list : {f f′ : Answer} (ms ms′ : List ℕ) → Margined file starts (replicate 16 (pos 0)) f (map pos ms) → Margined file starts (replicate 16 (pos 0)) f′ (map pos ms′) → ms ≡ ms′
   one-list ms ms′ p p′ = sym (back-natural ms) ∙ ap (map natAbs) (only-margined file starts (replicate 16 (pos 0)) p p′ .1) ∙ back-natural ms′

@@ -2,30 +2,28 @@
 -- Assumes nothing.
 use mathlib.Core.Path.{_≡_, refl, sym, ap, subst, _∙_}
 use mathlib.Core.Bool.{true, false, not}
-use mathlib.Core.List.{List, [], _∷_, _++_, map, append-nil, append-assoc}
-use Prim.Native.Nat.{ℕ, zero, suc, _+_, _-_, _*_, _/_, _<_, _≤_}
+use mathlib.Core.List.{List, [], _∷_, map}
+use Prim.Native.Nat.{ℕ, zero, suc, _+_, _-_, _*_, _/_, _<_}
 use native.Mathlib.Omega.{arith}
 use native.Mathlib.Nat.{zero-add}
-use lib.ListN.{length, take, drop, getD, take-append-drop, length-map}
-use lib.Seq.{take-all, take-nil, getD-drop}
+use lib.ListN.{length, take, drop, take-append-drop, length-map}
+use lib.Seq.{take-all, getD-drop}
 use lib.Dec.{eqb, ltb}
 use borrow.Author.Tests.{not-false, ltb-false, eqb-true}
-use Rattle.base.specs.Bytes.{byteAt, pairAt}
-use Rattle.base.specs.Lists.{upTo, padded}
-use Rattle.base.specs.Refusals.{firstThat, orElse, _⇒_}
+use Rattle.base.specs.Bytes.{byteAt}
+use Rattle.base.specs.Refusals.{_⇒_}
 use Rattle.base.proofs.Arrays.{upTo-take, upTo-same}
 use Rattle.base.proofs.Clear.{clear}
 use Rattle.base.proofs.Every.{Every, every-upTo}
 use Rattle.tables.specs.declared.Kind.the-variants.{First}
-use Rattle.tables.specs.Records.{firstAt, firstBytes, jobAt, jobBytes}
+use Rattle.tables.specs.Records.{firstAt, jobAt, jobBytes}
 use Rattle.tables.specs.Layout.{Bytes}
 use Rattle.tables.proofs.Parts.{part}
 use Rattle.tables.proofs.Reading.{device-part, job-part}
-use Rattle.catalogue.specs.Parts.{all, wellFormed, malformed, repeated, Part, partOf, partsOf, numbers, whole, unfit, pieces}
+use Rattle.catalogue.specs.Parts.{all, wellFormed, malformed, repeated, Part, partOf, partsOf, numbers, whole, unfit, pieces, inRow}
 use Rattle.catalogue.proofs.PartNumbers.{both, neither, formed}
-use Rattle.catalogue.proofs.Meaning as Meaning
-use Rattle.catalogue.proofs.Meaning.{parts-row}
-use Rattle.sheet.specs.Sheets.{inRow, partBytes, catalogueOf, recordsOf, partsIn, jobsIn, partsFault, recordsFault, devicesRefused, jobsRefused, devicesText, jobsText, jobsOf}
+use Rattle.catalogue.proofs.Meaning.{parts-row, pieces-row}
+use Rattle.sheet.specs.Sheets.{catalogueOf, recordsOf, partsIn, jobsIn, partsFault, recordsFault, devicesRefused, jobsRefused, devicesText, jobsText, jobsOf}
 use Rattle.sheet.proofs.Again.{Kept, FitsDevice, FitsJob, devices-again, jobs-again}
 
 -- Seven bytes, each by its place.
@@ -95,7 +93,7 @@ kept-parts catalogue b u =
 parts-bytes : (catalogue : List ℕ) → catalogueOf (partsOf catalogue) ≡ catalogue
 parts-bytes catalogue = go (pieces 15 catalogue) ∙ parts-row catalogue
   where
-    go : (qs : List (List ℕ)) → catalogueOf (map partOf qs) ≡ Meaning.inRow qs
+    go : (qs : List (List ℕ)) → catalogueOf (map partOf qs) ≡ inRow qs
     go [] = refl
     go (q ∷ qs) = let e = take-append-drop 8 q in let f = go qs in cc
 
@@ -119,26 +117,6 @@ seven-all (r ∷ rs) b h =
     let f = y .1 in
     ((fits-job r (b .0), y .0), cc)
 
-take-add : (a b : ℕ) (s : List ℕ) → take a s ++ take b (drop a s) ≡ take (b + a) s
-take-add zero b s = let e : b + 0 ≡ b = omega arith in rw e
-take-add (suc a) b [] = take-nil b ∙ sym (take-nil (b + suc a))
-take-add (suc a) b (x ∷ s) = let e : b + suc a ≡ suc (b + a) = omega arith in rw (e, take-add a b s)
-
-row-snoc : (ps : List (List ℕ)) (p : List ℕ) → inRow (ps ++ p ∷ []) ≡ inRow ps ++ p
-row-snoc [] p = append-nil p
-row-snoc (q ∷ ps) p = rw (row-snoc ps p, append-assoc)
-
-front-row : (m : ℕ) (s : List ℕ) → inRow (upTo (λ k. take 7 (drop (7 * k) s)) m) ≡ take (7 * m) s
-unfolding upTo
-front-row zero s = refl
-front-row (suc m) s =
-    let e : 7 + 7 * m ≡ 7 * suc m = omega arith in
-    row-snoc (upTo (λ k. take 7 (drop (7 * k) s)) m) (take 7 (drop (7 * m) s)) ∙ rw (front-row m s, take-add (7 * m) 7 s) (ap (λ (x : ℕ). take x s) e)
-
-records-row : (s : List ℕ) → inRow (pieces 7 s) ≡ s
-unfolding pieces
-records-row s = front-row ((length s + 6) / 7) s ∙ take-all (7 * ((length s + 6) / 7)) s (omega arith)
-
 -- Job records that an export accepts are imported again, to the byte.
 pub jobs-round : (records : List ℕ) → Bytes records → recordsFault (pieces 7 records) ≡ 0
     → (jobsRefused (jobsText (jobsOf (pieces 7 records))) ≡ 0) × (recordsOf (jobsIn (jobsText (jobsOf (pieces 7 records)))) ≡ records)
@@ -148,7 +126,7 @@ jobs-round records b e =
     let y = seven-all rs (pieces-bytes 7 records b) (not-false _ (c .1 .0)) in
     let few = ltb-false 16 (length rs) (c .0) in
     let r = jobs-again (jobsOf rs) (y .0) (omega (arith, length-map rs (λ (q : List ℕ). jobAt q 0))) in
-    (r .0, ap recordsOf (r .1) ∙ y .1 ∙ records-row records)
+    (r .0, ap recordsOf (r .1) ∙ y .1 ∙ pieces-row 7 records (omega arith))
 
 -- Text in our own form, as an export writes it: exporting what was imported from it gives the text again.
 pub devices-own : (catalogue : List ℕ) → Bytes catalogue → partsFault (partsOf catalogue) ≡ 0

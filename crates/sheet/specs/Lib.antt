@@ -1,4 +1,2 @@
 pub mod Sheets
 pub mod Promises
-pub mod Reading
-pub mod Printing

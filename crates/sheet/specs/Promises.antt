@@ -4,11 +4,11 @@
 use mathlib.Core.Path.{_≡_}
 use mathlib.Core.List.{List, _++_, map}
 use Prim.Native.Nat.{ℕ, _≤_, _<_}
-use lib.IntN.{ℤ, pos}
+use lib.IntN.{pos}
 use lib.ListN.{length, drop, replicate}
-use Rattle.catalogue.specs.Parts.{partsOf, pieces}
 use Rattle.planner.specs.declared.Answer.{Answer}
 use Rattle.planner.specs.Promises.{success, refusal, Judged, Margined}
+use Rattle.catalogue.specs.Parts.{partsOf, pieces}
 use Rattle.sheet.specs.Sheets.{partsIn, jobsIn, partsFault, recordsFault, devicesRefused, jobsRefused, catalogueOf, recordsOf, devicesText, jobsText, jobsOf, planText}
 
 -- Refused by a number, which leaves the lent bytes as they were; or 15 where they have no room; or the bytes made stand at their front, with the horizon and

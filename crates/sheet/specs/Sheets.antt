@@ -1,7 +1,7 @@
 -- Sheets of devices and of jobs, each read as a table and written as text, with what refuses them (rules 104 to 109). A table of devices is the catalogue's
 -- list of parts, and 21 and 22 are the catalogue's own.
 -- Assumes nothing.
-use mathlib.Core.Bool.{Bool, true, false, not, cond, _&&_}
+use mathlib.Core.Bool.{Bool, true, false, not, _&&_}
 use mathlib.Core.List.{List, [], _∷_, _++_, map}
 use mathlib.Core.Option.{Option, Option·getD}
 use Prim.Native.Nat.{ℕ, _+_}
@@ -10,9 +10,8 @@ use lib.Dec.{eqb, ltb}
 use Rattle.base.specs.Lists.{upTo, padded}
 use Rattle.base.specs.Refusals.{Refusal, _⇒_, firstThat, orElse}
 use Rattle.tables.specs.declared.JobRecord.{JobRecord}
-use Rattle.tables.specs.declared.DeviceRecord.{DeviceRecord}
 use Rattle.tables.specs.Records.{averaged, firstAt, firstBytes, jobAt, jobBytes}
-use Rattle.catalogue.specs.Parts.{all, space, front, Part, numbers, unfit, repeated, pieces}
+use Rattle.catalogue.specs.Parts.{all, space, front, Part, numbers, unfit, repeated, inRow}
 use Rattle.text.specs.Grammar.{quote, comma, linesOf, textOf, fieldsOf, unread}
 use Rattle.text.specs.Numerals.{valueOf, isNumber, numbersText}
 use Rattle.sheet.specs.declared.Rows.{Rows}
@@ -94,11 +93,6 @@ abbrev pub jobsRefused : List ℕ → ℕ
 jobsRefused text = orElse (linesFault Jobs (linesOf text)) (firstThat ((ltb 16 (length (jobsIn text)) ⇒ 12) ∷ []))
 
 -- ---- tables as bytes
-
--- One after the other.
-abbrev pub inRow : List (List ℕ) → List ℕ
-inRow [] = []
-inRow (p ∷ ps) = p ++ inRow ps
 
 abbrev pub partBytes : Part → List ℕ
 partBytes p = p .number ++ p .device

@@ -9,6 +9,7 @@ use lib.ListN.{length, set, getD, take, drop, length-append, length-take, length
 use lib.Seq.{set-at, split-at, take-at, drop-at, drop-drop, length-take-le}
 use Rattle.text.specs.Grammar.{cr, lf, comma}
 use Rattle.text.specs.Numerals.{digitsOf, numbersText}
+use Rattle.text.proofs.Decimal.{few-digits}
 use Rattle.writing.specs.Putting.{Put, lineText}
 
 -- Nothing is put; one byte is stored.
@@ -31,6 +32,13 @@ put-length {t} {at} {l} {r} {m} p h =
     let b = length-append (take at l) (t ++ drop r l) in
     let c = length-append t (drop r l) in
     omega (arith, length-take-le at l (omega (arith, p .next)), length-drop r l, p .next)
+
+-- What was put at the front is there, as far as it reaches.
+pub put-size : {t l : List ℕ} {r : ℕ} {m : List ℕ} → Put t 0 l r m → r ≡ length t
+put-size p = omega (arith, p .next)
+
+pub put-front : {t l : List ℕ} {r : ℕ} {m : List ℕ} → Put t 0 l r m → take r m ≡ t
+put-front {t} {l} {r} {m} p = ap (take r) (p .is) ∙ take-at t (drop r l) r (sym (put-size p))
 
 -- More bytes behind those.
 pub put-more : {t u : List ℕ} {at : ℕ} {l : List ℕ} {r s : ℕ} {m n : List ℕ} → Put t at l r m → Put u r m s n → s ≤ length l → Put (t ++ u) at l s n
@@ -60,3 +68,11 @@ length-field a = length-append (digitsOf a) (comma ∷ [])
 
 pub length-more : (a b : ℕ) (ns : List ℕ) → length (lineText (a ∷ b ∷ ns)) ≡ length (digitsOf a ++ comma ∷ []) + length (lineText (b ∷ ns))
 length-more a b ns = ap length (line-more a b ns) ∙ length-append (digitsOf a ++ comma ∷ []) (lineText (b ∷ ns))
+
+-- Numbers have five digits at most.
+pub three-few : (a b c : ℕ) → length (lineText (a ∷ b ∷ c ∷ [])) ≤ 19
+three-few a b c =
+    omega (arith, length-more a b (c ∷ []), length-more b c [], length-field a, length-field b, length-last c, few-digits 4 a, few-digits 4 b, few-digits 4 c)
+
+pub four-few : (a b c d : ℕ) → length (lineText (a ∷ b ∷ c ∷ d ∷ [])) ≤ 25
+four-few a b c d = omega (arith, length-more a b (c ∷ d ∷ []), length-field a, three-few b c d, few-digits 4 a)

@@ -1,0 +1,51 @@
+// Sheets of devices and of jobs, from text: devices to the bytes of a catalogue, jobs to their records. No operation asks anything of its caller: any bytes of any
+// length get an answer. sheet/specs/Promises.antt says for each the complete outcome.
+ghost use Rattle.sheet.specs.Promises.{ImportedDevices, ImportedJobs};
+use crate::reading::put_parts;
+use crate::reading::put_records;
+use catalogue::is_repeated;
+use judging::devices_fault;
+use judging::lines_fault;
+use planner::Answer;
+use planner::refusal;
+use sheet::Rows;
+use sheet::give;
+use text::count_lines;
+
+mod reading; // reading.rt: the rows of a text, as bytes
+
+// The catalogue of a sheet of devices, 15 bytes a line.
+pub fn import_devices(text: &[u8], out: &mut [u8]) -> Answer
+    ensures { λ a. ⌜ ImportedDevices (now (text .entry)) (now (out .entry)) a (now (out .exit)) ⌝ }
+{
+    let fault = devices_fault(text);
+    if fault != 0 {
+        return refusal(fault);
+    }
+    let lines = count_lines(text);
+    let size = lines * 15;
+    let mut own = [0u8; 960];
+    put_parts(&mut own, text, lines);
+    if is_repeated(&own[..size]) {
+        return refusal(22);
+    }
+    give(&own[..size], 0, lines, out)
+}
+
+// The job records of a sheet of jobs, 7 bytes a line.
+pub fn import_jobs(text: &[u8], out: &mut [u8]) -> Answer
+    ensures { λ a. ⌜ ImportedJobs (now (text .entry)) (now (out .entry)) a (now (out .exit)) ⌝ }
+{
+    let fault = lines_fault(text, Rows::Jobs);
+    if fault != 0 {
+        return refusal(fault);
+    }
+    let lines = count_lines(text);
+    if 16 < lines {
+        return refusal(12);
+    }
+    let size = lines * 7;
+    let mut own = [0u8; 112];
+    put_records(&mut own, text, lines);
+    give(&own[..size], 0, lines, out)
+}

@@ -1,0 +1,4 @@
+pub mod Raw
+pub mod Faults
+pub mod PartFields
+pub mod Tables
