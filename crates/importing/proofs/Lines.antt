@@ -1,10 +1,11 @@
 -- Lines without fault, one after the other: their fields as numbers and part numbers, and their rows as bytes.
 -- Assumes nothing.
-use mathlib.Core.Path.{_≡_}
+use mathlib.Core.Path.{_≡_, refl}
 use mathlib.Core.Bool.{true, _&&_}
 use mathlib.Core.List.{List}
-use Prim.Native.Nat.{ℕ, _<_, _≤_}
+use Prim.Native.Nat.{ℕ, _+_, _*_, _<_, _≤_}
 use native.Mathlib.Omega.{arith}
+use native.Mathlib.Nat.{add-mul, one-mul, mul-le-mul-right}
 use lib.ListN.{length, length-append}
 use lib.Dec.{leb, ltb}
 use borrow.Author.Tests.{leb-true}
@@ -14,8 +15,10 @@ use Rattle.catalogue.proofs.PartNumbers.{both, formed}
 use Rattle.text.specs.Numerals.{digit, valueOf, isNumber}
 use Rattle.text.specs.Cursors.{rawOf, fieldAt, numberOf}
 use Rattle.text.proofs.Scanning.{number-value}
-use Rattle.sheet.specs.Sheets.{partBytes}
-use Rattle.judging.specs.Reading.{partRaw, Formed}
+use Rattle.sheet.specs.declared.Rows.{Rows}
+use Rattle.sheet.specs.declared.Rows.the-variants.{Devices, Jobs}
+use Rattle.judging.specs.Reading.{partRaw}
+use Rattle.importing.specs.RowBytes.{rowBytes, rowSize, Ready}
 
 -- ---- fields
 
@@ -29,8 +32,16 @@ number-is m f h e =
 
 -- ---- rows
 
--- A part has fifteen bytes.
-pub part-long : (l : List ℕ) → Formed l → length (partBytes (partRaw l)) ≡ 15
-part-long l w =
-    let n = formed (padded 8 space (fieldAt (rawOf l) 0)) w .0 in
+-- A part has fifteen bytes, a job record seven.
+pub row-size : (r : Rows) (l : List ℕ) → Ready r l → length (rowBytes r l) ≡ rowSize r
+row-size Devices l h =
+    let n = formed (padded 8 space (fieldAt (rawOf l) 0)) (h .1) .0 in
     omega (arith, length-append (partRaw l .number) (partRaw l .device))
+row-size Jobs l h = refl
+
+-- So many rows of a size: one more, and before the last there is room for one.
+pub one-more : (k n : ℕ) → (k + 1) * n ≡ k * n + n
+one-more k n = omega (arith, add-mul k 1 n, one-mul n)
+
+pub room-left : {k m : ℕ} (n : ℕ) {room : ℕ} → k < m → m * n ≤ room → k * n + n ≤ room
+room-left {k} {m} n h r = let l : k + 1 ≤ m = omega arith in omega (arith, one-more k n, mul-le-mul-right n l)

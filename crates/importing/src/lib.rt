@@ -1,8 +1,7 @@
 // Sheets of devices and of jobs, from text: devices to the bytes of a catalogue, jobs to their records. No operation asks anything of its caller: any bytes of any
 // length get an answer. sheet/specs/Promises.antt says for each the complete outcome.
 ghost use Rattle.sheet.specs.Promises.{ImportedDevices, ImportedJobs};
-use crate::reading::put_parts;
-use crate::reading::put_records;
+use crate::reading::put_rows;
 use catalogue::is_repeated;
 use judging::devices_fault;
 use judging::lines_fault;
@@ -25,7 +24,7 @@ pub fn import_devices(text: &[u8], out: &mut [u8]) -> Answer
     let lines = count_lines(text);
     let size = lines * 15;
     let mut own = [0u8; 960];
-    put_parts(&mut own, text, lines);
+    put_rows(&mut own, text, lines, Rows::Devices);
     if is_repeated(&own[..size]) {
         return refusal(22);
     }
@@ -46,6 +45,6 @@ pub fn import_jobs(text: &[u8], out: &mut [u8]) -> Answer
     }
     let size = lines * 7;
     let mut own = [0u8; 112];
-    put_records(&mut own, text, lines);
+    put_rows(&mut own, text, lines, Rows::Jobs);
     give(&own[..size], 0, lines, out)
 }

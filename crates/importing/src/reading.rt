@@ -12,6 +12,7 @@ ghost use Rattle.text.specs.Cursors.{rawOf, fieldAt};
 ghost use Rattle.writing.specs.Putting.{Put};
 ghost use Rattle.sheet.specs.Sheets.{partBytes};
 ghost use Rattle.judging.specs.Reading.{partRaw, jobRaw, Sound, Formed, EachLine};
+ghost use Rattle.importing.specs.RowBytes.{rowBytes, rowSize, Ready};
 use judging::eight_of;
 use sheet::Rows;
 use text::field;
@@ -67,18 +68,6 @@ fn put_part(out: &mut [u8], at: usize, line: &[u8]) -> usize
     )
 }
 
-pub(crate) fn put_parts(out: &mut [u8], text: &[u8], lines: usize)
-    requires { ⌜ (lines ≡ length (linesOf (now text))) × (lines * 15 ≤ length (now out)) × EachLine (Sound Rows.Devices) (now text) × EachLine Formed (now text) ⌝ }
-    ensures { λ r. ⌜ Put (inRow (map (λ l. partBytes (partRaw l)) (linesOf (now (text .entry))))) 0 (now (out .entry)) (lines * 15) (now (out .exit)) ⌝ }
-{
-    let mut at = 0;
-    let mut k = 0;
-    while k < lines {
-        at = put_part(out, at, line(text, k));
-        k += 1;
-    }
-}
-
 // ---- jobs
 
 fn put_record(out: &mut [u8], at: usize, line: &[u8]) -> usize
@@ -91,14 +80,26 @@ fn put_record(out: &mut [u8], at: usize, line: &[u8]) -> usize
     put_byte(out, set, byte_at(line, 3))
 }
 
-pub(crate) fn put_records(out: &mut [u8], text: &[u8], lines: usize)
-    requires { ⌜ (lines ≡ length (linesOf (now text))) × (lines * 7 ≤ length (now out)) × EachLine (Sound Rows.Jobs) (now text) ⌝ }
-    ensures { λ r. ⌜ Put (inRow (map (λ l. jobBytes (jobRaw l)) (linesOf (now (text .entry))))) 0 (now (out .entry)) (lines * 7) (now (out .exit)) ⌝ }
+// ---- rows
+
+fn put_row(out: &mut [u8], at: usize, line: &[u8], rows: Rows) -> usize
+    requires { ⌜ (at + rowSize rows ≤ length (now out)) × Ready rows (now line) ⌝ }
+    ensures { λ r. ⌜ Put (rowBytes rows (now (line .entry))) at (now (out .entry)) r (now (out .exit)) ⌝ }
+{
+    match rows {
+        Rows::Devices => put_part(out, at, line),
+        Rows::Jobs => put_record(out, at, line),
+    }
+}
+
+pub(crate) fn put_rows(out: &mut [u8], text: &[u8], lines: usize, rows: Rows)
+    requires { ⌜ (lines ≡ length (linesOf (now text))) × (lines * rowSize rows ≤ length (now out)) × EachLine (Ready rows) (now text) ⌝ }
+    ensures { λ r. ⌜ Put (inRow (map (rowBytes rows) (linesOf (now (text .entry))))) 0 (now (out .entry)) (lines * rowSize rows) (now (out .exit)) ⌝ }
 {
     let mut at = 0;
     let mut k = 0;
     while k < lines {
-        at = put_record(out, at, line(text, k));
+        at = put_row(out, at, line(text, k), rows);
         k += 1;
     }
 }

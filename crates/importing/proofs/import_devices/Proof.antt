@@ -46,17 +46,17 @@ mul-size c =
     let count = c .count-lines .ensures in
     omega arith
 
-slice-aggregate-put-parts : tie.Need-slice-aggregate-put-parts
-slice-aggregate-put-parts c = search needs
+slice-aggregate-put-rows : tie.Need-slice-aggregate-put-rows
+slice-aggregate-put-rows c = search needs
 
-put-parts-requires : tie.Need-put-parts-requires
-put-parts-requires c κs =
+put-rows-requires : tie.Need-put-rows-requires
+put-rows-requires c κs =
     let s = c .before .before .before .before .before .before .args .text .now in
     let e = faultless (c .before .before) in
     let pass = devices-pass s e in
     let fit = fit-lines s (pass .1) in
     let count = c .before .count-lines .ensures in
-    (count, omega arith, sound-lines Devices s (pass .0), fit .1)
+    (count, omega arith, λ k h. (sound-lines Devices s (pass .0) k h, fit .1 k h))
 
 array-share-prefix-own : tie.Need-array-share-prefix-own
 array-share-prefix-own c =
@@ -77,7 +77,7 @@ is-repeated-requires c κs =
     let pass = devices-pass s e in
     let fit = fit-lines s (pass .1) in
     let count = c .before .before .before .before .count-lines .ensures in
-    let put = c .before .before .put-parts .ensures in
+    let put = c .before .before .put-rows .ensures in
     ap unfit (ap partsOf (put-front put) ∙ rows-parts s (pass .1)) ∙ pass .1
 
 refusal-requires-2 : tie.Need-refusal-requires-2
@@ -90,7 +90,7 @@ returns-2 c =
     let pass = devices-pass s e in
     let fit = fit-lines s (pass .1) in
     let count = c .before .before .before .before .before .before .before .count-lines .ensures in
-    let put = c .before .before .before .before .before .put-parts .ensures in
+    let put = c .before .before .before .before .before .put-rows .ensures in
     let back = ap partsOf (put-front put) ∙ rows-parts s (pass .1) in
     let again = sym (c .before .before .is-repeated .ensures ∙ ap (λ (ps : List Part). repeated (numbers ps)) back) in
     rw (c .refusal2 .ensures) (refused-as (devices-twice s e (again ∙ c .before .if2 .taken)) (λ n. omega (arith, n)))
@@ -126,7 +126,7 @@ returns-3 c =
     let pass = devices-pass s e in
     let fit = fit-lines s (pass .1) in
     let count = c .before .before .before .before .before .before .before .before .before .before .before .count-lines .ensures in
-    let put = c .before .before .before .before .before .before .before .before .before .put-parts .ensures in
+    let put = c .before .before .before .before .before .before .before .before .before .put-rows .ensures in
     let back = ap partsOf (put-front put) ∙ rows-parts s (pass .1) in
     let again = sym (c .before .before .before .before .before .before .is-repeated .ensures ∙ ap (λ (ps : List Part). repeated (numbers ps)) back) in
     let fine = devices-fine s e (again ∙ c .before .before .before .before .before .if2 .left) in
@@ -141,8 +141,8 @@ import-devices-spec =
     returns
     count-lines-requires
     mul-size
-    slice-aggregate-put-parts
-    put-parts-requires
+    slice-aggregate-put-rows
+    put-rows-requires
     array-share-prefix-own
     slice-aggregate-is-repeated
     is-repeated-requires

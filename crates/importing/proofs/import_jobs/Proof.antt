@@ -41,11 +41,11 @@ returns-2 c =
 mul-size : tie.Need-mul-size
 mul-size c = search needs
 
-slice-aggregate-put-records : tie.Need-slice-aggregate-put-records
-slice-aggregate-put-records c = search needs
+slice-aggregate-put-rows : tie.Need-slice-aggregate-put-rows
+slice-aggregate-put-rows c = search needs
 
-put-records-requires : tie.Need-put-records-requires
-put-records-requires c κs =
+put-rows-requires : tie.Need-put-rows-requires
+put-rows-requires c κs =
     let s = c .before .before .before .before .before .before .before .args .text .now in
     let e = sym (c .before .before .before .before .lines-fault .ensures) ∙ c .before .before .before .if1 .left in
     let count = c .before .before .count-lines .ensures in
@@ -69,7 +69,7 @@ returns-3 c =
     let e = sym (c .before .before .before .before .before .before .before .before .before .before .before .lines-fault .ensures) ∙ c .before .before .before .before .before .before .before .before .before .before .if1 .left in
     let count = c .before .before .before .before .before .before .before .before .before .count-lines .ensures in
     let fine = jobs-fine s e (omega arith) in
-    filled-as fine (count ∙ jobs-count s) (put-front (c .before .before .before .before .before .before .put-records .ensures) ∙ jobs-bytes s fine) (c .before .before .give .ensures)
+    filled-as fine (count ∙ jobs-count s) (put-front (c .before .before .before .before .before .before .put-rows .ensures) ∙ jobs-bytes s fine) (c .before .before .give .ensures)
 
 pub import-jobs-spec : {M : Type 1} → statement M
 import-jobs-spec =
@@ -82,8 +82,8 @@ import-jobs-spec =
     refusal-requires-2
     returns-2
     mul-size
-    slice-aggregate-put-records
-    put-records-requires
+    slice-aggregate-put-rows
+    put-rows-requires
     array-share-prefix-own
     slice-aggregate-give
     give-requires
