@@ -1,5 +1,5 @@
-// Sheets: comma-separated text in and out, for purchasing. Here is what the lines of a sheet hold, and the giving of what was made; specs/Promises.antt says for
-// each of the five operations, which stand in importing and exporting, the complete outcome.
+// Sheets: comma-separated text in and out, for purchasing. Here is what the lines of a sheet hold, and the giving of what was made; specs/Promises.antt says the
+// complete outcome of each of the five operations, which stand in importing, exporting and plan_sheet.
 ghost use Prim.Native.Nat.{_<_};
 ghost use Rattle.sheet.specs.Promises.{Filled};
 use planner::Answer;
