@@ -1,0 +1,4 @@
+pub mod Helps
+pub mod Files
+pub mod Searches
+pub mod Shown
