@@ -15,6 +15,7 @@ pub mod faults;
 pub mod fixed;
 pub mod judge;
 pub mod listing;
+pub mod looser;
 pub mod mend;
 pub mod pipes;
 pub mod plain;

@@ -6,6 +6,7 @@ mod dear;
 mod expected;
 mod figures;
 mod library;
+mod looser;
 mod mend;
 mod possible;
 mod rounds;
@@ -235,6 +236,7 @@ fn test() -> Result<String, String> {
         println!("{count:7}  {name} {number}");
     }
     print!("{}", tester.rows.report());
+    println!("looser windows: {}", looser::test()?);
     let is_met = |number: &u8| tester.met.keys().any(|(_, met)| met == number);
     let missed: Vec<u8> = NUMBERS
         .chain([255])
