@@ -1,5 +1,5 @@
-//! The oracle itself, held to the figures P1 to P12, E1 to E6 and G1 to G13 (crates/figures) and to a few worked
-//! out by hand or taken from the two papers that docs/RULES.md names.
+//! The oracle itself, held to the figures P1 to P12, E1 to E6 and G1 to G13 (crates/figures), to M1 and M2
+//! (crates/looser) and to a few worked out by hand or taken from the two papers that docs/RULES.md names.
 
 use crate::expect::{search, text, Outcome, BUDGET};
 use crate::listing::{energy, uses};
@@ -227,6 +227,38 @@ fn g6_a_device_that_is_never_used() {
 }
 
 /// A device of T 1, Pw 5 and Ps 1, alone.
+/// M1 and M2, as they are printed: the second job is released earlier.
+#[test]
+fn m1_and_m2_a_looser_window() {
+    let printed = |release| {
+        let jobs = vec![job(0, 2, 1, 1), job(release, 6, 1, 1)];
+        text(&search(&listed(6, 1, jobs), BUDGET)).replace('\n', " / ")
+    };
+    assert_eq!(
+        printed(3),
+        "energy 18 / vertices 9 / job 0 start 0 margin 1 / job 1 start 5 margin 0 / device 0 WDSSUW / "
+    );
+    assert_eq!(
+        printed(1),
+        "energy 18 / vertices 13 / job 0 start 0 margin 1 / job 1 start 1 margin 4 / device 0 WWDSSU / "
+    );
+}
+
+/// The other two pairs of crates/looser: fewer vertices, and a plan with the looser window only.
+#[test]
+fn looser_windows_that_save_vertices_or_give_a_plan() {
+    let due = |deadline| listed(4, 1, vec![job(2, 4, 1, 0), job(1, deadline, 1, 1)]);
+    for (deadline, found) in [(3, (8, vec![2, 1], 16)), (4, (7, vec![2, 3], 12))] {
+        let (outcome, starts, energy) = planned(&due(deadline));
+        assert_eq!((outcome.count, starts, energy), found);
+    }
+    let both = |deadline| listed(2, 1, vec![job(0, 1, 1, 0), job(0, deadline, 1, 0)]);
+    let none = search(&both(1), BUDGET);
+    assert_eq!((none.number, none.count), (19, 3));
+    let (outcome, starts, energy) = planned(&both(2));
+    assert_eq!((outcome.count, starts, energy), (5, vec![0, 1], 6));
+}
+
 fn alone(horizon: u16, moving: u16) -> Vec<u8> {
     Tables {
         horizon,
