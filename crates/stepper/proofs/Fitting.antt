@@ -1,6 +1,6 @@
 -- What the code's tests of 25 and 24 say, and the cases of the promise that they lead to.
 -- Assumes nothing.
-use mathlib.Core.Path.{_≡_, sym, refl}
+use mathlib.Core.Path.{_≡_, refl}
 use mathlib.Core.Bool.{true, false}
 use mathlib.Core.List.{List}
 use Prim.Native.Nat.{ℕ, _≤_}

@@ -1,2 +1,5 @@
 pub mod Finding
 pub mod Fitting
+pub mod Laws
+pub mod Only
+pub mod Figures

@@ -1,7 +1,5 @@
 -- `stepper::step_recorder` meets its contract.
 -- Assumes nothing.
-use Prim.Native.Nat.{_≤_}
-use lib.ListN.{length}
 use borrow.Author.Needs.{needs}
 use Rattle.schedule.specs.Listing.{Feasible}
 use Rattle.schedule.proofs.Judgements.{judgement-fault, judgement-feasible}

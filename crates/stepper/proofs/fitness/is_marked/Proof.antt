@@ -1,6 +1,5 @@
 -- `stepper::fitness::is_marked` meets its contract.
 -- Assumes nothing.
-use mathlib.Core.Path.{refl}
 use borrow.Author.Needs.{needs}
 use Rattle.base.proofs.Numbers.{length-nil}
 use Rattle.stepper.proofs.fitness.is_marked.Statement.{statement}
