@@ -8,7 +8,7 @@ fn main() {
     let here = env::var("CARGO_MANIFEST_DIR").expect("cargo names the folder of the manifest");
     let folder = Path::new(&here).join("../../target/lib");
     println!("cargo:rustc-link-search=native={}", folder.display());
-    for name in ["floebucket", "doors", "doors_sheets"] {
+    for name in ["floebucket", "doors", "doors_sheets", "doors_steps"] {
         let library = folder.join(format!("lib{name}.a"));
         assert!(
             library.exists(),

@@ -27,6 +27,7 @@ pub mod runner;
 pub mod second;
 pub mod sheets;
 pub mod slow;
+pub mod stepping;
 pub mod streams;
 pub mod tables;
 pub mod tally;

@@ -89,6 +89,16 @@ mod c {
             r: *mut u8,
             r_len: usize,
         ) -> u8;
+        pub fn door_step(
+            f: *const u8,
+            f_len: usize,
+            s: *const u8,
+            s_len: usize,
+            o: *mut u8,
+            o_len: usize,
+            r: *mut u8,
+            r_len: usize,
+        ) -> u8;
         pub fn door_export_plan(
             f: *const u8,
             f_len: usize,
@@ -209,6 +219,21 @@ pub fn mend(file: &[u8], starts: &[u8], out: &mut [u8], moved: &mut [u8], result
             out.len(),
             moved.as_mut_ptr(),
             moved.len(),
+            result.as_mut_ptr(),
+            result.len(),
+        )
+    }
+}
+
+pub fn step(file: &[u8], starts: &[u8], out: &mut [u8], result: &mut [u8]) -> u8 {
+    unsafe {
+        c::door_step(
+            file.as_ptr(),
+            file.len(),
+            starts.as_ptr(),
+            starts.len(),
+            out.as_mut_ptr(),
+            out.len(),
             result.as_mut_ptr(),
             result.len(),
         )

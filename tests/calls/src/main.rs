@@ -11,6 +11,7 @@ mod mend;
 mod possible;
 mod rounds;
 mod sheets;
+mod stepping;
 mod tails;
 mod writing;
 
@@ -226,6 +227,7 @@ fn test() -> Result<String, String> {
     for (name, met) in [
         ("door_mend", mend::test()?),
         ("door_possible", possible::test()?),
+        ("door_step", stepping::test()?),
     ] {
         for (number, count) in met {
             tester.calls += count;

@@ -1,0 +1,73 @@
+-- `doors_steps::door_step` meets its contract.
+-- Assumes nothing.
+use mathlib.Core.Path.{sym}
+use mathlib.Core.List.{List}
+use native.Mathlib.Omega.{arith}
+use Prim.Native.Nat.{ℕ}
+use lib.ListN.{replicate}
+use lib.Seq.{length-take-le}
+use Rattle.calls.proofs.Crossing.{own-room}
+use borrow.Author.Needs.{needs}
+use Rattle.doors_steps.proofs.door_step.Statement.{statement}
+use Rattle.doors_steps.proofs.door_step.Tie as tie
+
+-- What the list of start times holds before any is read.
+abbrev zeros : List ℕ
+zeros = replicate 17 0
+
+is-shut-requires : tie.Need-is-shut-requires
+is-shut-requires c κs = search needs
+
+returns : tie.Need-returns
+returns c = search needs
+
+handed-requires : tie.Need-handed-requires
+handed-requires c κs = search needs
+
+array-borrow-prefix-own : tie.Need-array-borrow-prefix-own
+array-borrow-prefix-own c = omega (arith, c .handed .ensures)
+
+slice-aggregate-get-starts : tie.Need-slice-aggregate-get-starts
+slice-aggregate-get-starts c = sym (length-take-le _ _ (omega (arith, c .before .handed .ensures)))
+
+get-starts-requires : tie.Need-get-starts-requires
+get-starts-requires c κs = rw (length-take-le (c .before .handed .result) zeros (omega (arith, c .before .handed .ensures))) (omega (arith, c .before .handed .ensures))
+
+array-share-prefix-own : tie.Need-array-share-prefix-own
+array-share-prefix-own c = own-room (c .before .before .before .before .before .before .before .before .before .before .args .starts .now) zeros (c .before .get-starts .last .1 .0) (c .before .before .before .handed .result) (omega (arith, c .before .before .before .handed .ensures)) (c .before .get-starts .ensures)
+
+slice-aggregate-step-bytes : tie.Need-slice-aggregate-step-bytes
+slice-aggregate-step-bytes c = sym (length-take-le _ _ (own-room (c .before .before .before .before .before .before .before .before .before .before .before .args .starts .now) zeros (c .before .before .get-starts .last .1 .0) (c .before .before .before .before .handed .result) (omega (arith, c .before .before .before .before .handed .ensures)) (c .before .before .get-starts .ensures)))
+
+step-bytes-requires : tie.Need-step-bytes-requires
+step-bytes-requires c κs = search needs
+
+tell-requires : tie.Need-tell-requires
+tell-requires c κs = search needs
+
+same-length : tie.Need-same-length
+same-length c = search needs
+
+same-length-2 : tie.Need-same-length-2
+same-length-2 c = search needs
+
+returns-2 : tie.Need-returns-2
+returns-2 c = search needs
+
+pub door-step-spec : {M : Type 1} → statement M
+door-step-spec =
+    tie.close
+    (tie.spec
+    is-shut-requires
+    returns
+    handed-requires
+    array-borrow-prefix-own
+    slice-aggregate-get-starts
+    get-starts-requires
+    array-share-prefix-own
+    slice-aggregate-step-bytes
+    step-bytes-requires
+    tell-requires
+    same-length
+    same-length-2
+    returns-2)

@@ -1,0 +1,51 @@
+// The door to stepping through a round, with bytes in and out, for the tests: two a start, four an energy. It is safe, and promises nothing of its own. It
+// answers 255, and does nothing, for an odd list of start times or a result buffer under 11 bytes; else it tells every answer, a refusal too. include/doors.h
+// declares it.
+ghost use Prim.Native.Nat.{_*_, _≤_};
+ghost use lib.ListN.{length};
+use calls::get_starts;
+use calls::put;
+use calls::tell;
+use doors::SHUT;
+use doors::handed;
+use doors::is_shut;
+use doors::least;
+use planner::Answer;
+use request::read;
+use stepper::step_through;
+
+fn put_energies(energies: &[u32], out: &mut [u8])
+    requires { ⌜ length (now energies) * 4 ≤ length (now out) ⌝ }
+{
+    let mut k = 0;
+    while k < energies.len() {
+        let at = k * 4;
+        let end = at + 4;
+        put(&mut out[at..end], energies[k] as u64);
+        k += 1;
+    }
+}
+
+// What is lent beyond one energy a device stays as it was.
+fn step_bytes(file: &[u8], starts: &[u16], out: &mut [u8]) -> Answer {
+    let mut room = [0u32; 8];
+    let places = least(out.len() / 4, 8);
+    let answer = step_through(file, starts, &mut room[..places]);
+    if answer.number == 0 {
+        let request = read(file);
+        let devices = least(request.recorder.devices.count, places);
+        put_energies(&room[..devices], out);
+    }
+    answer
+}
+
+#[no_mangle]
+pub extern "C" fn door_step(file: &[u8], starts: &[u8], out: &mut [u8], result: &mut [u8]) -> u8 {
+    if is_shut(starts.len(), result.len()) {
+        return SHUT;
+    }
+    let mut own = [0u16; 17];
+    let n = handed(starts.len());
+    get_starts(starts, &mut own[..n]);
+    tell(step_bytes(file, &own[..n], out), result)
+}

@@ -1,0 +1,117 @@
+//! Stepping through a round by its door, held to a run of every device tick by tick
+//! (`outside::stepping`).
+
+use crate::expected::{RESULT, SHUT};
+use crate::library;
+use crate::tails::{hand_back, is_blank, longer, BLANK};
+use outside::random::Random;
+use outside::stepping::{by_bytes, draw, run};
+use std::collections::BTreeMap;
+
+const SEED: u64 = 90;
+const CALLS: u64 = 20_000;
+const SHUT_CALLS: u64 = 1_000;
+
+/// The numbers met and how often, 255 among them; or the first call that is not as it must be.
+pub fn test() -> Result<BTreeMap<u8, u64>, String> {
+    let mut met = run(SEED, CALLS, by_bytes(with_tails))?;
+    let numbers: Vec<u8> = met.keys().copied().collect();
+    let known: Vec<u8> = (0..=18).chain([24, 25]).collect();
+    if numbers != known || met[&0] < CALLS / 3 {
+        return Err(format!("door_step answered {met:?}"));
+    }
+    for number in 0..SHUT_CALLS {
+        shut(&mut Random::new(SEED, number))?;
+    }
+    for (name, wrong) in WRONG {
+        if run(SEED, CALLS, by_bytes(wrong)).is_ok() {
+            return Err(format!("not found: a stepping with {name}"));
+        }
+    }
+    met.insert(SHUT, SHUT_CALLS);
+    Ok(met)
+}
+
+/// The door on buffers that are longer, by too little for an energy more: these bytes stay. The
+/// result buffer is full before the call, so that each of the eleven bytes has to be written.
+fn with_tails(file: &[u8], starts: &[u8], out: &mut [u8], result: &mut [u8]) -> u8 {
+    let tail = file.iter().fold(0, |sum, &byte| sum + usize::from(byte));
+    let mut long_out = longer(out, tail % 4);
+    let mut long_result = vec![BLANK; RESULT + tail / 4 % 3];
+    let number = library::step(file, starts, &mut long_out, &mut long_result);
+    hand_back(out, &long_out);
+    hand_back(result, &long_result);
+    number
+}
+
+/// A drawn call with half a start more or with a short result buffer: 255, and nothing is written.
+fn shut(random: &mut Random) -> Result<(), String> {
+    let call = draw(random);
+    let starts = call.starts.iter().flat_map(|start| start.to_be_bytes());
+    let mut starts: Vec<u8> = starts.collect();
+    let mut result = vec![BLANK; RESULT];
+    match random.within(1, 3) {
+        1 => starts.push(0),
+        2 => result.truncate(random.index(RESULT)),
+        _ => {
+            starts.push(0);
+            result.pop();
+        }
+    }
+    let mut out = vec![BLANK; 40];
+    let number = library::step(&call.file, &starts, &mut out, &mut result);
+    if number == SHUT && is_blank(&out) && is_blank(&result) {
+        return Ok(());
+    }
+    Err(format!(
+        "door_step on file {:02X?} is not shut: {number}",
+        call.file
+    ))
+}
+
+type Door = fn(&[u8], &[u8], &mut [u8], &mut [u8]) -> u8;
+
+/// Doors that go wrong after the right call. The comparison must find each.
+const WRONG: [(&str, Door); 4] = [
+    (
+        "the low byte of an energy first",
+        |file, starts, out, result| {
+            let number = library::step(file, starts, out, result);
+            if number == 0 && out.len() >= 4 {
+                out[..4].reverse();
+            }
+            number
+        },
+    ),
+    (
+        "an energy after the last device",
+        |file, starts, out, result| {
+            let number = library::step(file, starts, out, result);
+            let after = 4 * usize::from(file.get(2).copied().unwrap_or(0));
+            if let (0, Some(next)) = (number, out.get_mut(after)) {
+                *next ^= 1;
+            }
+            number
+        },
+    ),
+    (
+        "an energy written where a job is too short",
+        |file, starts, out, result| {
+            let number = library::step(file, starts, out, result);
+            if let (24, Some(first)) = (number, out.first_mut()) {
+                *first ^= 1;
+            }
+            number
+        },
+    ),
+    (
+        "the job of an overlap not told",
+        |file, starts, out, result| {
+            let number = library::step(file, starts, out, result);
+            if number == 18 {
+                result[0] = 0;
+            }
+            number
+        },
+    ),
+];
