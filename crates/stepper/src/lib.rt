@@ -1,20 +1,39 @@
 // Step by step on the recorder: devices that begin a move only at starts and completions, for given start times. `step_through` asks nothing of its caller;
 // specs/Promises.antt says its complete outcome. No row is made, and no array is longer than the devices or the jobs.
+ghost use mathlib.Core.Path.{_≡_};
+ghost use mathlib.Core.Bool.{cond};
+ghost use lib.Dec.{eqb};
 ghost use Rattle.schedule.specs.Quantities.{Valid};
+ghost use Rattle.schedule.specs.Judging.{verdict};
 ghost use Rattle.stepper.specs.Promises.{StepsOf, SteppedThrough};
 use crate::devices::run_devices;
 use crate::fitness::unfit;
+use base::JobNumber;
 use planner::Answer;
 use planner::refusal;
 use planner::refusal_at;
 use planner::success;
 use request::read;
 use schedule::Recorder;
+use schedule::Verdict;
 use schedule::judge;
 
 mod devices; // devices.rt: the devices over a round
 mod fitness; // fitness.rt: refusals 25 and 24
 mod ordering; // ordering.rt: the jobs in running order
+
+// The fault of the start times, if there is one, and else that of the recorder, which names no job (rule 96).
+fn first_fault(judged: Verdict, number: u8) -> Verdict
+    ensures { λ v. ⌜ v ≡ cond (eqb (judged .number) 0) (verdict number 0) judged ⌝ }
+{
+    if judged.number > 0 {
+        return judged;
+    }
+    Verdict {
+        number,
+        job: JobNumber(0),
+    }
+}
 
 // The devices of a file's recorder, stepped through the round.
 fn step_recorder(file: &[u8], r: Recorder, starts: &[u16], energies: &mut [u32]) -> Answer
@@ -28,12 +47,9 @@ fn step_recorder(file: &[u8], r: Recorder, starts: &[u16], energies: &mut [u32])
         return refusal(15);
     }
     let judged = judge(r, starts);
-    if judged.number != 0 {
-        return refusal_at(judged.number, judged.job);
-    }
-    let number = unfit(file, r);
-    if number != 0 {
-        return refusal(number);
+    let fault = first_fault(judged, unfit(file, r));
+    if fault.number != 0 {
+        return refusal_at(fault.number, fault.job);
     }
     let energy = run_devices(r, starts, energies);
     success(r.horizon, energy, 0)

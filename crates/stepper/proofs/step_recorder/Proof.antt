@@ -2,16 +2,20 @@
 -- Assumes nothing.
 use borrow.Author.Needs.{needs}
 use Rattle.schedule.specs.Listing.{Feasible}
-use Rattle.schedule.proofs.Judgements.{judgement-fault, judgement-feasible}
+use Rattle.stepper.specs.Promises.{Unfit, Brief}
 use Rattle.stepper.specs.Promises as P
-use Rattle.stepper.proofs.Fitting.{fitness-refused, fitness-fit}
+use Rattle.stepper.proofs.Fitting.{first-refused, first-fit}
 use Rattle.stepper.proofs.step_recorder.Statement.{statement}
 use Rattle.stepper.proofs.step_recorder.Tie as tie
 
--- The start times are feasible.
-feasible : (c : tie.Else3)
-    → Feasible (c .before .before .before .before .before .before .before .before .before .before .args .r) (c .before .before .before .before .before .before .before .before .before .before .args .starts .now)
-feasible c = judgement-feasible _ _ (c .before .before .judge .ensures) (c .if3 .left)
+-- Neither the start times nor the recorder is at fault.
+faultless : (c : tie.Else3) → let a = c .before .before .before .before .before .before .before .before .before .before .before .before .args in
+    Feasible (a .r) (a .starts .now) × (Unfit (a .file .now) (a .r) → ⊥) × (Brief (a .r) → ⊥)
+faultless c =
+    let e = c .before .before .before .before .before in
+    let a = e .before .before .before .before .before .before .before .args in
+    first-fit _ _ _ (a .energies .now) (e .before .before .if1 .left) (e .if2 .left) _ (c .before .before .first-fault .result) _
+    (c .before .before .before .before .judge .ensures) (c .before .before .before .unfit .ensures) (c .before .before .first-fault .ensures) (c .if3 .left)
 
 refusal-requires : tie.Need-refusal-requires
 refusal-requires c κs = search needs
@@ -28,30 +32,26 @@ returns-2 c = rw (c .refusal2 .ensures) (P.StepsOf.short (c .before .before .bef
 judge-requires : tie.Need-judge-requires
 judge-requires c κs = search needs
 
+unfit-requires : tie.Need-unfit-requires
+unfit-requires c κs = search needs
+
+first-fault-requires : tie.Need-first-fault-requires
+first-fault-requires c κs = search needs
+
 refusal-at-requires : tie.Need-refusal-at-requires
 refusal-at-requires c κs = search needs
 
 returns-3 : tie.Need-returns-3
 returns-3 c =
-    let e = c .before .before .before .before in
+    let e = c .before .before .before .before .before .before in
     rw (c .refusal-at .ensures)
-    (P.StepsOf.faulty (e .before .before .if1 .left) (e .if2 .left) (judgement-fault _ _ (c .before .before .before .judge .ensures) (c .before .if3 .taken)))
-
-unfit-requires : tie.Need-unfit-requires
-unfit-requires c κs = search needs
-
-refusal-requires-3 : tie.Need-refusal-requires-3
-refusal-requires-3 c κs = search needs
-
-returns-4 : tie.Need-returns-4
-returns-4 c =
-    rw (c .refusal3 .ensures)
-    (fitness-refused _ _ _ _ (c .before .before .before .before .before .before .if2 .left) (feasible (c .before .before .before)) (c .before .before .unfit .ensures) (c .before .if4 .taken))
+    (first-refused _ _ _ _ (e .before .before .if1 .left) (e .if2 .left) _ (c .before .before .before .first-fault .result) _
+    (c .before .before .before .before .before .judge .ensures) (c .before .before .before .before .unfit .ensures) (c .before .before .before .first-fault .ensures) (c .before .if3 .taken))
 
 run-devices-requires : tie.Need-run-devices-requires
 run-devices-requires c κs =
-    let e = c .before .before .before in
-    (e .before .before .before .before .before .before .before .before .before .before .pre, feasible e, e .before .before .before .if2 .left)
+    let e = c .before .before .before .before .before .before in
+    (e .before .before .before .before .before .before .before .pre, faultless (c .before) .0, e .if2 .left)
 
 success-requires : tie.Need-success-requires
 success-requires c κs = search needs
@@ -59,12 +59,12 @@ success-requires c κs = search needs
 same-length : tie.Need-same-length
 same-length c = search needs
 
-returns-5 : tie.Need-returns-5
-returns-5 c =
-    let e = c .before .before .before .before .before .before .before in
-    let fit = fitness-fit _ _ (c .before .before .before .before .before .before .unfit .ensures) (c .before .before .before .before .before .if4 .left) in
+returns-4 : tie.Need-returns-4
+returns-4 c =
+    let l = c .before .before .before .before .before in
+    let w = faultless l in
     rw (c .success .ensures, c .before .before .before .run-devices .ensures .0, c .before .before .before .run-devices .ensures .1)
-    (P.StepsOf.stepped (e .before .before .before .if2 .left) (feasible e) (fit .0) (fit .1))
+    (P.StepsOf.stepped (l .before .before .before .before .before .if2 .left) (w .0) (w .1) (w .2))
 
 pub step-recorder-spec : {M : Type 1} → statement M
 step-recorder-spec =
@@ -75,12 +75,11 @@ step-recorder-spec =
     refusal-requires-2
     returns-2
     judge-requires
+    unfit-requires
+    first-fault-requires
     refusal-at-requires
     returns-3
-    unfit-requires
-    refusal-requires-3
-    returns-4
     run-devices-requires
     success-requires
     same-length
-    returns-5)
+    returns-4)
