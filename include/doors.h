@@ -60,6 +60,11 @@ uint8_t door_export_jobs(const uint8_t *records, size_t records_len, uint8_t *ou
 uint8_t door_export_plan(const uint8_t *file, size_t file_len, const uint8_t *starts, size_t starts_len, uint8_t *out, size_t out_len, uint8_t *result,
                          size_t result_len);
 
+/* Step by step on the recorder, for start times that are feasible, two bytes each. `out`: what each device spends, four bytes each. Link
+ * target/lib/libdoors_steps.a. */
+uint8_t door_step(const uint8_t *file, size_t file_len, const uint8_t *starts, size_t starts_len, uint8_t *out, size_t out_len, uint8_t *result,
+                  size_t result_len);
+
 #ifdef __cplusplus
 }
 #endif

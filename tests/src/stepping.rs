@@ -204,8 +204,7 @@ fn run_device(
     (letters, state)
 }
 
-/// Every job finds its devices working, no device costs more than working throughout, and at H none
-/// is moving.
+/// While a job runs its devices work, and at H none is moving.
 fn watch(request: &Request, starts: &[u32], device: usize, ran: &(Vec<char>, State)) {
     for (job, &start) in request.jobs.iter().zip(starts) {
         let ticks = start as usize..(start + job.running) as usize;
@@ -347,9 +346,10 @@ pub fn draw(random: &mut Random) -> Call {
         make_dear(random, &mut tables);
     }
     let devices = tables.devices.len();
-    let file = match random.within(1, 14) {
+    let file = match random.within(1, 16) {
         1 => damaged(random, tables),
         2 => Second::alike(tables).bytes(),
+        3 => with_levels(&tables),
         _ => tables.bytes(),
     };
     if random.one_in(6) && !starts.is_empty() {
@@ -377,6 +377,19 @@ pub fn draw(random: &mut Random) -> Call {
         starts,
         lent: lent.collect(),
     }
+}
+
+/// The mark FF 03, and records with a list of one level: whatever such a file is, it is not stepped.
+fn with_levels(tables: &Tables) -> Vec<u8> {
+    let file = tables.bytes();
+    let record = |device: &DeviceRecord| {
+        let powers = [device.working, device.moving].map(u16::to_be_bytes);
+        let level = device.sleeping.to_be_bytes();
+        [&[device.transition], &powers.concat()[..], &[1], &level].concat()
+    };
+    let records: Vec<u8> = tables.devices.iter().flat_map(record).collect();
+    let rest = tables.count_places()[1];
+    [&[0xFF, 3], &file[..3], &records, &file[rest..]].concat()
 }
 
 /// A device with Ps < P0 < Pw; some have the largest powers, and some are slow.
@@ -511,6 +524,8 @@ fn make_dear(random: &mut Random, tables: &mut Tables) {
 #[cfg(test)]
 mod tests {
     use super::*;
+    use crate::listing::uses;
+    use crate::rows::row_given;
 
     const SEED: u64 = 9;
     const CALLS: u64 = 6_000;
@@ -584,6 +599,15 @@ mod tests {
         assert_eq!(row(0), "DSSSSSSSSSUWWWWWWDSSUWWWWWWWWDUWWWWWWDSSSSSSS");
         assert_eq!(row(1), "WWWWWWWWWWDSSSSSSSSSSSSSSSSSSSUWWWWWWDSSSSSSS");
         assert_eq!(row(3), "DSSSSSSSSSSSSSSSSUWWWWWWDSSSSSSSSSSSSSSSSSSSS");
+        // With rows of least energy, at the same starts.
+        assert_eq!(judge(&request, &starts), Ok(497));
+        let least = row_given(
+            request.round,
+            &request.devices[0],
+            &uses(&request, &starts, 0),
+            request.horizon,
+        );
+        assert_eq!(least, "DSSSSSSSSSUWWWWWWDSSSSSUWWWWWDSSUWWWWDSSSSSSU");
     }
 
     #[test]

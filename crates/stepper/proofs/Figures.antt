@@ -1,18 +1,28 @@
--- Figures: rows of small requests and of the I/O paper's Table 2, computed by the checker from the definitions. Device A has T 1, Pw 5, Ps 1, P0 3.
+-- Figures: rows of small requests and of the I/O paper's Table 2, and some whole outcomes, computed by the checker from the definitions. Device A has T 1, Pw 5,
+-- Ps 1, P0 3.
 -- Assumes nothing.
 use mathlib.Core.Path.{_≡_, refl}
 use mathlib.Core.List.{List, [], _∷_, _++_}
-use Prim.Native.Nat.{ℕ}
+use mathlib.Core.Logic.{inl}
+use Prim.Native.Nat.{ℕ, zero, suc}
+use native.Mathlib.Omega.{arith}
 use lib.ListN.{replicate}
 use Rattle.base.specs.Lists.{upTo, padded, remove}
+use Rattle.base.specs.Refusals.{firstOf}
 use Rattle.device.specs.Row.{Letter, W, D, U}
-use Rattle.schedule.specs.Listing.{soonest, ordered}
+use Rattle.schedule.specs.Listing.{place, soonest, ordered}
+use Rattle.schedule.proofs.Runs.{run-feasible}
 use Rattle.request.specs.Format.{recorderIn}
 use Rattle.request.specs.Format as Format
 use Rattle.tables.specs.Layout as Layout
+use Rattle.schedule.specs.Visiting.{written}
+use Rattle.planner.specs.Promises.{success, refusal}
+use Rattle.planner.specs.Promises as Frame
 use Rattle.steps.specs.declared.State.{State}
 use Rattle.steps.specs.declared.State.the-variants.{Working, Asleep}
 use Rattle.steps.specs.Stepping.{S, rowBy, stateBy, starts, ends, events, row, spent, finally}
+use Rattle.stepper.specs.Promises.{Unfit, marked, unlike, Brief, shorter, SteppedThrough}
+use Rattle.stepper.specs.Promises as P
 
 -- What a file's device k does at given starts: its row, what it spends, and its state at H.
 abbrev On : ℕ → List ℕ → List ℕ → List Letter → ℕ → State → Type 0
@@ -75,4 +85,46 @@ figures-hold = (
   (refl, refl, refl),
   (refl, refl, refl),
   (refl, refl, refl),
+)
+
+-- ---- whole outcomes: stepped, a job that is too short, and a file of the second kind
+
+abbrev short : List ℕ
+short = two 12 ++ 1 ∷ deviceFile 2 ++ 0 ∷ 2 ∷ jobFile 0 3 1 1 ++ jobFile 8 12 2 1
+
+abbrev second : List ℕ
+second = 255 ∷ 2 ∷ two 12 ++ 0 ∷ 0 ∷ 1 ∷ jobFile 0 12 2 0
+
+single-fit : Unfit single (recorderIn single) → ⊥
+unfolding upTo padded Layout.kindOf Format.recorderAs Format.jobsOf Format.horizonOf
+single-fit (marked e) = omega arith
+single-fit (unlike {k = zero} l n) = n (omega arith, omega arith)
+single-fit (unlike {k = suc k} l n) = omega arith
+
+single-long : Brief (recorderIn single) → ⊥
+unfolding upTo padded Layout.kindOf Format.recorderAs Format.jobsOf Format.horizonOf
+single-long (shorter {j = zero} {k = zero} l m b) = omega arith
+single-long (shorter {j = zero} {k = suc k} l m b) = omega arith
+single-long (shorter {j = suc j} l m b) = omega arith
+
+short-fit : Unfit short (recorderIn short) → ⊥
+unfolding upTo padded Layout.kindOf Format.recorderAs Format.jobsOf Format.horizonOf
+short-fit (marked e) = omega arith
+short-fit (unlike {k = zero} l n) = n (omega arith, omega arith)
+short-fit (unlike {k = suc k} l n) = omega arith
+
+pub outcomes-hold :
+    SteppedThrough single (0 ∷ []) (7 ∷ 7 ∷ []) (success 5 15 0) (15 ∷ 7 ∷ [])
+    × SteppedThrough short (0 ∷ 8 ∷ []) (7 ∷ []) (refusal 24) (7 ∷ [])
+    × SteppedThrough second (0 ∷ []) [] (refusal 25) []
+unfolding Format.readOf Format.readAs Format.faultAs Layout.kindOf Format.taskSection Format.jobSection Format.jobRecords Format.countOf Format.mixed Format.recordFault Format.recordTable Format.deviceTable Format.taskTable Format.jobTable Format.lacks firstOf Format.horizonOf Format.jobsOf Format.recorderAs upTo padded remove soonest ordered row spent rowBy events starts ends written
+outcomes-hold = (
+  Frame.OfFile.read {R = recorderIn single} refl
+      (P.StepsOf.stepped (omega arith) (run-feasible (recorderIn single) (place 0 0 ∷ []) (inl refl, omega arith, omega arith, refl)) single-fit single-long),
+  Frame.OfFile.read {R = recorderIn short} refl
+      (P.StepsOf.brief (omega arith)
+      (run-feasible (recorderIn short) (place 0 0 ∷ place 1 8 ∷ []) (inl refl, omega arith, omega arith, (inl refl, omega arith, omega arith, refl))) short-fit
+      (shorter {j = 0} {k = 0} (omega arith) (omega arith) (omega arith))),
+  Frame.OfFile.read {R = recorderIn second} refl
+      (P.StepsOf.unfit (omega arith) (run-feasible (recorderIn second) (place 0 0 ∷ []) (inl refl, omega arith, omega arith, refl)) (marked refl)),
 )

@@ -61,7 +61,7 @@ module _ (file : List ℕ) (R : Recorder) (reads : Reads file R) (fit : Unfit fi
       let dear = valid .sound k l .shuts-dearer in
       by-cases (decLt (device R k .pd) (device R k .pw)) (λ h. (dear, h)) (λ n. absurd (fit (unlike l (λ b. n (b .1)))))
 
-  -- No device spends more than Pw × H.
+  -- A device spends at most Pw × H.
   pub spends-at-most : (s : List ℕ) (k : ℕ) → k < R .devices .count → spent R k s ≤ device R k .pw * R .horizon
   spends-at-most s k l =
       let b = devices-between k l in
@@ -72,7 +72,7 @@ module _ (file : List ℕ) (R : Recorder) (reads : Reads file R) (fit : Unfit fi
     jobs-long : (j : ℕ) → j < jobs R → moveTime (device R k) ≤ run R j
     jobs-long j h = by-cases (decLt (run R j) (moveTime (device R k))) (λ b. absurd (long (shorter h l b))) (λ n. omega arith)
 
-    -- Every job finds its devices working, in every tick in which it runs.
+    -- In every tick of a job the devices that it uses are at work.
     pub finds-working : (j t : ℕ) → j < jobs R → uses R k j ≡ true → Runs R s j t → getD (row R k s) t S ≡ W
     finds-working = row-works R valid s f k l (devices-alike k l .0) jobs-long
 
@@ -84,7 +84,7 @@ module _ (file : List ℕ) (R : Recorder) (reads : Reads file R) (fit : Unfit fi
     pub still-at-end : (finally R k s ≡ Working) ⊎ (finally R k s ≡ Asleep)
     still-at-end = finally-still R valid s f k l (devices-alike k l .0) jobs-long
 
-    -- Two clauses change nothing: that this job used the device that goes down at its completion, and that a completion at the same tick as a start comes first.
+    -- Two clauses change nothing: that only what this job used goes down at its completion, and that of a completion and a start at one tick the completion is first.
     pub whoever-used : rowBy (events R k atStart atAnyEnd (running R s)) 0 (R .horizon) Working ≡ row R k s
     whoever-used = any-end-row R valid s f k l (devices-alike k l .0) jobs-long
 

@@ -21,7 +21,7 @@ use Rattle.planner.specs.Promises.{success, refusal, refusalAt, OfFile}
 abbrev pub Between : Device → Type 0
 Between d = (powerAt d 1 < d .pd) × (d .pd < d .pw)
 
--- 25: the file begins with FF, or a device of it, used or not, costs otherwise to move.
+-- 25: the first byte of the file is FF, or a device of it, used or not, costs otherwise to move.
 pub data Unfit (file : List ℕ) (R : Recorder) : Type 0 where
   marked : byteAt file 0 ≡ 255 → Unfit file R
   unlike : {k : ℕ} → k < R .devices .count → (Between (device R k) → ⊥) → Unfit file R

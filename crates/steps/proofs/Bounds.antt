@@ -2,7 +2,8 @@
 -- Assumes nothing.
 use mathlib.Core.Path.{_≡_}
 use mathlib.Core.Bool.{Bool, cond}
-use Prim.Native.Nat.{ℕ, zero, suc, _+_, _-_, _*_, _≤_, _<_}
+use Prim.Native.Nat.{ℕ, zero, suc, _+_, _-_, _*_, _^_, _≤_, _<_}
+use native.Mathlib.Nat.{mul-le-mul}
 use native.Mathlib.Numerals.{add-one}
 use native.Mathlib.Omega.{arith}
 use lib.Dec.{ltb}
@@ -17,6 +18,10 @@ use Rattle.steps.specs.declared.Order.{Order}
 use Rattle.steps.specs.declared.State.the-variants.{Working, Asleep, Down, Up}
 use Rattle.steps.specs.Stepping.{letter, passed, atStart, Events, rowBy}
 use Rattle.steps.specs.Running.{alone, passOver, ruledTo, jobOver, begin, end, usesAt, after, nextBegin, nextUse, Spaced, fresh, turn, stepped}
+
+-- A power × ticks fits 32 bits.
+pub product : {p m : ℕ} → p ≤ 65535 → m ≤ 65535 → p * m < 2 ^ 32
+product hp hm = omega (arith, mul-le-mul hp hm)
 
 -- No letter of the device costs more than m.
 abbrev pub Most : Device → ℕ → Type 0

@@ -86,7 +86,7 @@ module _ (ev ev′ : Events) where
 
 -- ---- starts and completions
 
--- The other order of what happens at one tick: a start at the same tick as a completion comes first.
+-- The other order of what happens at one tick: starts, and then completions.
 unfoldable pub startsFirst : Recorder → ℕ → Rule → Rule → List Place → Events
 startsFirst R k starting ending r t st = ends R k ending r t (starts R k starting r t st)
 

@@ -22,7 +22,7 @@ use Rattle.steps.proofs.ByJobs.{starts-before, starts-at}
 use Rattle.steps.proofs.Moves.{untrue, Ran, ran-used, ran-kept, ran-slept}
 use Rattle.steps.proofs.Keeps.{Settled}
 
--- The completion without 'that this job used' (rule 93): a working device that this job did not use is kept for the next.
+-- The completion, whether this job used the device or not (rule 93): one at work that it did not use is kept for the next.
 abbrev pub atAnyEnd : Rule
 atAnyEnd T this next pause = atEnd T true next pause
 
@@ -34,7 +34,7 @@ any-end T false true pause (ran-kept e l h) = refl
 any-end T false false pause (ran-kept e l h) = untrue e
 any-end T false next pause (ran-slept e h) = refl
 
--- A completion at the same tick as a start comes first (rule 94): without a pause it does nothing, before the start or after it.
+-- The order of a completion and a start at one tick (rule 94): without a pause the completion does nothing, before the start or after it.
 module _ (T : ℕ) (moves : 1 ≤ T) where
   end-work : (this next : Bool) → atEnd T this next 0 Working ≡ Working
   end-work this next = rw (lt-leb T 0 moves, and-false, and-false)

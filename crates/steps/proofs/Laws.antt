@@ -61,7 +61,7 @@ ready-still ready-work = (inl at-work, inl refl)
 ready-still (ready-woken e) = (inl woken, inl refl)
 ready-still (ready-sleep e h) = (inr h, inr refl)
 
--- A move begun at t is over at t + T, and not before: at every tick till then the device moves.
+-- A move takes T ticks and no fewer: till then the device moves (rule 94).
 pub down-over : (T : ℕ) → 1 ≤ T → (later T (Down T) ≡ Asleep) × ((n : ℕ) → n < T → later n (Down T) ≡ Down (T - n))
 down-over T h = (later-down T T h (omega arith), λ n l. sym (down-left n T l))
 
@@ -91,7 +91,7 @@ module _ (R : Recorder) (k : ℕ) where
   unfolding row
   row-length s = length-rowBy (events R k atStart atEnd (running R s)) 0 (R .horizon) Working
 
-  -- No device spends more than Pw × H (rule 95): for any starts.
+  -- A device spends at most Pw × H (rule 95): for any starts.
   pub spent-most : Most (device R k) (device R k .pw) → (s : List ℕ) → spent R k s ≤ device R k .pw * R .horizon
   unfolding spent row
   spent-most h s = row-most (device R k) (device R k .pw) h (events R k atStart atEnd (running R s)) 0 (R .horizon) Working
@@ -137,7 +137,7 @@ module _ (R : Recorder) (valid : Valid R) (s : List ℕ) (f : Feasible R s) (k :
           still = ready-still (keeps .ready) .0;
         }
 
-    -- Every job finds its devices working, in every tick in which it runs (rule 95).
+    -- In every tick of a job the devices that it uses are at work (rule 95).
     pub row-works : (j t : ℕ) → j < jobs R → uses R k j ≡ true → Runs R s j t → getD (row R k s) t S ≡ W
     row-works j t l u b =
         let in-round : t < R .horizon = omega (arith, b, f .in-time j l, valid .ends j l) in
@@ -159,7 +159,7 @@ module _ (R : Recorder) (valid : Valid R) (s : List ℕ) (f : Feasible R s) (k :
         rw whole at (last-jobs R k atStart atAnyEnd (λ p q x. Unit {0}) (events R k atStart atAnyEnd) (ends-first R k atStart atAnyEnd) r 0 Working turn (along-any R k atStart atAnyEnd r 0 Working))
         ∙ last-alike R k atAnyEnd (Settled R k) (settled-any R k moves) r 0 Working (keeps .along) ∙ sym finally-is
 
-    -- That a completion at the same tick as a start comes first changes nothing.
+    -- Which of a completion and a start at one tick is first changes nothing.
     pub starts-first-row : rowBy (startsFirst R k atStart atEnd r) 0 (R .horizon) Working ≡ row R k s
     starts-first-row =
         rw whole at (row-jobs R k atStart atEnd _ (startsFirst R k atStart atEnd) (starts-first R k atStart atEnd) r 0 Working turn

@@ -56,16 +56,16 @@ passed (Up (suc n)) = rising n
 abbrev pub Rule : Type 0
 Rule = (T : ℕ) (this next : Bool) (pause : ℕ) → State → State
 
--- Rule 92. At a start a working device that this job does not use goes down, if the next does not use it or the pause is at least T;
--- a sleeping one that the next uses comes up, if the pause is below T.
+-- Rule 92, where a job starts. At work, and of no use to this job: down, unless the next job wants the device before a pause of T is over.
+-- Asleep: up, where the next job wants it that soon.
 abbrev pub atStart : Rule
 atStart T this next pause Working = cond (not this && (not next || leb T pause)) (Down T) Working
 atStart T this next pause Asleep = cond (next && ltb pause T) (Up T) Asleep
 atStart T this next pause (Down n) = Down n
 atStart T this next pause (Up n) = Up n
 
--- Rule 93. At a completion a sleeping device that the next uses comes up;
--- a working one that this job used and the next does not goes down, if the pause is at least T.
+-- Rule 93, where a job is completed. At work, used by this job and not by the next: down, where a move has room in the pause.
+-- Asleep: up, where the next job wants the device.
 abbrev pub atEnd : Rule
 atEnd T this next pause Working = cond (this && (not next && leb T pause)) (Down T) Working
 atEnd T this next pause Asleep = cond next (Up T) Asleep
@@ -78,8 +78,8 @@ atEnd T this next pause (Up n) = Up n
 abbrev pub Events : Type 0
 Events = ℕ → State → State
 
--- n ticks from tick t on, where st is the state before the events of tick t: in each tick its events happen first, and then it passes, so that a move is over
--- before anything else at its last tick's end (rule 94). The letters of these ticks; and the state after them, before the events of tick t + n.
+-- n ticks from tick t on, where st is the state before the events of tick t: of each tick the events come first, and then it passes. So a move has come to its
+-- end before the events of the tick at which it does (rule 94). The letters of these ticks; and the state after them, before the events of tick t + n.
 module _ (ev : Events) where
   unfoldable pub rowBy : ℕ → ℕ → State → List Letter
   rowBy t zero st = []
@@ -94,12 +94,12 @@ module _ (R : Recorder) (k : ℕ) where
   abbrev pub endOf : Place → ℕ
   endOf p = p .start + run R (p .job)
 
-  -- Of the jobs that come after this one the first is the next. After the last job the next uses nothing (rule 91).
+  -- The next job is the first of those to come. Where none is left, nothing is used (rule 91).
   abbrev pub nextUses : List Place → Bool
   nextUses [] = false
   nextUses (q ∷ r) = uses R k (q .job)
 
-  -- The pause: from the end of this job to the next start, or to H after the last (rule 91).
+  -- The pause: how long after the end of this job the next one starts, or the round is over (rule 91).
   abbrev pub nextStart : List Place → ℕ
   nextStart [] = R .horizon
   nextStart (q ∷ r) = q .start
@@ -120,11 +120,11 @@ module _ (R : Recorder) (k : ℕ) where
   ends ending [] t st = st
   ends ending (p ∷ r) t st = ends ending r t (under (eqb (endOf p) t) (ruled ending p r) st)
 
-  -- A completion at the same tick as a start comes first (rule 94). Where there is neither, nothing happens.
+  -- Of a completion and a start at one tick, the completion is first (rule 94). Where there is neither, nothing happens.
   unfoldable pub events : Rule → Rule → List Place → Events
   events starting ending r t st = starts starting r t (ends ending r t st)
 
-  -- Every device begins working (rule 91). Its row of H ticks, the energy of that row (rule 36), and its state at H, after what happens then.
+  -- A device is at work when the round begins (rule 91). Its row of H ticks, the energy of that row (rule 36), and its state at H, after what happens then.
   unfoldable pub row : List ℕ → List Letter
   row s = rowBy (events atStart atEnd (running R s)) 0 (R .horizon) Working
 

@@ -3,6 +3,9 @@ mod rules; // rules.rt: what is done at a start and at a completion
 mod stepping; // stepping.rt: a device along the jobs of a round
 mod ticks; // ticks.rt: what passes between two events
 
+pub use crate::stepping::on_end;
+pub use crate::stepping::on_start;
+pub use crate::stepping::pass;
 pub use crate::stepping::run;
 
 // What a device does. A number is the ticks left of a move.

@@ -13,8 +13,8 @@ use crate::ticks::after_ticks;
 use crate::ticks::energy_ticks;
 use device::Device;
 
-// n ticks pass.
-fn pass(d: Device, n: u16, x: Stepper) -> Stepper
+// The step of time: n ticks pass.
+pub fn pass(d: Device, n: u16, x: Stepper) -> Stepper
     requires { ⌜ Sound d × (x .energy + 65535 * n < 4294967296) ⌝ }
     ensures { λ r. ⌜ r ≡ passOver d n x ⌝ }
 {
@@ -27,8 +27,8 @@ fn pass(d: Device, n: u16, x: Stepper) -> Stepper
     }
 }
 
-// A job starts.
-fn on_start(d: Device, this: bool, next: bool, pause: u16, x: Stepper) -> Stepper
+// The step of a start: `this` job uses the device or not, the `next` uses it or not, and the pause between them is so long.
+pub fn on_start(d: Device, this: bool, next: bool, pause: u16, x: Stepper) -> Stepper
     ensures { λ r. ⌜ r ≡ ruledTo atStart d this next pause x ⌝ }
 {
     let st = x.state;
@@ -39,8 +39,8 @@ fn on_start(d: Device, this: bool, next: bool, pause: u16, x: Stepper) -> Steppe
     }
 }
 
-// A job completes.
-fn on_end(d: Device, this: bool, next: bool, pause: u16, x: Stepper) -> Stepper
+// The step of a completion.
+pub fn on_end(d: Device, this: bool, next: bool, pause: u16, x: Stepper) -> Stepper
     ensures { λ r. ⌜ r ≡ ruledTo atEnd d this next pause x ⌝ }
 {
     let st = x.state;

@@ -12,8 +12,86 @@ const SEED: u64 = 90;
 const CALLS: u64 = 20_000;
 const SHUT_CALLS: u64 = 1_000;
 
+/// A figure: name, file, starts, the number, the horizon, and what each device spends.
+type Figure = (
+    &'static str,
+    &'static str,
+    &'static [u16],
+    u8,
+    u16,
+    &'static [u32],
+);
+
+const P3: &str = "00050101000500010003000100000005000201";
+
+const FIGURES: [Figure; 8] = [
+    ("i1", P3, &[0], 0, 5, &[15]),
+    ("i2", P3, &[1], 0, 5, &[19]),
+    ("i3", P3, &[3], 0, 5, &[25]),
+    ("i4", "000501010005000100030000", &[], 0, 5, &[25]),
+    (
+        "i5",
+        "002d0501000500010003010005000100030100050001000301000500010003010005000100030008\
+         000000050003040002000a000702000b0014000611001400190004080014001e000515001e0023000300\
+         001f00260004130028002d000200",
+        &[0, 3, 11, 20, 24, 30, 33, 40],
+        0,
+        45,
+        &[139, 115, 95, 75, 139],
+    ),
+    (
+        "i7",
+        "000c0102000500010003000300000003000201000200060003000006000c000201",
+        &[0, 2, 6],
+        0,
+        12,
+        &[48],
+    ),
+    (
+        "i12",
+        "000c01020005000100030002000000030001010008000c000201",
+        &[0, 8],
+        24,
+        0,
+        &[],
+    ),
+    ("i14", "ff02000c0000010000000c000200", &[0], 25, 0, &[]),
+];
+
+/// A figure by the door, with an energy more lent than there are devices.
+fn figure((name, digits, starts, number, horizon, spent): Figure) -> Result<(), String> {
+    let byte = |at: usize| u8::from_str_radix(&digits[at..at + 2], 16).expect("two digits");
+    let file: Vec<u8> = (0..digits.len()).step_by(2).map(byte).collect();
+    let starts: Vec<u8> = starts
+        .iter()
+        .flat_map(|start| start.to_be_bytes())
+        .collect();
+    let (mut out, mut result) = (vec![BLANK; 24], vec![BLANK; RESULT]);
+    let got = library::step(&file, &starts, &mut out, &mut result);
+    let energies: Vec<u8> = spent
+        .iter()
+        .flat_map(|energy| energy.to_be_bytes())
+        .collect();
+    let energy: u32 = spent.iter().sum();
+    let told = [
+        &[0],
+        &horizon.to_be_bytes()[..],
+        &energy.to_be_bytes(),
+        &[0; 4],
+    ]
+    .concat();
+    let (written, kept) = out.split_at(energies.len());
+    if got == number && written == energies && is_blank(kept) && result == told {
+        return Ok(());
+    }
+    Err(format!(
+        "{name} does not come out: {got} {out:?} {result:?}"
+    ))
+}
+
 /// The numbers met and how often, 255 among them; or the first call that is not as it must be.
 pub fn test() -> Result<BTreeMap<u8, u64>, String> {
+    FIGURES.into_iter().try_for_each(figure)?;
     let mut met = run(SEED, CALLS, by_bytes(with_tails))?;
     let numbers: Vec<u8> = met.keys().copied().collect();
     let known: Vec<u8> = (0..=18).chain([24, 25]).collect();

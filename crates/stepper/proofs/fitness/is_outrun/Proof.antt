@@ -30,7 +30,7 @@ cast-if1 : tie.Need-cast-if1 Inv-loop μ-loop
 cast-if1 c = search needs
 
 returns : tie.Need-returns Inv-loop μ-loop
-returns c = holds (record { which = c .before .before .before .before .before .loop .k; known = c .before .before .before .before .loop-test .taken; outrun = c .if1 .taken })
+returns c = holds (record { which = c .before .before .before .before .before .loop .k; known = c .before .before .before .before .loop-test .taken; outrun = omega (arith, c .if1 .taken) })
 
 add-k : tie.Need-add-k Inv-loop μ-loop
 add-k c = omega (arith, c .before .before .before .before .loop-test .taken, c .before .before .before .before .before .before .pre)

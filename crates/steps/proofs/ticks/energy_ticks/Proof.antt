@@ -2,15 +2,11 @@
 -- Assumes nothing.
 use borrow.Author.Needs.{needs}
 use mathlib.Core.Path.{_∙_}
-use Prim.Native.Nat.{ℕ, _*_, _^_, _≤_, _<_}
-use native.Mathlib.Nat.{mul-le-mul}
 use native.Mathlib.Omega.{arith}
 use Rattle.steps.proofs.Passing.{energy-work, energy-sleep, energy-down, energy-up}
+use Rattle.steps.proofs.Bounds.{product}
 use Rattle.steps.proofs.ticks.energy_ticks.Statement.{statement}
 use Rattle.steps.proofs.ticks.energy_ticks.Tie as tie
-
-product : {p m : ℕ} → p ≤ 65535 → m ≤ 65535 → p * m < 2 ^ 32
-product hp hm = omega (arith, mul-le-mul hp hm)
 
 element-copy-out-asleep : tie.Need-element-copy-out-asleep
 element-copy-out-asleep c = search needs

@@ -3,13 +3,11 @@
 use borrow.Author.Needs.{needs}
 use mathlib.Core.Path.{_≡_}
 use Prim.Native.Nat.{ℕ, _+_, _-_, _*_, _^_, _≤_, _<_, min}
-use native.Mathlib.Nat.{mul-le-mul, mul-le-mul-right}
+use native.Mathlib.Nat.{mul-le-mul-right}
 use native.Mathlib.Omega.{arith}
+use Rattle.steps.proofs.Bounds.{product}
 use Rattle.steps.proofs.ticks.moving_energy.Statement.{statement}
 use Rattle.steps.proofs.ticks.moving_energy.Tie as tie
-
-product : {p m : ℕ} → p ≤ 65535 → m ≤ 65535 → p * m < 2 ^ 32
-product hp hm = omega (arith, mul-le-mul hp hm)
 
 sum : {p m s g : ℕ} → p ≤ 65535 → s ≤ 65535 → m ≤ g → g ≤ 65535 → p * m + s * (g - m) < 2 ^ 32
 sum {p} {m} {s} {g} hp hs hm hg = omega (arith, mul-le-mul-right m hp, mul-le-mul-right (g - m) hs)
