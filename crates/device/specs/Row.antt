@@ -1,4 +1,4 @@
--- The rows of a device (docs/RULES.md, rules 30 to 38 and 85 to 88): the letters, the legal rows by either rule, their energy, the row given, and the rule for gaps.
+-- The rows of a device (docs/RULES.md, rules 30 to 38, 82 and 85 to 88): the letters, the legal rows by either rule, their energy, the row given, and the rule for gaps.
 -- The declared `Device` is general. `shut` and `wake` are the ticks of a move down and of one up, by one level; `pd` and `pu` are their powers; `pw` is the power
 -- at work, and `powers` has those of the `levels` sleep levels, the shallowest first. A device of rule 3 has T and P0 for both moves and one level, of power Ps.
 -- Assumes nothing.
@@ -35,12 +35,12 @@ pub data Letter : Type 0 where
 abbrev pub W : Letter
 W = at 0
 
--- The byte that stands for a letter: its ASCII code, and S for sleep.
-abbrev pub byteOf : Letter → ℕ
-byteOf (at zero) = 87
-byteOf (at (suc k)) = 83
-byteOf D = 68
-byteOf U = 85
+-- The byte that stands for a letter: its ASCII code. A sleep is S, or the digit of its level where `digits` says so (rule 82).
+abbrev pub byteOf : Bool → Letter → ℕ
+byteOf digits (at zero) = 87
+byteOf digits (at (suc k)) = cond digits (49 + k) 83
+byteOf digits D = 68
+byteOf digits U = 85
 
 -- Where a device is between two ticks: at a level, or on the way down or up to one, with the ticks left.
 pub data State : Type 0 where

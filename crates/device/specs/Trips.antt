@@ -1,7 +1,7 @@
 -- What the code keeps of a gap: the trip that is best so far, and its bytes.
 -- Assumes nothing.
 use mathlib.Core.Path.{_≡_}
-use mathlib.Core.Bool.{false}
+use mathlib.Core.Bool.{Bool, false}
 use mathlib.Core.List.{List, _++_, map}
 use Prim.Native.Nat.{ℕ, _+_, _-_}
 use lib.ListN.{replicate, take, drop}
@@ -30,8 +30,8 @@ part x y l = take (y - x) (drop x l)
 
 -- The bytes of a row from the tick b on, up to which there is no use, to the end of the last use; and before and after them those of one gap, of which n ticks lie at
 -- the end of the row and b at its front.
-unfoldable pub around : Device → Uses → ℕ → ℕ → List ℕ
-around d u b n =
-    let gap = map byteOf (gapRow d (n + b)) in
-    let row = map byteOf (rowOf false d (pattern (usedIn u) b (afterFrom b u (u .count) - b))) in
+unfoldable pub around : Bool → Device → Uses → ℕ → ℕ → List ℕ
+around digits d u b n =
+    let gap = map (byteOf digits) (gapRow d (n + b)) in
+    let row = map (byteOf digits) (rowOf false d (pattern (usedIn u) b (afterFrom b u (u .count) - b))) in
     drop n gap ++ (row ++ take n gap)

@@ -4,6 +4,7 @@
 -- proofs/Hold: the table holds.
 -- Assumes nothing.
 use mathlib.Core.Path.{_≡_}
+use mathlib.Core.Bool.{false}
 use mathlib.Core.List.{List, [], _∷_, _++_, map}
 use Prim.Native.Nat.{ℕ}
 use lib.IntN.{ℤ, pos, negsuc}
@@ -141,7 +142,7 @@ abbrev S : Letter
 S = at 1
 
 abbrev letters : List Letter → List ℕ
-letters l = map byteOf l
+letters l = map (byteOf false) l
 
 abbrev pub table : List Case
 table =

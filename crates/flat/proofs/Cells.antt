@@ -178,4 +178,5 @@ module _ (R : Recorder) (s : Shaped R) where
       let js : upTo (jobColumn (grid (numberOf R))) 16 ≡ R .jobs .list = upTo-whole _ (R .jobs .list) noJob 16 (s .jobs-long) job-kept in
       let ds : upTo (deviceRow (grid (numberOf R))) 8 ≡ R .devices .list = upTo-whole _ (R .devices .list) noDevice 8 (s .devices-long) device-kept in
       let r : eqb (held 19 3) 1 ≡ R .round = ap (λ (x : ℕ). eqb x 1) (cell-grid (numberOf R) 19 3 (omega arith) (omega arith)) ∙ number-flag (R .round) in
-      rw (h, n, m, r, js, ds)
+      let g : eqb (held 19 4) 1 ≡ R .digits = ap (λ (x : ℕ). eqb x 1) (cell-grid (numberOf R) 19 4 (omega arith) (omega arith)) ∙ number-flag (R .digits) in
+      rw (h, n, m, r, g, js, ds)

@@ -61,8 +61,8 @@ pub record Shaped (R : Recorder) : Type 0 where
 
 pub recorder-shaped : (R : Recorder) (vs : List Val) → Is the-row R vs → Shaped R
 recorder-shaped R vs p =
-    let ds = p .1 .1 .1 .1 .0 .1 .1 .1 .0 in
-    let js = p .1 .1 .1 .1 .1 .0 .1 .1 .1 .0 in
+    let ds = p .1 .1 .1 .1 .1 .0 .1 .1 .1 .0 in
+    let js = p .1 .1 .1 .1 .1 .1 .0 .1 .1 .1 .0 in
     let eight : length (R .devices .list) ≡ 8 = mapped-long (device-field .into) (R .devices .list) 8 (ds .1 .0 .1) in
     let sixteen : length (R .jobs .list) ≡ 16 = mapped-long (job-field .into) (R .jobs .list) 16 (js .1 .0 .1) in
     record {

@@ -1,7 +1,7 @@
 -- The recorder laid flat: twenty rows of sixteen numbers, which the search lends, so that nothing of it is copied at a vertex.
 -- Rows 0 to 2 hold each job's release, deadline and running time; rows 3 to 10, one for each device, 1 for a job that uses it and 0 for another;
 -- rows 11 to 18, one for each device, its figures in their order, of which the times of its moves and its number of levels have one byte each; row 19 the horizon,
--- the numbers of jobs and of devices, and 1 for a round.
+-- the numbers of jobs and of devices, 1 for a round, and 1 where rows have digits.
 -- Assumes nothing.
 use mathlib.Core.Bool.{false, cond}
 use mathlib.Core.List.{List}
@@ -37,6 +37,7 @@ recorderOf l =
     record {
       horizon = cell l 19 0;
       round = eqb (cell l 19 3) 1;
+      digits = eqb (cell l 19 4) 1;
       devices = record { count = cell l 19 2; list = upTo (deviceRow l) 8 };
       jobs = record { count = cell l 19 1; list = upTo (jobColumn l) 16 };
     }
@@ -51,7 +52,9 @@ deviceNumber d i =
     (cond (eqb i 4) (d .pu) (cond (eqb i 5) (d .levels) (getD (d .powers) (i - 6) 0))))))
 
 unfoldable pub ownNumber : Recorder → ℕ → ℕ
-ownNumber R i = cond (eqb i 0) (R .horizon) (cond (eqb i 1) (R .jobs .count) (cond (eqb i 2) (R .devices .count) (cond (R .round) 1 0)))
+ownNumber R i =
+    cond (eqb i 0) (R .horizon) (cond (eqb i 1) (R .jobs .count) (cond (eqb i 2) (R .devices .count)
+    (cond (eqb i 3) (cond (R .round) 1 0) (cond (R .digits) 1 0))))
 
 -- What flat_of writes in a row and a column.
 unfoldable pub numberOf : Recorder → ℕ → ℕ → ℕ

@@ -146,7 +146,7 @@ fn device_number(device: Device, column: usize) -> u16
     device.powers[column - 6]
 }
 
-// What the recorder has in the last row: the horizon, the counts, and 1 for a round.
+// What the recorder has in the last row: the horizon, the counts, 1 for a round, and 1 where rows have digits.
 fn own_number(r: Recorder, column: usize) -> u16
     requires { ⌜ Valid r ⌝ }
     ensures { λ x. ⌜ x ≡ ownNumber r column ⌝ }
@@ -160,7 +160,10 @@ fn own_number(r: Recorder, column: usize) -> u16
     if column == 2 {
         return r.devices.count as u16;
     }
-    r.round as u16
+    if column == 3 {
+        return r.round as u16;
+    }
+    r.digits as u16
 }
 
 // The number that stands in a row and a column of the recorder laid flat.

@@ -2,6 +2,7 @@
 -- of every promise over a file whose cases have one outcome for each valid recorder; so each operation shows it of its own cases only.
 -- Assumes nothing.
 use mathlib.Core.Path.{_≡_, refl, sym, ap, subst, _∙_}
+use mathlib.Core.Bool.{Bool}
 use mathlib.Core.List.{List, _++_}
 use Prim.Native.Nat.{ℕ, zero, suc, _*_, _<_}
 use native.Mathlib.Omega.{arith}
@@ -107,11 +108,11 @@ only-judged file starts = only-answered file (VerdictOf starts) (λ R v a a′. 
 -- ---- `rows`
 
 -- Rows that are the same device by device are laid out the same,
-laid-same : (n : ℕ) (rows rows′ : ℕ → List Letter) → ((k : ℕ) → k < n → rows k ≡ rows′ k) → laid rows n ≡ laid rows′ n
+laid-same : (digits : Bool) (n : ℕ) (rows rows′ : ℕ → List Letter) → ((k : ℕ) → k < n → rows k ≡ rows′ k) → laid digits rows n ≡ laid digits rows′ n
 unfolding laid
-laid-same zero rows rows′ h = refl
-laid-same (suc n) rows rows′ h =
-    let e = laid-same n rows rows′ (λ k l. h k (omega arith)) in
+laid-same digits zero rows rows′ h = refl
+laid-same digits (suc n) rows rows′ h =
+    let e = laid-same digits n rows rows′ (λ k l. h k (omega arith)) in
     let f = h n (omega arith) in
     cc
 
@@ -119,11 +120,11 @@ laid-same (suc n) rows rows′ h =
 given-one : (lent : List ℕ) (R : Recorder) → Valid R → {starts : List ℕ} {rows rows′ : ℕ → List Letter} → Rows R starts rows → Rows R starts rows′
     → (success (R .horizon) (sum (R .devices .count) (λ k. energy (device R k) (rows k))) 0
     ≡ success (R .horizon) (sum (R .devices .count) (λ k. energy (device R k) (rows′ k))) 0)
-    × (laid rows (R .devices .count) ++ drop (R .devices .count * R .horizon) lent ≡ laid rows′ (R .devices .count) ++ drop (R .devices .count * R .horizon) lent)
+    × (laid (R .digits) rows (R .devices .count) ++ drop (R .devices .count * R .horizon) lent ≡ laid (R .digits) rows′ (R .devices .count) ++ drop (R .devices .count * R .horizon) lent)
 given-one lent R v {starts} {rows} {rows′} p p′ =
     let same : (k : ℕ) → k < R .devices .count → rows k ≡ rows′ k = λ k l. rows-only R v p k l ∙ sym (rows-only R v p′ k l) in
     let e = sum-same (R .devices .count) (λ k. energy (device R k) (rows k)) (λ k. energy (device R k) (rows′ k)) (λ k l. ap (energy (device R k)) (same k l)) in
-    let f = laid-same (R .devices .count) rows rows′ same in
+    let f = laid-same (R .digits) (R .devices .count) rows rows′ same in
     (cc, cc)
 
 pub one-rows : (starts lent : List ℕ) (R : Recorder) → Valid R → {a a′ : Answer} {l l′ : List ℕ}

@@ -93,7 +93,7 @@ pub data RowsOf (starts lent : List ℕ) (R : Recorder) : Answer → List ℕ �
   faulty : {n j : ℕ} → length starts ≡ jobs R → R .devices .count * R .horizon ≤ length lent → Fault R starts n j → RowsOf starts lent R (refusalAt n j) lent
   given : {rows : ℕ → List Letter} → R .devices .count * R .horizon ≤ length lent → Feasible R starts → Rows R starts rows
       → RowsOf starts lent R (success (R .horizon) (sum (R .devices .count) (λ k. energy (device R k) (rows k))) 0)
-      (laid rows (R .devices .count) ++ drop (R .devices .count * R .horizon) lent)
+      (laid (R .digits) rows (R .devices .count) ++ drop (R .devices .count * R .horizon) lent)
 
 abbrev pub Rowed : List ℕ → List ℕ → List ℕ → Answer → List ℕ → Type 0
 Rowed file starts lent a after = OfFile file lent (RowsOf starts lent) a after

@@ -206,7 +206,7 @@ abbrev pub jobsHeld : List Job → Jobs
 jobsHeld l = record { count = length l; list = padded 16 emptyJob l }
 
 unfoldable pub recorderAs : Kind → List ℕ → Recorder
-recorderAs k s = record { horizon = horizonIn k s; round = roundIn k s; devices = devicesHeld (devicesIn k s); jobs = jobsHeld (jobsIn k s) }
+recorderAs k s = record { horizon = horizonIn k s; round = roundIn k s; digits = false; devices = devicesHeld (devicesIn k s); jobs = jobsHeld (jobsIn k s) }
 
 -- The reading of a kind, and that of a file: by its own kind (rule 75).
 unfoldable pub readAs : Kind → List ℕ → Reading
@@ -220,7 +220,7 @@ readOf s = readAs (kindOf s) (bodyOf s)
 
 -- What the code hands on of a reading: its number, with the recorder or an empty one.
 abbrev pub noRecorder : Recorder
-noRecorder = record { horizon = 0; round = false; devices = devicesHeld []; jobs = jobsHeld [] }
+noRecorder = record { horizon = 0; round = false; digits = false; devices = devicesHeld []; jobs = jobsHeld [] }
 
 unfoldable pub handedOn : Reading → Request
 handedOn (refused n) = record { number = n; recorder = noRecorder }

@@ -64,6 +64,7 @@ pub(crate) fn recorder_in(s: &[u8], kind: Kind) -> Recorder
     Recorder {
         horizon: h as u16,
         round: 0 < tasks,
+        digits: false,
         devices,
         jobs,
     }
@@ -78,6 +79,7 @@ pub(crate) fn no_recorder() -> Recorder
     Recorder {
         horizon: 0,
         round: false,
+        digits: false,
         devices,
         jobs,
     }

@@ -20,7 +20,7 @@ use Rattle.schedule.specs.Judging.{Judgement, faulty, feasible, Windows,
 
 -- A recorder of these jobs: what a loop over them says of it, it says of every recorder that holds them.
 abbrev pub holding : Jobs → Recorder
-holding J = record { horizon = 0; round = false; devices = record { count = 0; list = [] }; jobs = J }
+holding J = record { horizon = 0; round = false; digits = false; devices = record { count = 0; list = [] }; jobs = J }
 
 -- What a deciding test says.
 pub decided : {P : Type 0} {b : Bool} → Decides P b → b ≡ true → P

@@ -97,9 +97,9 @@ pub record Costs (R : Recorder) (s : List ℕ) (e : ℕ) : Type 0 where
   pub sums : e ≡ sum (R .devices .count) (λ k. energy (device R k) (rows k))
 
 -- The bytes of the first n rows, one after the other (rule 39). Each has H letters, so that device k's begin at place k × H.
-unfoldable pub laid : (ℕ → List Letter) → ℕ → List ℕ
-laid rows zero = []
-laid rows (suc k) = laid rows k ++ map byteOf (rows k)
+unfoldable pub laid : Bool → (ℕ → List Letter) → ℕ → List ℕ
+laid digits rows zero = []
+laid digits rows (suc k) = laid digits rows k ++ map (byteOf digits) (rows k)
 
 -- ---- the first of the least
 

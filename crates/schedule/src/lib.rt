@@ -32,10 +32,12 @@ pub struct Devices {
     pub list: [Device; 8],
 }
 
-// What a request asks to be planned: one round of the clock for these devices and jobs. `round` says that it is repeated for ever (rule 85).
+// What a request asks to be planned: one round of the clock for these devices and jobs. `round` says that it is repeated for ever (rule 85), `digits`
+// that in its rows a sleep is written as the digit of its level (rule 82).
 pub struct Recorder {
     pub horizon: u16,
     pub round: bool,
+    pub digits: bool,
     pub devices: Devices,
     pub jobs: Jobs,
 }

@@ -30,7 +30,7 @@ pub fn plan_energy(r: Recorder, starts: &[u16]) -> u32
 // Writes the plan's rows into the lent bytes, the row of device k from place k * H on, and keeps what follows the last row.
 pub fn write_rows(r: Recorder, starts: &[u16], out: &mut [u8])
     requires { ⌜ Valid r × Feasible r (now starts) × (r .devices .count * r .horizon ≤ length (now out)) ⌝ }
-    ensures { λ _. ⌜ now (out .exit) ≡ laid (planRow r (now (starts .entry))) (r .devices .count) ++ drop (r .devices .count * r .horizon) (now (out .entry)) ⌝ }
+    ensures { λ _. ⌜ now (out .exit) ≡ laid (r .digits) (planRow r (now (starts .entry))) (r .devices .count) ++ drop (r .devices .count * r .horizon) (now (out .entry)) ⌝ }
 {
     let devices = r.devices;
     let h = r.horizon as usize;
@@ -38,7 +38,14 @@ pub fn write_rows(r: Recorder, starts: &[u16], out: &mut [u8])
     while k < devices.count {
         let uses = uses_of(r, starts, k);
         let at = k * h;
-        write_row(r.round, devices.list[k], r.horizon, uses, &mut out[at..]);
+        write_row(
+            r.round,
+            r.digits,
+            devices.list[k],
+            r.horizon,
+            uses,
+            &mut out[at..],
+        );
         k += 1;
     }
 }

@@ -31,10 +31,19 @@ cast-result-3 c = search needs
 returns-4 : tie.Need-returns-4
 unfolding ownNumber
 returns-4 c =
-    simp (ne-eqb _ _ (c .before .before .before .if1 .left), ne-eqb _ _ (c .before .before .if2 .left), ne-eqb _ _ (c .before .if3 .left))
-    (flag-number (c .before .before .before .before .args .r .round))
+    simp (ne-eqb _ _ (c .before .before .before .before .if1 .left), ne-eqb _ _ (c .before .before .before .if2 .left), ne-eqb _ _ (c .before .before .if3 .left), eq-eqb _ _ (c .before .if4 .taken))
+    (flag-number (c .before .before .before .before .before .args .r .round))
+
+cast-result-4 : tie.Need-cast-result-4
+cast-result-4 c = search needs
+
+returns-5 : tie.Need-returns-5
+unfolding ownNumber
+returns-5 c =
+    simp (ne-eqb _ _ (c .before .before .before .before .if1 .left), ne-eqb _ _ (c .before .before .before .if2 .left), ne-eqb _ _ (c .before .before .if3 .left), ne-eqb _ _ (c .before .if4 .left))
+    (flag-number (c .before .before .before .before .before .args .r .digits))
 
 pub own-number-spec : {M : Type 1} → statement M
 own-number-spec =
     tie.close
-    (tie.spec returns cast-result returns-2 cast-result-2 returns-3 cast-result-3 returns-4)
+    (tie.spec returns cast-result returns-2 cast-result-2 returns-3 cast-result-3 returns-4 cast-result-4 returns-5)

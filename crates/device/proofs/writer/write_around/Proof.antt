@@ -2,6 +2,7 @@
 -- the last use passed, and the rest of the buffer is as it was. Then comes the beginning of that gap.
 -- Assumes nothing.
 use mathlib.Core.Path.{_≡_, refl, sym, ap, _∙_}
+use mathlib.Core.Bool.{Bool}
 use mathlib.Core.List.{List, _++_, append-assoc, append-nil, map}
 use Prim.Native.Nat.{ℕ, _+_, _-_, _≤_, _<_}
 use native.Mathlib.Omega.{arith}
@@ -20,21 +21,21 @@ use Rattle.device.proofs.writer.write_around.Statement.{statement}
 use Rattle.device.proofs.writer.write_around.Tie as tie
 
 -- The gap over the seam, of which n ticks lie at the row's end and b at its front.
-abbrev seamed : Device → ℕ → ℕ → List ℕ
-seamed d n b = map byteOf (gapRow d (n + b))
+abbrev seamed : Bool → Device → ℕ → ℕ → List ℕ
+seamed digits d n b = map (byteOf digits) (gapRow d (n + b))
 
 abbrev Inv-loop : tie.InvT-loop
-Inv-loop d h front tail out₀ u seam at₀ i₀ out at i =
-    (i ≤ u .count) × (at ≡ afterFrom front u i) × Filled out₀ at (drop tail (seamed d tail front) ++ bytes u d front at) out
+Inv-loop digits d h front tail out₀ u seam at₀ i₀ out at i =
+    (i ≤ u .count) × (at ≡ afterFrom front u i) × Filled out₀ at (drop tail (seamed digits d tail front) ++ bytes digits u d front at) out
 
 abbrev μ-loop : tie.MeasureT-loop
-μ-loop d h front tail out₀ u seam at₀ i₀ out at i = u .count - i
+μ-loop digits d h front tail out₀ u seam at₀ i₀ out at i = u .count - i
 
 -- The front and the tail lie within the row.
 room : (s : tie.Start Inv-loop μ-loop) → s .args .tail + s .args .front ≤ s .args .h
 room s =
     let a = s .args in
-    omega (arith, from-by (a .t3) (a .h) (s .pre .1 .0) (a .front) (s .pre .1 .1 .0) (a .t3 .count) (omega arith), s .pre .1 .1 .1 .0, s .pre .1 .1 .1 .1 .0)
+    omega (arith, from-by (a .t4) (a .h) (s .pre .1 .0) (a .front) (s .pre .1 .1 .0) (a .t4 .count) (omega arith), s .pre .1 .1 .1 .0, s .pre .1 .1 .1 .1 .0)
 
 add-seam : tie.Need-add-seam Inv-loop μ-loop
 add-seam c = omega (arith, room (c .before))
@@ -44,12 +45,12 @@ write-gap-requires c κs = let r = room (c .before .before) in (c .before .befor
 
 -- The end of the gap is written.
 head : (g : tie.After-write-gap Inv-loop μ-loop) → let a = g .before .before .before .args in
-    Filled (a .out .now) (a .front) (drop (a .tail) (seamed (a .d) (a .tail) (a .front))) (g .write-gap .last .0)
+    Filled (a .out .now) (a .front) (drop (a .tail) (seamed (a .digits) (a .d) (a .tail) (a .front))) (g .write-gap .last .0)
 head g =
     let s = g .before .before .before in
     let a = s .args in
-    let gap = seamed (a .d) (a .tail) (a .front) in
-    let long = length-gap-bytes (a .d) (a .tail + a .front) in
+    let gap = seamed (a .digits) (a .d) (a .tail) (a .front) in
+    let long = length-gap-bytes (a .digits) (a .d) (a .tail + a .front) in
     let all : take (a .front) (drop (a .tail) gap) ≡ drop (a .tail) gap = take-all (a .front) (drop (a .tail) gap) (omega (arith, length-drop (a .tail) gap)) in
     let first = written-first (take (a .front) (drop (a .tail) gap)) (length-take-le (a .front) (drop (a .tail) gap) (omega (arith, length-drop (a .tail) gap))) (g .write-gap .ensures) in
     rw (g .write-gap .ensures .0, all) at first
@@ -59,31 +60,31 @@ loop-holds c =
     let g = c .before .before in
     let a = g .before .before .before .args in
     let to : g .write-gap .result ≡ a .front = g .write-gap .ensures .0 in
-    let front = drop (a .tail) (seamed (a .d) (a .tail) (a .front)) in
-    let none : front ++ bytes (a .t3) (a .d) (a .front) (a .front) ≡ front = ap (λ (l : List ℕ). front ++ l) (bytes-none (a .t3) (a .d) (a .front)) ∙ append-nil front in
+    let front = drop (a .tail) (seamed (a .digits) (a .d) (a .tail) (a .front)) in
+    let none : front ++ bytes (a .digits) (a .t4) (a .d) (a .front) (a .front) ≡ front = ap (λ (l : List ℕ). front ++ l) (bytes-none (a .digits) (a .t4) (a .d) (a .front)) ∙ append-nil front in
     (omega arith, to, rw (to, none) (filled-begun (head g)))
 
 -- From the start on, and not only from where the loop begins.
 since : (l : tie.At-loop Inv-loop μ-loop) → let a = l .before .before .before .before .before .before .args in
-    Filled (a .out .now) (l .loop .at) (drop (a .tail) (seamed (a .d) (a .tail) (a .front)) ++ bytes (a .t3) (a .d) (a .front) (l .loop .at)) (l .loop .out)
+    Filled (a .out .now) (l .loop .at) (drop (a .tail) (seamed (a .digits) (a .d) (a .tail) (a .front)) ++ bytes (a .digits) (a .t4) (a .d) (a .front) (l .loop .at)) (l .loop .out)
 since l =
     let g = l .before .before .before in
     let s = g .before .before .before in
     let a = s .args in
     filled-since (head g) (l .loop .inv .2)
-    (omega (arith, l .loop .inv .1, from-by (a .t3) (a .h) (s .pre .1 .0) (a .front) (s .pre .1 .1 .0) (l .loop .i) (l .loop .inv .0)))
+    (omega (arith, l .loop .inv .1, from-by (a .t4) (a .h) (s .pre .1 .0) (a .front) (s .pre .1 .1 .0) (l .loop .i) (l .loop .inv .0)))
 
 -- What is known of the use at hand, and that the buffer has the length it had.
 fits : (c : tie.In-loop Inv-loop μ-loop) → let s = c .before .before .before .before .before .before .before in
-    (c .before .loop .at ≤ begin (s .args .t3) (c .before .loop .i))
-    × (begin (s .args .t3) (c .before .loop .i) < end (s .args .t3) (c .before .loop .i))
-    × (end (s .args .t3) (c .before .loop .i) ≤ s .args .h)
+    (c .before .loop .at ≤ begin (s .args .t4) (c .before .loop .i))
+    × (begin (s .args .t4) (c .before .loop .i) < end (s .args .t4) (c .before .loop .i))
+    × (end (s .args .t4) (c .before .loop .i) ≤ s .args .h)
     × (length (c .before .loop .out) ≡ length (s .args .out .now))
     × (length (c .before .before .before .before .write-gap .last .0) ≡ length (s .args .out .now))
 fits c =
     let s = c .before .before .before .before .before .before .before in
-    let f = use-fits (s .args .t3) (s .args .h) (s .pre .1 .0) (s .args .front) (s .pre .1 .1 .0) (c .before .loop .i) (c .loop-test .taken) in
-    let at : c .before .loop .at ≤ begin (s .args .t3) (c .before .loop .i) = omega (arith, c .before .loop .inv .1) in
+    let f = use-fits (s .args .t4) (s .args .h) (s .pre .1 .0) (s .args .front) (s .pre .1 .1 .0) (c .before .loop .i) (c .loop-test .taken) in
+    let at : c .before .loop .at ≤ begin (s .args .t4) (c .before .loop .i) = omega (arith, c .before .loop .inv .1) in
     let wide = s .pre .1 .1 .1 .1 .1 .1 in
     let r = room s in
     (at, f .1, f .2, filled-length (since (c .before)) (omega arith), filled-length (head (c .before .before .before .before)) (omega arith))
@@ -159,24 +160,24 @@ loop-again c =
     let l = g .before .before .before .before in
     let s = l .before .before .before .before .before .before .before in
     let a = s .args in
-    let u = a .t3 in
+    let u = a .t4 in
     let i = l .before .loop .i in
     let at = l .before .loop .at in
     let f = fits l in
     let n = begin u i - at in
     let wide = s .pre .1 .1 .1 .1 .1 .1 in
-    let made = map byteOf (gapRow (a .d) n) in
-    let long = length-gap-bytes (a .d) n in
+    let made = map (byteOf (a .digits)) (gapRow (a .d) n) in
+    let long = length-gap-bytes (a .digits) (a .d) n in
     let all : take n (drop 0 made) ≡ made = take-all n made (omega arith) in
-    let first = drop (a .tail) (seamed (a .d) (a .tail) (a .front)) in
-    let before = bytes u (a .d) (a .front) at in
+    let first = drop (a .tail) (seamed (a .digits) (a .d) (a .tail) (a .front)) in
+    let before = bytes (a .digits) u (a .d) (a .front) at in
     let work : List ℕ = replicate (end u i - begin u i) 87 in
     let gap = written-on (l .before .loop .inv .2) (take n (drop 0 made)) (length-take-le n made (omega arith)) (omega arith) (g .write-gap2 .ensures) in
     let used = written-on gap work (length-replicate (end u i - begin u i) 87) (omega arith) (w .write-run .ensures) in
     let to : at + g .write-gap2 .result + w .write-run .result ≡ end u i = omega arith in
-    let joined : ((first ++ before) ++ take n (drop 0 made)) ++ work ≡ first ++ bytes u (a .d) (a .front) (end u i)
+    let joined : ((first ++ before) ++ take n (drop 0 made)) ++ work ≡ first ++ bytes (a .digits) u (a .d) (a .front) (end u i)
     = ap (λ (k : List ℕ). ((first ++ before) ++ k) ++ work) all ∙ ap (λ (k : List ℕ). k ++ work) (append-assoc first before made) ∙ append-assoc first (before ++ made) work
-    ∙ ap (λ (k : List ℕ). first ++ k) (sym (bytes-use u (a .h) (s .pre .1 .0) (a .d) (a .front) (s .pre .1 .1 .0) i at (l .loop-test .taken) (l .before .loop .inv .1))) in (
+    ∙ ap (λ (k : List ℕ). first ++ k) (sym (bytes-use (a .digits) u (a .h) (s .pre .1 .0) (a .d) (a .front) (s .pre .1 .1 .0) i at (l .loop-test .taken) (l .before .loop .inv .1))) in (
       omega arith,
       to ∙ from-next (a .front) u i,
       rw to (rw (to, joined) at used),
@@ -185,13 +186,13 @@ loop-again c =
 -- All uses are passed.
 over : (c : tie.After-loop Inv-loop μ-loop) → let s = c .before .before .before .before .before .before .before in
     let a = s .args in
-    (c .before .loop .at ≡ afterFrom (a .front) (a .t3) (a .t3 .count)) × (c .before .loop .at + a .tail ≡ a .h)
+    (c .before .loop .at ≡ afterFrom (a .front) (a .t4) (a .t4 .count)) × (c .before .loop .at + a .tail ≡ a .h)
     × (length (c .before .loop .out) ≡ length (a .out .now))
 over c =
     let s = c .before .before .before .before .before .before .before in
     let a = s .args in
-    let last : c .before .loop .i ≡ a .t3 .count = omega arith in
-    let e : c .before .loop .at ≡ afterFrom (a .front) (a .t3) (a .t3 .count) = c .before .loop .inv .1 ∙ ap (afterFrom (a .front) (a .t3)) last in
+    let last : c .before .loop .i ≡ a .t4 .count = omega arith in
+    let e : c .before .loop .at ≡ afterFrom (a .front) (a .t4) (a .t4 .count) = c .before .loop .inv .1 ∙ ap (afterFrom (a .front) (a .t4)) last in
     let h = s .pre .1 .1 .1 in
     (e, omega (arith, h .0, h .1 .0), filled-length (since (c .before)) (omega (arith, h .0, h .1 .1 .1)))
 
@@ -215,7 +216,7 @@ write-gap-requires-3 c κs =
 whole : (c : tie.After-write-gap3 Inv-loop μ-loop) → let l = c .before .before .before in
     let s = l .before .before .before .before .before .before in
     let a = s .args in
-    Filled (a .out .now) (a .h) (around (a .d) (a .t3) (a .front) (a .tail)) (putMid (l .loop .at) (length (l .loop .out) - l .loop .at) (l .loop .out) (c .write-gap3 .last .0))
+    Filled (a .out .now) (a .h) (around (a .digits) (a .d) (a .t4) (a .front) (a .tail)) (putMid (l .loop .at) (length (l .loop .out) - l .loop .at) (l .loop .out) (c .write-gap3 .last .0))
 unfolding around
 whole c =
     let l = c .before .before in
@@ -224,12 +225,12 @@ whole c =
     let at = l .before .loop .at in
     let o = over l in
     let r = room s in
-    let gap = seamed (a .d) (a .tail) (a .front) in
-    let long = length-gap-bytes (a .d) (a .tail + a .front) in
+    let gap = seamed (a .digits) (a .d) (a .tail) (a .front) in
+    let long = length-gap-bytes (a .digits) (a .d) (a .tail + a .front) in
     let wide = s .pre .1 .1 .1 .1 .1 .1 in
     let last = written-on (since (l .before)) (take (a .tail) (drop 0 gap)) (length-take-le (a .tail) gap (omega arith)) (omega arith) (c .write-gap3 .ensures) in
     let to : at + c .write-gap3 .result ≡ a .h = omega arith in
-    let joined = append-assoc (drop (a .tail) gap) (bytes (a .t3) (a .d) (a .front) at) (take (a .tail) gap) in
+    let joined = append-assoc (drop (a .tail) gap) (bytes (a .digits) (a .t4) (a .d) (a .front) at) (take (a .tail) gap) in
     rw (← o .0) (rw (to, joined) at last)
 
 same-length : tie.Need-same-length Inv-loop μ-loop

@@ -46,7 +46,10 @@ sub-stay : tie.Need-sub-stay
 sub-stay c = omega (arith, room (c .before .before))
 
 letter-at-requires : tie.Need-letter-at-requires
-letter-at-requires c κs = search needs
+letter-at-requires c κs =
+    let t = c .before .before .before in
+    let a = t .before .before .args in
+    omega (arith, t .gap-trip .ensures .level, chosen (a .d) (a .d .levels) (a .g) .within, t .before .before .pre .0 .few-levels)
 
 write-trip-requires : tie.Need-write-trip-requires
 write-trip-requires c κs =
@@ -64,8 +67,8 @@ returns c =
     let a = t .before .before .args in
     let m = t .gap-trip .result .level in
     let stay = a .g - (a .d .shut * m + a .d .wake * m) in
-    let row : tripBytes (a .d .shut * m) stay (a .d .wake * m) (byteOf (Row.at m)) ≡ map byteOf (gapRow (a .d) (a .g))
-    = sym (bytes-trip (a .d) m (a .g)) ∙ ap (λ (k : ℕ). map byteOf (trip (a .d) k (a .g))) (t .gap-trip .ensures .level) in
+    let row : tripBytes (a .d .shut * m) stay (a .d .wake * m) (byteOf (a .digits) (Row.at m)) ≡ map (byteOf (a .digits)) (gapRow (a .d) (a .g))
+    = sym (bytes-trip (a .digits) (a .d) m (a .g)) ∙ ap (λ (k : ℕ). map (byteOf (a .digits)) (trip (a .d) k (a .g))) (t .gap-trip .ensures .level) in
     let all = ap (tripBytes (a .d .shut * m) stay (a .d .wake * m)) (w .before .letter-at .ensures) ∙ row in
     (w .write-trip .ensures .0, w .write-trip .ensures .1 ∙ ap (λ (l : List ℕ). take (a .n) (drop (a .x) l) ++ drop (a .n) (a .rest .now)) all)
 

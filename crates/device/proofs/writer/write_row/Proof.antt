@@ -24,7 +24,7 @@ cast-letter-at : tie.Need-cast-letter-at
 cast-letter-at c = search needs
 
 letter-at-requires : tie.Need-letter-at-requires
-letter-at-requires c κs = search needs
+letter-at-requires c κs = omega (arith, c .before .before .before .before .before .pre .0 .few-levels)
 
 write-run-requires : tie.Need-write-run-requires
 write-run-requires c κs = search needs
@@ -38,8 +38,8 @@ returns c =
     let s = w .before .before .before .before .before .before .before in
     let a = s .args in
     let e : idle (a .round) (a .u) ≡ true = sym (w .before .before .before .before .before .is-idle .ensures) ∙ w .before .before .before .before .if1 .taken in
-    let row : map byteOf (rowOf (a .round) (a .d) (pattern (usedIn (a .u)) 0 (a .h))) ≡ replicate (a .h) (byteOf (Row.at (a .d .levels)))
-    = ap (map byteOf) (row-idle (a .u) (a .h) (s .pre .1 .0) (a .d) (a .round) e) ∙ map-replicate byteOf (a .h) (Row.at (a .d .levels)) in
+    let row : map (byteOf (a .digits)) (rowOf (a .round) (a .d) (pattern (usedIn (a .u)) 0 (a .h))) ≡ replicate (a .h) (byteOf (a .digits) (Row.at (a .d .levels)))
+    = ap (map (byteOf (a .digits))) (row-idle (a .u) (a .h) (s .pre .1 .0) (a .d) (a .round) e) ∙ map-replicate (byteOf (a .digits)) (a .h) (Row.at (a .d .levels)) in
     w .write-run .ensures .1 ∙ ap (λ (l : List ℕ). l ++ drop (a .h) (a .out .now)) (ap (replicate (a .h)) (w .before .letter-at .ensures) ∙ sym row)
 
 front-of-requires : tie.Need-front-of-requires
@@ -86,8 +86,8 @@ returns-2 c =
     let a = s .args in
     let l = lasts f in
     let tail : a .h - w .before .before .last-end .result ≡ a .h - afterFrom (f .front-of .result) (a .u) (a .u .count) = rw (l .1, w .before .before .last-end .ensures) in
-    let row : around (a .d) (a .u) (f .front-of .result) (a .h - w .before .before .last-end .result) ≡ map byteOf (rowOf (a .round) (a .d) (pattern (usedIn (a .u)) 0 (a .h)))
-    = rw (tail, f .front-of .ensures) (sym (row-around (a .u) (a .h) (s .pre .1 .0) (a .d) (a .round) (l .0))) in
+    let row : around (a .digits) (a .d) (a .u) (f .front-of .result) (a .h - w .before .before .last-end .result) ≡ map (byteOf (a .digits)) (rowOf (a .round) (a .d) (pattern (usedIn (a .u)) 0 (a .h)))
+    = rw (tail, f .front-of .ensures) (sym (row-around (a .digits) (a .u) (a .h) (s .pre .1 .0) (a .d) (a .round) (l .0))) in
     w .write-around .ensures ∙ ap (λ (r : List ℕ). r ++ drop (a .h) (a .out .now)) row
 
 pub write-row-spec : {M : Type 1} → statement M

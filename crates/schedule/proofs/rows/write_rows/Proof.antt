@@ -18,7 +18,7 @@ use Rattle.schedule.proofs.rows.write_rows.Statement.{statement}
 use Rattle.schedule.proofs.rows.write_rows.Tie as tie
 
 abbrev Inv-loop : tie.InvT-loop
-Inv-loop r starts out₀ devices h k₀ out k = (k ≤ r .devices .count) × Filled out₀ (k * r .horizon) (laid (planRow r starts) k) out
+Inv-loop r starts out₀ devices h k₀ out k = (k ≤ r .devices .count) × Filled out₀ (k * r .horizon) (laid (r .digits) (planRow r starts) k) out
 
 abbrev μ-loop : tie.MeasureT-loop
 μ-loop r starts out₀ devices h k₀ out k = r .devices .count - k
@@ -76,13 +76,13 @@ loop-less : tie.Need-loop-less Inv-loop μ-loop
 loop-less c = omega arith
 
 loop-again : tie.Need-loop-again Inv-loop μ-loop
-loop-again c = (omega arith, laid-row (c .before .before .before .before .before .before .before .before .before .before .before .before .args .r) (c .before .before .before .before .before .before .before .before .before .before .before .before .args .starts .now) (c .before .before .before .before .before .before .before .loop .k) (c .before .before .before .before .before .before .before .loop .inv .1) (roomy (c .before .before .before .before .before .before) .0) (c .before .before .write-row .last .1 .1 .1 .1 .0) (c .before .before .write-row .ensures ∙ ap (λ (u : List Bool). map byteOf (rowOf (c .before .before .before .before .before .before .before .before .before .before .before .before .args .r .round) (device (c .before .before .before .before .before .before .before .before .before .before .before .before .args .r) (c .before .before .before .before .before .before .before .loop .k)) u) ++ drop (c .before .before .before .before .before .before .before .before .before .before .before .before .args .r .horizon) (take (length (c .before .before .before .before .before .before .before .loop .out) - c .before .before .before .before .before .before .before .loop .k * c .before .before .before .before .before .before .before .before .before .before .before .before .args .r .horizon) (drop (c .before .before .before .before .before .before .before .loop .k * c .before .before .before .before .before .before .before .before .before .before .before .before .args .r .horizon) (c .before .before .before .before .before .before .before .loop .out)))) (pattern-uses (c .before .before .before .before .before .uses-of .ensures))))
+loop-again c = (omega arith, laid-row (c .before .before .before .before .before .before .before .before .before .before .before .before .args .r) (c .before .before .before .before .before .before .before .before .before .before .before .before .args .starts .now) (c .before .before .before .before .before .before .before .loop .k) (c .before .before .before .before .before .before .before .loop .inv .1) (roomy (c .before .before .before .before .before .before) .0) (c .before .before .write-row .last .1 .1 .1 .1 .1 .0) (c .before .before .write-row .ensures ∙ ap (λ (u : List Bool). map (byteOf (c .before .before .before .before .before .before .before .before .before .before .before .before .args .r .digits)) (rowOf (c .before .before .before .before .before .before .before .before .before .before .before .before .args .r .round) (device (c .before .before .before .before .before .before .before .before .before .before .before .before .args .r) (c .before .before .before .before .before .before .before .loop .k)) u) ++ drop (c .before .before .before .before .before .before .before .before .before .before .before .before .args .r .horizon) (take (length (c .before .before .before .before .before .before .before .loop .out) - c .before .before .before .before .before .before .before .loop .k * c .before .before .before .before .before .before .before .before .before .before .before .before .args .r .horizon) (drop (c .before .before .before .before .before .before .before .loop .k * c .before .before .before .before .before .before .before .before .before .before .before .before .args .r .horizon) (c .before .before .before .before .before .before .before .loop .out)))) (pattern-uses (c .before .before .before .before .before .uses-of .ensures))))
 
 same-length : tie.Need-same-length Inv-loop μ-loop
 same-length c = filled-length (c .before .loop .inv .1) (omega (arith, mul-le-mul-right (c .before .before .before .before .before .before .args .r .horizon) (c .before .loop .inv .0), c .before .before .before .before .before .before .pre .2))
 
 returns : tie.Need-returns Inv-loop μ-loop
-returns c = let R = c .before .before .before .before .before .before .args .r in let all : c .before .loop .k ≡ R .devices .count = omega arith in c .before .loop .inv .1 .is ∙ ap (λ (n : ℕ). laid (planRow R (c .before .before .before .before .before .before .args .starts .now)) n ++ drop (n * R .horizon) (c .before .before .before .before .before .before .args .out .now)) all
+returns c = let R = c .before .before .before .before .before .before .args .r in let all : c .before .loop .k ≡ R .devices .count = omega arith in c .before .loop .inv .1 .is ∙ ap (λ (n : ℕ). laid (R .digits) (planRow R (c .before .before .before .before .before .before .args .starts .now)) n ++ drop (n * R .horizon) (c .before .before .before .before .before .before .args .out .now)) all
 
 pub write-rows-spec : {M : Type 1} → statement M
 write-rows-spec =
