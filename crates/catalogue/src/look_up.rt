@@ -124,6 +124,10 @@ pub(crate) fn devices_of(catalogue: &[u8], wanted: &[u8]) -> DeviceTable
         ps: 0,
         pwake: 0,
         pshut: 0,
+        levels: 1,
+        ps2: 0,
+        ps3: 0,
+        ps4: 0,
     };
     let mut devices = DeviceTable {
         count: 0,

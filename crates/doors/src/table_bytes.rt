@@ -25,6 +25,9 @@ pub const HEAD: usize = 9;
 
 // The kind of a byte, of those that are kinds.
 fn kind_from(byte: u8) -> Kind {
+    if byte == 3 {
+        return Kind::Third;
+    }
     if byte == 2 { Kind::Second } else { Kind::First }
 }
 
@@ -32,6 +35,7 @@ fn kind_byte(kind: Kind) -> u8 {
     match kind {
         Kind::First => 1,
         Kind::Second => 2,
+        Kind::Third => 3,
     }
 }
 
@@ -63,7 +67,7 @@ fn devices_end(s: &[u8], kind: Kind, n: usize) -> usize
 pub fn is_tables(s: &[u8]) -> bool
     requires { ⌜ 9 ≤ length (now s) ⌝ }
 {
-    if s[0] == 0 || 2 < s[0] {
+    if s[0] == 0 || 3 < s[0] {
         return false;
     }
     let end = devices_end(s, kind_from(s[0]), count_at(s, 3));
@@ -149,10 +153,10 @@ pub fn tables_from(s: &[u8]) -> Tables
 }
 
 // The bytes before the records.
-fn head(kind: Kind, horizon: u16, devices: usize, tasks: usize, jobs: usize) -> [u8; 261]
+fn head(kind: Kind, horizon: u16, devices: usize, tasks: usize, jobs: usize) -> [u8; 297]
     requires { ⌜ (devices ≤ 8) × (tasks ≤ 8) × (jobs ≤ 16) ⌝ }
 {
-    let mut bytes = [0; 261];
+    let mut bytes = [0; 297];
     bytes[0] = kind_byte(kind);
     bytes[1] = (horizon / 256) as u8;
     bytes[2] = (horizon % 256) as u8;
@@ -163,12 +167,12 @@ fn head(kind: Kind, horizon: u16, devices: usize, tasks: usize, jobs: usize) -> 
 }
 
 // n bytes of a file, from one place in it to another, as far as there are places.
-fn with_part(bytes: [u8; 261], to: usize, file: [u8; 261], from: usize, n: usize) -> [u8; 261]
+fn with_part(bytes: [u8; 297], to: usize, file: [u8; 297], from: usize, n: usize) -> [u8; 297]
     requires { ⌜ (to ≤ 1000) × (from ≤ 1000) × (n ≤ 1000) ⌝ }
 {
     let mut out = bytes;
     let mut i = 0;
-    while i < n && to + i < 261 && from + i < 261 {
+    while i < n && to + i < 297 && from + i < 297 {
         out[to + i] = file[from + i];
         i += 1;
     }
@@ -191,16 +195,16 @@ fn records_from(kind: Kind) -> usize
 
 // How many bytes the tables of a file have: the file's, but for its mark, its horizon field and its counts.
 pub fn size(t: Tables) -> usize
-    ensures { λ r. ⌜ r ≤ 261 ⌝ }
+    ensures { λ r. ⌜ r ≤ 297 ⌝ }
 {
     let kind = t.kind;
     let made = file_of(t);
-    least(rest(made.count, records_from(kind) + 2), 252) + HEAD
+    least(rest(made.count, records_from(kind) + 2), 288) + HEAD
 }
 
 // The bytes of tables that a file has, and zeros after them. The records stand in the file that the tables make, there too one table after the other, but each
 // after its own count; how many bytes the devices have is what the rest leaves.
-pub fn bytes_of(t: Tables) -> [u8; 261] {
+pub fn bytes_of(t: Tables) -> [u8; 297] {
     let devices = least(t.devices.count, 8);
     let tasks = least(t.tasks.count, 8);
     let jobs = least(t.jobs.count, 16);

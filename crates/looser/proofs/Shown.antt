@@ -12,7 +12,7 @@ use Rattle.device.specs.Row.{trip}
 use Rattle.schedule.specs.Listing.{used}
 use Rattle.schedule.specs.Visiting.{written, starts, choices, late, cutA, planEnergy, better, lastEnd, firstStart, since, deviceFloor, floor, cutB, complete, examine, visit, visited}
 use Rattle.tables.specs.Layout.{kindOf, jobIn, tablesAs, tablesOf}
-use Rattle.request.specs.Format.{deviceTable, lacks, jobTable, recordTable, recordFault, horizonOf, jobsOf, mixed, countOf, jobRecords, jobSection, taskSection, faultAs, recorderAs, readAs, readOf}
+use Rattle.request.specs.Format.{deviceTable, powersTable, noLower, lacks, jobTable, recordTable, recordFault, horizonOf, jobsOf, mixed, countOf, jobRecords, jobSection, taskSection, faultAs, recorderAs, readAs, readOf}
 use Rattle.planner.specs.declared.Answer.{Answer}
 use Rattle.planner.specs.Promises.{success, refusalAfter, Searched}
 use Rattle.figures.proofs.Computed.{outcome, found, ended, searched, searched-by}
@@ -76,7 +76,7 @@ NotConversely =
     (refusalAfter 19 3) nines (success 2 6 5) (0 ∷ 1 ∷ 9 ∷ [])
 
 pub shown : MoreVertices × FewerVertices × NotConversely
-unfolding readOf readAs faultAs kindOf taskSection jobSection jobRecords countOf mixed recordFault recordTable deviceTable jobTable lacks firstOf horizonOf jobsOf recorderAs upTo padded remove trip used written starts choices late cutA planEnergy better lastEnd firstStart since deviceFloor floor cutB complete examine visit visited outcome found ended searched
+unfolding readOf readAs faultAs kindOf taskSection jobSection jobRecords countOf mixed recordFault recordTable deviceTable powersTable noLower jobTable lacks firstOf horizonOf jobsOf recorderAs upTo padded remove trip used written starts choices late cutA planEnergy better lastEnd firstStart since deviceFloor floor cutB complete examine visit visited outcome found ended searched
 shown = (
   computed _ _ (looser 6 0 2 1 3 6 1 0 2 1 6 (omega arith) (omega arith) (omega arith) (omega arith)) refl refl,
   computed _ _ (looser 4 2 4 0 1 3 1 2 4 1 4 (omega arith) (omega arith) (omega arith) (omega arith)) refl refl,

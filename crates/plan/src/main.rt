@@ -129,9 +129,9 @@ fn read_input(buffer: &mut [u8]) -> Input
     }
 }
 
-// The longest file that is accepted has 199 bytes, and a longer one is refused as its first 200 bytes are (request/proofs/Beyond).
+// The longest file that is accepted has 231 bytes, and a longer one is refused as its first 232 bytes are (request/proofs/Beyond).
 fn main() {
-    let mut file = [0u8; 200];
+    let mut file = [0u8; 232];
     let input = read_input(&mut file);
     if input.failed {
         io::write_all(2, b"plan: cannot read standard input\n");

@@ -1,4 +1,5 @@
 pub mod Only
 pub mod Searching
 pub mod Larger
+pub mod Letters
 pub mod Writing

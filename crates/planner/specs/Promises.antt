@@ -39,7 +39,7 @@ refusalAfter n c = record { number = n; job = record { 0 = 0 }; horizon = 0; ene
 
 -- ---- the file
 
--- The file is refused, by one of the numbers 1 to 13 (rule 15); or it is read as the recorder R.
+-- The file is refused, by one of the numbers 1 to 13 or 26 (rules 15 and 83); or it is read as the recorder R.
 abbrev pub Refused : List ℕ → ℕ → Type 0
 Refused file n = readOf file ≡ Format.refused n
 

@@ -72,7 +72,7 @@ pub figures-hold :
     × Possible one 1 (7 ∷ []) (refusalAfter 20 1) (7 ∷ [])
     × Possible three 1000000 (7 ∷ 7 ∷ 7 ∷ 7 ∷ []) (success 6 0 4) (0 ∷ 1 ∷ 2 ∷ 7 ∷ [])
     × Possible rivals 1000000 (7 ∷ 7 ∷ []) (refusalAfter 19 3) (7 ∷ 7 ∷ [])
-unfolding Format.readOf Format.readAs Format.faultAs Layout.kindOf Format.taskSection Format.jobSection Format.jobRecords Format.countOf Format.mixed Format.recordFault Format.recordTable Format.deviceTable Format.taskTable Format.jobTable Format.lacks firstOf Format.horizonOf Format.jobsOf Format.recorderAs upTo padded remove written starts choices late cutA unlessFound enter visitTillFound visitedTillFound
+unfolding Format.readOf Format.readAs Format.faultAs Layout.kindOf Format.taskSection Format.jobSection Format.jobRecords Format.countOf Format.mixed Format.recordFault Format.recordTable Format.deviceTable Format.powersTable Format.noLower Format.taskTable Format.jobTable Format.lacks firstOf Format.horizonOf Format.jobsOf Format.recorderAs upTo padded remove written starts choices late cutA unlessFound enter visitTillFound visitedTillFound
 figures-hold = (
   yes-with one 1000000 (7 ∷ []) (recorderIn one) refl (omega arith) 2 (0 ∷ []) refl (omega arith),
   yes-with one 2 (7 ∷ []) (recorderIn one) refl (omega arith) 2 (0 ∷ []) refl (omega arith),

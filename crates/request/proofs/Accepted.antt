@@ -3,44 +3,68 @@
 use mathlib.Core.Path.{_≡_, refl, sym, ap, subst, _∙_}
 use mathlib.Core.Bool.{false}
 use mathlib.Core.List.{List}
-use Prim.Native.Nat.{ℕ, _+_, _*_, _<_, _≤_, _∣_}
+use mathlib.Core.Logic.{_⊎_, ⊎-elim}
+use Prim.Native.Nat.{ℕ, zero, suc, _+_, _*_, _<_, _≤_, _∣_}
 use native.Mathlib.Omega.{arith}
 use native.Mathlib.Nat.{pos-of-ne-zero, le-refl}
 use lib.ListN.{length, getD, length-append}
 use lib.Dec.{eqb}
-use borrow.Author.Tests.{leb-false, eqb-true, eqb-false}
+use borrow.Author.Tests.{lt-ltb, ltb-false, leb-false, eqb-true, eqb-false}
 use Rattle.base.specs.Bytes.{byteAt, pairAt}
 use Rattle.base.specs.Lists.{padded}
 use Rattle.base.proofs.Arrays.{getD-held, getD-upTo, length-upTo}
 use Rattle.base.proofs.Cases.{cond-cases}
 use Rattle.base.proofs.Every.{Every, every-at}
 use Rattle.base.proofs.Records.{first-each}
-use Rattle.device.specs.Row.{Sound}
-use Rattle.device.proofs.Rules.{single-sound}
+use Rattle.device.specs.Row.{Sound, powerAt}
 use Rattle.schedule.specs.declared.Recorder.{Recorder}
 use Rattle.schedule.specs.Quantities.{noJob, noDevice, Valid}
 use Rattle.request.specs.declared.Request.{Request}
 use Rattle.request.specs.declared.Section.the-variants.{DeviceRecords}
 use Rattle.tables.specs.declared.Kind.{Kind}
+use Rattle.tables.specs.declared.DeviceRecord.{DeviceRecord}
 use Rattle.tables.specs.Records.{deviceAt}
 use Rattle.tables.specs.Layout.{marker, kindOf, bodyOf, devicePlace, taskCount, tasksPlace, jobsPlace}
 use Rattle.tables.proofs.Back.{mark-front}
-use Rattle.request.specs.Format.{Reading, refused, accepted, deviceOf, deviceTable, sizeOf, recordTable, recordFault, horizonOf, jobsOf, countOf, faultAs, horizonIn, devicesIn, jobsIn, emptyDevice, emptyJob, recorderAs, readAs, readOf, handedOn}
-use Rattle.request.proofs.Checked.{record-clear}
+use Rattle.request.specs.Format.{Reading, refused, accepted, deviceOf, noLower, powersTable, deviceTable, sizeOf, recordFault, horizonOf, jobsOf, countOf, faultAs, horizonIn, devicesIn, jobsIn, emptyDevice, emptyJob, recorderAs, readAs, readOf, handedOn}
+use Rattle.request.proofs.Checked.{device-clear}
 use Rattle.request.proofs.Faultless.{Faultless, faultless, length-jobs, jobs-end, deviceMost, place-most}
 use Rattle.request.proofs.Fitting.{Fits, listed-fit, unfolded-fit}
-use Rattle.request.proofs.Highest.{fault-le}
+use Rattle.request.proofs.Highest.{fault-known}
 use Rattle.request.proofs.Multiples.{horizon-multiple}
 
 -- ---- the recorder of a file without a fault
 
+-- A level that is one of the device's costs less than the one above it.
+lower : (levels i above power : ℕ) → noLower levels i above power ≡ false → i < levels → power < above
+unfolding noLower
+lower levels i above power e l = leb-false above power (rw (lt-ltb i levels l) at e)
+
 device-sound : (k : Kind) (s : List ℕ) (at : ℕ) → 0 ≡ recordFault s (DeviceRecords k) at → Sound (deviceOf (deviceAt k s at))
-unfolding recordTable deviceTable
+unfolding deviceTable powersTable
 device-sound k s at e =
     let d = deviceAt k s at in
-    let f = record-clear s (DeviceRecords k) at (tt, (tt, (tt, (tt, (tt, tt))))) e in
-    single-sound (d .wake) (d .shut) (d .pw) (d .ps) (d .pwake) (d .pshut) (pos-of-ne-zero (eqb-false (d .wake) 0 (f .0))) (pos-of-ne-zero (eqb-false (d .shut) 0 (f .1 .0)))
-    (leb-false (d .pw) (d .ps) (f .1 .1 .1 .1 .0)) (leb-false (d .pwake) (d .ps) (f .1 .1 .0)) (leb-false (d .pshut) (d .ps) (f .1 .1 .1 .0))
+    let f = device-clear s k at e in
+    let p = f .1 .1 .1 .1 .1 in
+    let few = ltb-false 4 (d .levels) (f .1 .1 .1 .0) in
+    record {
+      some-level = pos-of-ne-zero (eqb-false (d .levels) 0 (f .1 .1 .0));
+      few-levels = few;
+      shuts = pos-of-ne-zero (eqb-false (d .shut) 0 (f .1 .0));
+      wakes = pos-of-ne-zero (eqb-false (d .wake) 0 (f .0));
+      falls = falls d few (p .1 .1 .0) (p .1 .1 .1 .0) (p .1 .1 .1 .1 .0) (p .1 .1 .1 .1 .1 .0);
+      shuts-dearer = leb-false (d .pshut) (d .ps) (p .1 .0);
+      wakes-dearer = leb-false (d .pwake) (d .ps) (p .0);
+    }
+  where
+    falls : (d : DeviceRecord) → d .levels ≤ 4 → noLower (d .levels) 0 (d .pw) (d .ps) ≡ false → noLower (d .levels) 1 (d .ps) (d .ps2) ≡ false
+        → noLower (d .levels) 2 (d .ps2) (d .ps3) ≡ false → noLower (d .levels) 3 (d .ps3) (d .ps4) ≡ false
+        → (i : ℕ) → i < deviceOf d .levels → powerAt (deviceOf d) (suc i) < powerAt (deviceOf d) i
+    falls d h a b c e zero l = lower (d .levels) 0 (d .pw) (d .ps) a l
+    falls d h a b c e (suc zero) l = lower (d .levels) 1 (d .ps) (d .ps2) b l
+    falls d h a b c e (suc (suc zero)) l = lower (d .levels) 2 (d .ps2) (d .ps3) c l
+    falls d h a b c e (suc (suc (suc zero))) l = lower (d .levels) 3 (d .ps3) (d .ps4) e l
+    falls d h a b c e (suc (suc (suc (suc i)))) l = absurd (omega arith)
 
 module _ (k : Kind) (s : List ℕ) (ok : Faultless k s) where
   devices-sound : (i : ℕ) → i < length (devicesIn k s) → Sound (getD (padded 8 emptyDevice (devicesIn k s)) i noDevice)
@@ -111,11 +135,12 @@ module _ (k : Kind) (s : List ℕ) where
       let start : at ≤ 4 + 8 * deviceMost k + taskCount k s * 5 = omega (arith, place-most k s (byteAt s 2) (ok .few-devices)) in
       omega (arith, ok .jobs .whole, jobs-end (taskCount k s) (pairAt s 0) (byteAt s at) _ at (4 + 8 * deviceMost k) (ok .few-tasks) start (ok .jobs .apart) (ok .jobs .few-jobs))
 
-  -- A refusal is one of the numbers 1 to 13.
-  pub number-as : (n : ℕ) → readAs k s ≡ refused n → (1 ≤ n) × (n ≤ 13)
-  number-as n e =
-      let p = refused-as n e in
-      (pos-of-ne-zero (p .1), rw (← p .0) (fault-le k s))
+  -- A refusal is one of the numbers 1 to 13, or 26.
+  pub known-as : (n : ℕ) → readAs k s ≡ refused n → (n ≤ 13) ⊎ (n ≡ 26)
+  known-as n e = rw (← refused-as n e .0) (fault-known k s)
+
+  pub number-as : (n : ℕ) → readAs k s ≡ refused n → (1 ≤ n) × (n ≤ 26)
+  number-as n e = (pos-of-ne-zero (refused-as n e .1), ⊎-elim (λ (l : n ≤ 13). omega arith) (λ (l : n ≡ 26). omega arith) (known-as n e))
 
 -- The same of a file, read by its own kind.
 module _ (s : List ℕ) where
@@ -123,11 +148,15 @@ module _ (s : List ℕ) where
   unfolding readOf
   accepted-valid R e = valid-as (kindOf s) (bodyOf s) R e
 
-  pub refused-number : (n : ℕ) → readOf s ≡ refused n → (1 ≤ n) × (n ≤ 13)
+  pub refused-number : (n : ℕ) → readOf s ≡ refused n → (1 ≤ n) × (n ≤ 26)
   unfolding readOf
   refused-number n e = number-as (kindOf s) (bodyOf s) n e
 
--- The longest file of a kind that is accepted: 173 bytes in the first, 199 in the second.
+  pub refused-known : (n : ℕ) → readOf s ≡ refused n → (n ≤ 13) ⊎ (n ≡ 26)
+  unfolding readOf
+  refused-known n e = known-as (kindOf s) (bodyOf s) n e
+
+-- The longest file of a kind that is accepted: 173 bytes in the first, 199 in the second, 231 in the third.
 abbrev pub longest : Kind → ℕ
 longest k = length (marker k) + (117 + 8 * deviceMost k)
 

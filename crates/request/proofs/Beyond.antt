@@ -1,4 +1,4 @@
--- Nothing is read beyond the end of the longest file: one of 200 bytes or more is refused as its first 200 bytes are.
+-- Nothing is read beyond the end of the longest file: one of 232 bytes or more is refused as its first 232 bytes are.
 -- Assumes nothing.
 use mathlib.Core.Path.{_≡_, refl, sym, ap, _∙_}
 use mathlib.Core.Bool.{Bool, true, false, cond}
@@ -16,7 +16,7 @@ use Rattle.tables.specs.declared.TaskRecord.{TaskRecord}
 use Rattle.request.specs.declared.Section.the-variants.{DeviceRecords, TaskRecords, JobRecords}
 use Rattle.request.specs.Euclid.{lcmOf}
 use Rattle.tables.specs.declared.Kind.{Kind}
-use Rattle.tables.specs.declared.Kind.the-variants.{First, Second}
+use Rattle.tables.specs.declared.Kind.the-variants.{First, Second, Third}
 use Rattle.tables.specs.Records.{taskAt}
 use Rattle.tables.specs.Layout.{marker, kindOf, bodyOf, devicePlace}
 use Rattle.request.specs.Format.{recordsFault, lcmFrom, horizonOf, released, releasedAt, unfolded, mixed, countOf, jobRecords, jobSection, taskSection, faultAs, refused, readAs, readOf}
@@ -132,23 +132,24 @@ module _ (k : Kind) (p : ℕ) (s s′ : List ℕ) (a : Alike p s s′) (far : 11
       let some : faultAs k s ≡ 0 → ⊥ = λ z. omega (arith, a .long, short-as k s _ (read-faultless k s (sym z))) in
       read-fault k s some ∙ ap refused fault-same ∙ sym (read-fault k s′ (λ z. some (fault-same ∙ z)))
 
--- A mark and the bytes of the longest file of the kind are fewer than 200.
-within : (k : Kind) → length (marker k) + (118 + 8 * deviceMost k) ≤ 200
+-- A mark and the bytes of the longest file of the kind are fewer than 232.
+within : (k : Kind) → length (marker k) + (118 + 8 * deviceMost k) ≤ 232
 within First = omega arith
 within Second = omega arith
+within Third = omega arith
 
-kind-front : (s : List ℕ) → kindOf (take 200 s) ≡ kindOf s
+kind-front : (s : List ℕ) → kindOf (take 232 s) ≡ kindOf s
 unfolding kindOf
-kind-front s = rw (getD-take 200 s 0 0 (omega arith), getD-take 200 s 1 0 (omega arith))
+kind-front s = rw (getD-take 232 s 0 0 (omega arith), getD-take 232 s 1 0 (omega arith))
 
-pub long-same : (s : List ℕ) → 200 ≤ length s → readOf s ≡ readOf (take 200 s)
+pub long-same : (s : List ℕ) → 232 ≤ length s → readOf s ≡ readOf (take 232 s)
 unfolding readOf
 long-same s l =
     let k = kindOf s in
     let m = length (marker k) in
-    let alike : Alike (200 - m) (drop m s) (drop m (take 200 s)) = record {
+    let alike : Alike (232 - m) (drop m s) (drop m (take 232 s)) = record {
       long = rw length-drop (omega arith);
-      long′ = rw (length-drop, length-take-le 200 s l) (omega arith);
-      same = λ i h. rw (getD-drop m s i 0, getD-drop m (take 200 s) i 0) (sym (getD-take 200 s (m + i) 0 (omega arith)));
+      long′ = rw (length-drop, length-take-le 232 s l) (omega arith);
+      same = λ i h. rw (getD-drop m s i 0, getD-drop m (take 232 s) i 0) (sym (getD-take 232 s (m + i) 0 (omega arith)));
     } in
-    rw (kind-front s) (read-same k (200 - m) (drop m s) (drop m (take 200 s)) alike (omega (arith, within k)))
+    rw (kind-front s) (read-same k (232 - m) (drop m s) (drop m (take 232 s)) alike (omega (arith, within k)))

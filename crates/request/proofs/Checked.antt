@@ -13,29 +13,43 @@ use Rattle.base.specs.Refusals.{firstThat, after}
 use Rattle.base.proofs.Clear.{allFalse, numbered, passed, clear}
 use Rattle.base.proofs.Paths.{lt-then, lt-else}
 use Rattle.base.proofs.Records.{first-room, first-even, after-even}
+use Rattle.tables.specs.declared.Kind.{Kind}
+use Rattle.tables.specs.Records.{deviceAt, deviceSize}
 use Rattle.request.specs.declared.Section.{Section}
-use Rattle.request.specs.declared.Section.the-variants.{TaskRecords, JobRecords}
+use Rattle.request.specs.declared.Section.the-variants.{DeviceRecords, TaskRecords, JobRecords}
 use Rattle.request.specs.Held.{SoundTasks}
-use Rattle.request.specs.Format.{taskTable, sizeOf, recordTable, recordFault, recordsFault}
+use Rattle.request.specs.Format.{powersTable, deviceTable, taskTable, sizeOf, headOf, recordTable, recordFault, recordsFault}
 
 module _ (s : List ℕ) (k : Section) (at : ℕ) where
-  pub record-short : length s - at < sizeOf s k at → 1 ≡ recordFault s k at
+  pub record-short : length s - at < headOf k → 1 ≡ recordFault s k at
   unfolding recordFault
   record-short h = lt-then _ _ _ _ h refl
 
-  pub record-there : (r : ℕ) → sizeOf s k at ≤ length s - at → r ≡ firstThat (recordTable s k at) → r ≡ recordFault s k at
+  pub record-there : (r : ℕ) → headOf k ≤ length s - at → r ≡ firstThat (recordTable s k at) → r ≡ recordFault s k at
   unfolding recordFault
   record-there r h e = lt-else _ _ _ _ h e
 
-  -- A record that is not refused lies within the file,
-  pub record-room : at ≤ length s → 0 ≡ recordFault s k at → at + sizeOf s k at ≤ length s
+  -- Of a record that is not refused what is called for is there, and no test of its table holds.
+  record-head : 0 ≡ recordFault s k at → headOf k ≤ length s - at
   unfolding recordFault
-  record-room h e = omega (arith, ltb-false (length s - at) (sizeOf s k at) (passed _ 1 _ tt e .0))
+  record-head e = ltb-false (length s - at) (headOf k) (passed _ 1 _ tt e .0)
 
-  -- and no test of its table holds.
   pub record-clear : numbered (recordTable s k at) → 0 ≡ recordFault s k at → allFalse (recordTable s k at)
   unfolding recordFault
-  record-clear n e = clear (recordTable s k at) n (passed (ltb (length s - at) (sizeOf s k at)) 1 _ tt e .1)
+  record-clear n e = clear (recordTable s k at) n (passed (ltb (length s - at) (headOf k)) 1 _ tt e .1)
+
+-- The tests of a device record that is not refused.
+pub device-clear : (s : List ℕ) (k : Kind) (at : ℕ) → 0 ≡ recordFault s (DeviceRecords k) at
+    → allFalse (deviceTable (ltb (length s - at) (deviceSize k s at)) (deviceAt k s at))
+unfolding recordTable deviceTable powersTable
+device-clear s k at e = record-clear s (DeviceRecords k) at (tt, (tt, (tt, (tt, (tt, (tt, (tt, (tt, (tt, (tt, (tt, tt))))))))))) e
+
+-- So it lies within the file.
+pub record-room : (s : List ℕ) (k : Section) (at : ℕ) → at ≤ length s → 0 ≡ recordFault s k at → at + sizeOf s k at ≤ length s
+unfolding deviceTable
+record-room s (DeviceRecords k) at h e = omega (arith, ltb-false (length s - at) (deviceSize k s at) (device-clear s k at e .1 .1 .1 .1 .0))
+record-room s (TaskRecords n) at h e = omega (arith, record-head s (TaskRecords n) at e)
+record-room s (JobRecords n m) at h e = omega (arith, record-head s (JobRecords n m) at e)
 
 pub records-room : (s : List ℕ) (k : Section) (n at : ℕ) → at ≤ length s → 0 ≡ recordsFault s k n at → after (sizeOf s k) n at ≤ length s
 records-room s k = first-room (recordFault s k) (sizeOf s k) (length s) (record-room s k)

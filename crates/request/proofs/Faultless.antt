@@ -17,7 +17,7 @@ use Rattle.base.proofs.Records.{orElse-zero, after-most}
 use Rattle.schedule.specs.declared.Job.{Job}
 use Rattle.request.specs.declared.Section.the-variants.{DeviceRecords, TaskRecords, JobRecords}
 use Rattle.tables.specs.declared.Kind.{Kind}
-use Rattle.tables.specs.declared.Kind.the-variants.{First, Second}
+use Rattle.tables.specs.declared.Kind.the-variants.{First, Second, Third}
 use Rattle.tables.specs.Records.{deviceSize}
 use Rattle.tables.specs.Layout.{devicePlace, tasksPlace, taskCount, jobsPlace}
 use Rattle.request.specs.Format.{recordsFault, horizonOf, unfolded, listed, jobsOf, mixed, countOf, jobRecords, jobSection, taskSection, faultAs, recorderAs, readAs, refused, accepted}
@@ -113,10 +113,12 @@ jobs-end tasks field count unfolded at from few l e m =
 abbrev pub deviceMost : Kind → ℕ
 deviceMost First = 7
 deviceMost Second = 10
+deviceMost Third = 14
 
 pub size-most : (k : Kind) (s : List ℕ) (at : ℕ) → deviceSize k s at ≤ deviceMost k
 size-most First s at = omega arith
 size-most Second s at = omega arith
+size-most Third s at = omega arith
 
 pub place-most : (k : Kind) (s : List ℕ) (n : ℕ) → n ≤ 8 → devicePlace k s n ≤ 3 + 8 * deviceMost k
 place-most k s n h =

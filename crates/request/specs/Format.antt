@@ -1,9 +1,9 @@
--- The request file (rules 8 to 15 and 75 to 77): from a list of bytes to the recorder, or to its refusal, one of the numbers 1 to 13. The bytes are looked at in their
+-- The request file (rules 8 to 15, 75 to 77 and 80 to 83): from a list of bytes to the recorder, or to its refusal, one of the numbers 1 to 13 or 26. The bytes are looked at in their
 -- order, and whatever is wrong first gives the number: each section takes the place where it begins, and goes on with the next.
 -- Assumes nothing.
 use Prim.Native.Nat.{ℕ, zero, suc, _+_, _-_, _*_, _/_, _%_, _^_}
 use mathlib.Core.List.{List, [], _∷_, _++_}
-use mathlib.Core.Bool.{Bool, false, cond, not, _&&_, _||_}
+use mathlib.Core.Bool.{Bool, true, false, cond, not, _&&_, _||_}
 use lib.ListN.{length, replicate}
 use lib.Dec.{ltb, leb, eqb}
 use Rattle.base.specs.Bytes.{byteAt, pairAt}
@@ -15,6 +15,7 @@ use Rattle.schedule.specs.declared.Jobs.{Jobs}
 use Rattle.schedule.specs.declared.Devices.{Devices}
 use Rattle.schedule.specs.declared.Recorder.{Recorder}
 use Rattle.tables.specs.declared.Kind.{Kind}
+use Rattle.tables.specs.declared.Kind.the-variants.{First, Second, Third}
 use Rattle.tables.specs.declared.DeviceRecord.{DeviceRecord}
 use Rattle.tables.specs.declared.TaskRecord.{TaskRecord}
 use Rattle.tables.specs.declared.JobRecord.{JobRecord}
@@ -39,23 +40,47 @@ bit set k = eqb (set / 2 ^ k % 2) 1
 abbrev pub setOf : ℕ → List Bool
 setOf set = upTo (bit set) 8
 
--- The device of a record (rule 3), whatever the kind of its file: there is one sleep level.
+-- The device of a record (rule 3), whatever the kind of its file.
 abbrev pub deviceOf : DeviceRecord → Device
-deviceOf d = record { shut = d .shut; wake = d .wake; pw = d .pw; pd = d .pshut; pu = d .pwake; levels = 1; powers = d .ps ∷ 0 ∷ 0 ∷ 0 ∷ [] }
+deviceOf d =
+    record {
+      shut = d .shut;
+      wake = d .wake;
+      pw = d .pw;
+      pd = d .pshut;
+      pu = d .pwake;
+      levels = d .levels;
+      powers = d .ps ∷ d .ps2 ∷ d .ps3 ∷ d .ps4 ∷ [];
+    }
 
 abbrev pub listedJob : JobRecord → Job
 listedJob j = record { release = j .release; deadline = j .deadline; run = j .run; uses = setOf (j .set) }
 
--- ---- what refuses a record that is there: its lines stand by number (rule 15)
+-- ---- what refuses a record that is there: its lines stand by number (rule 15), but for what the level count calls for (rule 83)
 
-unfoldable pub deviceTable : DeviceRecord → List Refusal
-deviceTable d =
+-- Level i + 1 is one of the device's, and does not cost less than the one above it.
+unfoldable pub noLower : (levels i above power : ℕ) → Bool
+noLower levels i above power = ltb i levels && leb above power
+
+unfoldable pub powersTable : DeviceRecord → List Refusal
+powersTable d =
+    (leb (d .pwake) (d .ps) ⇒ 5)
+    ∷ (leb (d .pshut) (d .ps) ⇒ 5)
+    ∷ (noLower (d .levels) 0 (d .pw) (d .ps) ⇒ 5)
+    ∷ (noLower (d .levels) 1 (d .ps) (d .ps2) ⇒ 5)
+    ∷ (noLower (d .levels) 2 (d .ps2) (d .ps3) ⇒ 5)
+    ∷ (noLower (d .levels) 3 (d .ps3) (d .ps4) ⇒ 5)
+    ∷ []
+
+-- `short`: its powers are not all there.
+unfoldable pub deviceTable : (short : Bool) → DeviceRecord → List Refusal
+deviceTable short d =
     (eqb (d .wake) 0 ⇒ 4)
     ∷ (eqb (d .shut) 0 ⇒ 4)
-    ∷ (leb (d .pwake) (d .ps) ⇒ 5)
-    ∷ (leb (d .pshut) (d .ps) ⇒ 5)
-    ∷ (leb (d .pw) (d .ps) ⇒ 5)
-    ∷ []
+    ∷ (eqb (d .levels) 0 ⇒ 26)
+    ∷ (ltb 4 (d .levels) ⇒ 26)
+    ∷ (short ⇒ 1)
+    ∷ powersTable d
 
 -- A device set names a device that a file with n devices lacks: it has a bit from n on.
 unfoldable pub lacks : ℕ → ℕ → Bool
@@ -85,14 +110,22 @@ sizeOf s (DeviceRecords k) at = deviceSize k s at
 sizeOf s (TaskRecords n) at = 5
 sizeOf s (JobRecords n h) at = 7
 
+-- How many of them are called for before anything in the record is judged: all, but for the powers that a level count calls for.
+abbrev pub headOf : Section → ℕ
+headOf (DeviceRecords First) = 7
+headOf (DeviceRecords Second) = 10
+headOf (DeviceRecords Third) = 6
+headOf (TaskRecords n) = 5
+headOf (JobRecords n h) = 7
+
 unfoldable pub recordTable : List ℕ → Section → ℕ → List Refusal
-recordTable s (DeviceRecords k) at = deviceTable (deviceAt k s at)
+recordTable s (DeviceRecords k) at = deviceTable (ltb (length s - at) (deviceSize k s at)) (deviceAt k s at)
 recordTable s (TaskRecords n) at = taskTable n (taskAt s at)
 recordTable s (JobRecords n h) at = jobTable n h (jobAt s at)
 
--- A record that is not all there is 1, before anything in it is judged; and the records of a section in turn (rule 15).
+-- A record that is not there is 1, before anything in it is judged; and the records of a section in turn (rule 15).
 unfoldable pub recordFault : List ℕ → Section → ℕ → ℕ
-recordFault s k at = cond (ltb (length s - at) (sizeOf s k at)) 1 (firstThat (recordTable s k at))
+recordFault s k at = cond (ltb (length s - at) (headOf k)) 1 (firstThat (recordTable s k at))
 
 abbrev pub recordsFault : List ℕ → Section → ℕ → ℕ → ℕ
 recordsFault s k n at = firstOf (recordFault s k) (sizeOf s k) n at
@@ -186,6 +219,12 @@ horizonIn k s = horizonOf s (taskCount k s) (tasksPlace k s + 1)
 abbrev pub roundIn : Kind → List ℕ → Bool
 roundIn k s = ltb 0 (taskCount k s)
 
+-- In rows a sleep is written as the digit of its level where the file is of the third kind (rule 82).
+abbrev pub digitsIn : Kind → Bool
+digitsIn First = false
+digitsIn Second = false
+digitsIn Third = true
+
 abbrev pub devicesIn : Kind → List ℕ → List Device
 devicesIn k s = upTo (λ i. deviceOf (deviceAt k s (devicePlace k s i))) (byteAt s 2)
 
@@ -206,7 +245,7 @@ abbrev pub jobsHeld : List Job → Jobs
 jobsHeld l = record { count = length l; list = padded 16 emptyJob l }
 
 unfoldable pub recorderAs : Kind → List ℕ → Recorder
-recorderAs k s = record { horizon = horizonIn k s; round = roundIn k s; digits = false; devices = devicesHeld (devicesIn k s); jobs = jobsHeld (jobsIn k s) }
+recorderAs k s = record { horizon = horizonIn k s; round = roundIn k s; digits = digitsIn k; devices = devicesHeld (devicesIn k s); jobs = jobsHeld (jobsIn k s) }
 
 -- The reading of a kind, and that of a file: by its own kind (rule 75).
 unfoldable pub readAs : Kind → List ℕ → Reading

@@ -3,14 +3,56 @@ ghost use mathlib.Core.Path.{_≡_};
 ghost use Prim.Native.Nat.{ℕ, _+_, _*_, _^_, _≤_, _<_};
 ghost use lib.ListN.{length};
 ghost use Rattle.base.specs.Refusals.{firstThat};
-ghost use Rattle.request.specs.Format.{deviceTable, taskTable, jobTable, lacks, sizeOf, recordFault, recordsFault};
+ghost use lib.Dec.{ltb};
+ghost use mathlib.Core.Bool.{false};
+ghost use Prim.Native.Nat.{_-_};
+ghost use Rattle.tables.specs.declared.Kind.the-variants.{Third};
+ghost use Rattle.tables.specs.Records.{deviceSize, deviceAt};
+ghost use Rattle.request.specs.declared.Section.the-variants.{DeviceRecords};
+ghost use Rattle.request.specs.Format.{noLower, powersTable, deviceTable, taskTable, jobTable, lacks, sizeOf, headOf, recordFault, recordsFault};
 use super::Section;
 use tables::DeviceRecord;
 use tables::JobRecord;
+use tables::Kind;
 use tables::TaskRecord;
 
+// Level i + 1 is one of so many, and does not cost less than the one above it.
+fn no_lower(levels: u8, i: u8, above: u16, power: u16) -> bool
+    ensures { λ r. ⌜ r ≡ noLower levels i above power ⌝ }
+{
+    i < levels && above <= power
+}
+
+// The powers of a device: moving and every level above cost more than a sleep.
+fn powers_check(d: DeviceRecord) -> u8
+    ensures { λ r. ⌜ r ≡ firstThat (powersTable d) ⌝ }
+{
+    if d.pwake <= d.ps {
+        return 5;
+    }
+    if d.pshut <= d.ps {
+        return 5;
+    }
+    if no_lower(d.levels, 0, d.pw, d.ps) {
+        return 5;
+    }
+    if no_lower(d.levels, 1, d.ps, d.ps2) {
+        return 5;
+    }
+    if no_lower(d.levels, 2, d.ps2, d.ps3) {
+        return 5;
+    }
+    if no_lower(d.levels, 3, d.ps3, d.ps4) {
+        5
+    } else {
+        0
+    }
+}
+
+// A device with one sleep level.
 fn device_check(d: DeviceRecord) -> u8
-    ensures { λ r. ⌜ r ≡ firstThat (deviceTable d) ⌝ }
+    requires { ⌜ d .levels ≡ 1 ⌝ }
+    ensures { λ r. ⌜ r ≡ firstThat (deviceTable false d) ⌝ }
 {
     if d.wake == 0 {
         return 4;
@@ -18,16 +60,42 @@ fn device_check(d: DeviceRecord) -> u8
     if d.shut == 0 {
         return 4;
     }
-    if d.pwake <= d.ps {
-        return 5;
+    powers_check(d)
+}
+
+// A record of the third kind: how many powers it has to have is known only once its level count is judged.
+fn third_fault(s: &[u8], at: usize) -> u8
+    requires { ⌜ at + 6 ≤ length (now s) ⌝ }
+    ensures { λ r. ⌜ r ≡ firstThat (deviceTable (ltb (length (now (s .entry)) - at) (deviceSize Third (now (s .entry)) at)) (deviceAt Third (now (s .entry)) at)) ⌝ }
+{
+    let time = s[at];
+    let levels = s[at + 5];
+    let size = tables::device_size(s, Kind::Third, at);
+    let there = s.len() - at;
+    if time == 0 {
+        return 4; // no time
     }
-    if d.pshut <= d.ps {
-        return 5;
+    if levels == 0 {
+        return 26; // no level
     }
-    if d.pw <= d.ps {
-        return 5;
+    if 4 < levels {
+        return 26; // too many levels
     }
-    0
+    if there < size {
+        return 1; // a power is not there
+    }
+    powers_check(tables::device_at(s, Kind::Third, at))
+}
+
+fn device_fault(s: &[u8], kind: Kind, at: usize) -> u8
+    requires { ⌜ at + headOf (DeviceRecords kind) ≤ length (now s) ⌝ }
+    ensures { λ r. ⌜ r ≡ firstThat (deviceTable (ltb (length (now (s .entry)) - at) (deviceSize kind (now (s .entry)) at)) (deviceAt kind (now (s .entry)) at)) ⌝ }
+{
+    match kind {
+        Kind::First => device_check(tables::device_at(s, kind, at)),
+        Kind::Second => device_check(tables::device_at(s, kind, at)),
+        Kind::Third => third_fault(s, at),
+    }
 }
 
 // 2 to the power n.
@@ -96,16 +164,37 @@ fn size_of(s: &[u8], k: Section, at: usize) -> usize
     }
 }
 
-// The refusal of the record at a place: 1 where it is not all there, then its fields' numbers.
+// How many of them are called for before anything in the record is judged.
+fn device_head(kind: Kind) -> usize
+    ensures { λ r. ⌜ r ≡ headOf (DeviceRecords kind) ⌝ }
+{
+    match kind {
+        Kind::First => 7,
+        Kind::Second => 10,
+        Kind::Third => 6,
+    }
+}
+
+fn head_of(k: Section) -> usize
+    ensures { λ r. ⌜ r ≡ headOf k ⌝ }
+{
+    match k {
+        Section::DeviceRecords(kind) => device_head(kind),
+        Section::TaskRecords(_) => 5,
+        Section::JobRecords(_, _) => 7,
+    }
+}
+
+// The refusal of the record at a place: 1 where it is not there, then its fields' numbers.
 fn record_fault(s: &[u8], k: Section, at: usize) -> u8
     requires { ⌜ at ≤ length (now s) ⌝ }
     ensures { λ r. ⌜ r ≡ recordFault (now (s .entry)) k at ⌝ }
 {
-    if s.len() - at < size_of(s, k, at) {
+    if s.len() - at < head_of(k) {
         return 1;
     }
     match k {
-        Section::DeviceRecords(kind) => device_check(tables::device_at(s, kind, at)),
+        Section::DeviceRecords(kind) => device_fault(s, kind, at),
         Section::TaskRecords(n) => task_check(n, tables::task_at(s, at)),
         Section::JobRecords(n, h) => job_check(n, h, tables::job_at(s, at)),
     }

@@ -6,7 +6,7 @@ ghost use lib.ListN.{length};
 ghost use Rattle.base.specs.Lists.{upTo};
 ghost use Rattle.tables.specs.Records.{deviceAt};
 ghost use Rattle.tables.specs.Layout.{devicePlace};
-ghost use Rattle.request.specs.Format.{deviceOf, devicesHeld, faultAs, recorderAs, noRecorder};
+ghost use Rattle.request.specs.Format.{deviceOf, devicesHeld, digitsIn, faultAs, recorderAs, noRecorder};
 use super::horizon;
 use super::jobs;
 use super::records;
@@ -50,6 +50,17 @@ fn devices_of(s: &[u8], kind: Kind, n: usize) -> Devices
     devices
 }
 
+// In rows a sleep is written as the digit of its level in files of the third kind.
+fn has_digits(kind: Kind) -> bool
+    ensures { λ r. ⌜ r ≡ digitsIn kind ⌝ }
+{
+    match kind {
+        Kind::First => false,
+        Kind::Second => false,
+        Kind::Third => true,
+    }
+}
+
 // The recorder of a file without a fault.
 pub(crate) fn recorder_in(s: &[u8], kind: Kind) -> Recorder
     requires { ⌜ 0 ≡ faultAs kind (now s) ⌝ }
@@ -64,7 +75,7 @@ pub(crate) fn recorder_in(s: &[u8], kind: Kind) -> Recorder
     Recorder {
         horizon: h as u16,
         round: 0 < tasks,
-        digits: false,
+        digits: has_digits(kind),
         devices,
         jobs,
     }

@@ -26,7 +26,7 @@ pub(crate) fn set_of(set: u8) -> [bool; 8]
     uses
 }
 
-// There is one sleep level (rule 3).
+// What is planned with, whatever the kind (rule 3).
 pub(crate) fn device_of(d: DeviceRecord) -> Device
     ensures { λ r. ⌜ r ≡ deviceOf d ⌝ }
 {
@@ -36,8 +36,8 @@ pub(crate) fn device_of(d: DeviceRecord) -> Device
         pw: d.pw,
         pd: d.pshut,
         pu: d.pwake,
-        levels: 1,
-        powers: [d.ps, 0, 0, 0],
+        levels: d.levels,
+        powers: [d.ps, d.ps2, d.ps3, d.ps4],
     }
 }
 

@@ -4,6 +4,7 @@ pub mod Tree
 pub mod Gaps
 pub mod Rounds
 pub mod AsBefore
+pub mod Letters
 pub mod Floors
 pub mod Bounds
 pub mod Outcome

@@ -117,7 +117,7 @@ pub outcomes-hold :
     SteppedThrough single (0 ∷ []) (7 ∷ 7 ∷ []) (success 5 15 0) (15 ∷ 7 ∷ [])
     × SteppedThrough short (0 ∷ 8 ∷ []) (7 ∷ []) (refusal 24) (7 ∷ [])
     × SteppedThrough second (0 ∷ []) [] (refusal 25) []
-unfolding Format.readOf Format.readAs Format.faultAs Layout.kindOf Format.taskSection Format.jobSection Format.jobRecords Format.countOf Format.mixed Format.recordFault Format.recordTable Format.deviceTable Format.taskTable Format.jobTable Format.lacks firstOf Format.horizonOf Format.jobsOf Format.recorderAs upTo padded remove soonest ordered row spent rowBy events starts ends written
+unfolding Format.readOf Format.readAs Format.faultAs Layout.kindOf Format.taskSection Format.jobSection Format.jobRecords Format.countOf Format.mixed Format.recordFault Format.recordTable Format.deviceTable Format.powersTable Format.noLower Format.taskTable Format.jobTable Format.lacks firstOf Format.horizonOf Format.jobsOf Format.recorderAs upTo padded remove soonest ordered row spent rowBy events starts ends written
 outcomes-hold = (
   Frame.OfFile.read {R = recorderIn single} refl
       (P.StepsOf.stepped (omega arith) (run-feasible (recorderIn single) (place 0 0 ∷ []) (inl refl, omega arith, omega arith, refl)) single-fit single-long),

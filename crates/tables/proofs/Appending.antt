@@ -21,19 +21,19 @@ unfolding appended
 appended-more f [] m = refl
 appended-more f (b ∷ l) m = appended-more _ l m
 
-one-more : (l : List ℕ) (b : ℕ) → length l < 261 → appended (held l) (b ∷ []) ≡ held (l ++ (b ∷ []))
+one-more : (l : List ℕ) (b : ℕ) → length l < 297 → appended (held l) (b ∷ []) ≡ held (l ++ (b ∷ []))
 unfolding appended held
-one-more l b h = rw (length-append, set-padded 261 0 l (length l) b refl h)
+one-more l b h = rw (length-append, set-padded 297 0 l (length l) b refl h)
 
 -- Bytes that fit are held after those that are.
-held-more : (l m : List ℕ) → length l + length m ≤ 261 → appended (held l) m ≡ held (l ++ m)
+held-more : (l m : List ℕ) → length l + length m ≤ 297 → appended (held l) m ≡ held (l ++ m)
 unfolding appended
 held-more l [] h = rw append-nil
 held-more l (b ∷ m) h =
     ap (λ (f : File). appended f m) (one-more l b (omega arith)) ∙ held-more (l ++ (b ∷ [])) m (rw length-append (omega arith)) ∙ rw append-assoc
 
 -- So the array holds all that was appended to none.
-pub held-all : (l : List ℕ) → length l ≤ 261 → appended (held []) l ≡ held l
+pub held-all : (l : List ℕ) → length l ≤ 297 → appended (held []) l ≡ held l
 held-all l h = held-more [] l (omega arith)
 
 -- And its first bytes are those that it holds.
@@ -41,6 +41,6 @@ pub held-front : (l : List ℕ) → take (held l .count) (held l .bytes) ≡ l
 unfolding held padded
 held-front l = take-at l _ (length l) refl
 
-pub held-long : (l : List ℕ) → length l ≤ 261 → held l .count ≤ length (held l .bytes)
+pub held-long : (l : List ℕ) → length l ≤ 297 → held l .count ≤ length (held l .bytes)
 unfolding held padded
 held-long l h = rw length-append (omega arith)

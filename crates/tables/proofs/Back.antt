@@ -16,14 +16,15 @@ use Rattle.base.specs.Refusals.{after}
 use Rattle.base.proofs.Arrays.{upTo-same, getD-padded, getD-upTo}
 use Rattle.base.proofs.Records.{after-more, after-from, after-even}
 use Rattle.tables.specs.declared.Kind.{Kind}
-use Rattle.tables.specs.declared.Kind.the-variants.{First, Second}
+use Rattle.tables.specs.declared.Kind.the-variants.{First, Second, Third}
 use Rattle.tables.specs.declared.DeviceRecord.{DeviceRecord}
 use Rattle.tables.specs.declared.Tables.{Tables}
 use Rattle.tables.specs.declared.Part.{Part}
 use Rattle.tables.specs.declared.Part.the-variants.{Devices, Tasks, Jobs}
-use Rattle.tables.specs.Records.{deviceAt, deviceSize, taskAt, jobAt, deviceBytes, taskBytes, jobBytes, told, blankDevice, blankTask, blankJob}
+use Rattle.tables.specs.Records.{pairBytes, deviceAt, deviceSize, taskAt, jobAt, deviceBytes, taskBytes, jobBytes, told, blankDevice, blankTask, blankJob}
 use Rattle.tables.specs.Layout.{marker, kindOf, bodyOf, joined, deviceIn, taskIn, jobIn, countIn, recordIn, sectionOf, layoutOf, bytesOf, devicePlace, tasksPlace, taskCount, jobsPlace, tablesAs, tablesOf, counted, Bytes}
 use Rattle.tables.specs.Held.{Whole}
+use Rattle.tables.proofs.Levels.{powers-told}
 use Rattle.tables.proofs.Joining.{length-tasks, length-jobs, length-section}
 use Rattle.tables.proofs.Parts.{placeIn, count-is, record-byte, part, part-append, part-joined, part-cons, part-whole}
 use Rattle.tables.proofs.Reading.{Stands, read-pair, read-device, read-size, read-task, read-job, pair-part, device-part, task-part, job-part}
@@ -88,6 +89,8 @@ joined-same f g (suc n) h = rw (joined-same f g n (λ k l. h k (omega arith)), h
 bytes-told : (k : Kind) (d : DeviceRecord) → deviceBytes k (told k d) ≡ deviceBytes k d
 bytes-told First d = refl
 bytes-told Second d = refl
+bytes-told Third d =
+    ap (λ (l : List ℕ). d .wake ∷ pairBytes (d .pw) ++ (pairBytes (d .pwake) ++ d .levels ∷ l)) (powers-told (d .levels) (d .ps) (d .ps2) (d .ps3) (d .ps4))
 
 module _ (T : Tables) where
   record-counted : (p : Part) (k : ℕ) → k < countIn T p → recordIn (counted T) p k ≡ recordIn T p k
@@ -182,6 +185,10 @@ module _ (k : Kind) (s : List ℕ) (ok : Whole k s) (b : Bytes s) where
 
 -- ---- with the mark of the kind
 
+-- By the tests of its two bytes.
+abbrev kindBy : (a b c : Bool) → Kind
+kindBy a b c = cond a (cond b Second (cond c Third First)) First
+
 -- A file is its mark and what follows it.
 pub mark-front : (s : List ℕ) → marker (kindOf s) ++ bodyOf s ≡ s
 unfolding kindOf
@@ -191,13 +198,13 @@ mark-front (x ∷ []) = go (eqb x 255)
     go : (a : Bool) → marker (cond a First First) ++ drop (length (marker (cond a First First))) (x ∷ []) ≡ x ∷ []
     go true = refl
     go false = refl
-mark-front (x ∷ y ∷ s) = go (eqb x 255) (eqb y 2) refl refl
+mark-front (x ∷ y ∷ s) = go (eqb x 255) (eqb y 2) (eqb y 3) refl refl refl
   where
-    go : (a b : Bool) → eqb x 255 ≡ a → eqb y 2 ≡ b
-        → marker (cond a (cond b Second First) First) ++ drop (length (marker (cond a (cond b Second First) First))) (x ∷ y ∷ s) ≡ x ∷ y ∷ s
-    go true true e f = rw (eqb-true x 255 e, eqb-true y 2 f)
-    go true false e f = refl
-    go false b e f = refl
+    go : (a b c : Bool) → eqb x 255 ≡ a → eqb y 2 ≡ b → eqb y 3 ≡ c → marker (kindBy a b c) ++ drop (length (marker (kindBy a b c))) (x ∷ y ∷ s) ≡ x ∷ y ∷ s
+    go true true c e f g = rw (eqb-true x 255 e, eqb-true y 2 f)
+    go true false true e f g = rw (eqb-true x 255 e, eqb-true y 3 g)
+    go true false false e f g = refl
+    go false b c e f g = refl
 
 pub mark-fits : (s : List ℕ) → length (marker (kindOf s)) ≤ length s
 mark-fits s = omega (arith, length-append (marker (kindOf s)) (bodyOf s), ap length (mark-front s))
@@ -209,15 +216,17 @@ part-rest s n = take-all (length s - n) (drop n s) (rw length-drop (le-refl (len
 pub body-bytes : (s : List ℕ) → Bytes s → Bytes (bodyOf s)
 body-bytes s b i = rw (getD-drop (length (marker (kindOf s))) s i 0) (b (length (marker (kindOf s)) + i))
 
--- The kind is read off the mark. Only what is laid out for the first kind can seem to have one: where its horizon field is FF02.
+-- The kind is read off the mark. Only what is laid out for the first kind can seem to have one: where its horizon field is FF02 or FF03.
 marked : (k : Kind) (s : List ℕ) → (k ≡ First → kindOf s ≡ First) → kindOf (marker k ++ s) ≡ k
 unfolding kindOf
 marked First s h = h refl
 marked Second s h = refl
+marked Third s h = refl
 
 pub unmarked : (k : Kind) (s : List ℕ) → drop (length (marker k)) (marker k ++ s) ≡ s
 unmarked First s = refl
 unmarked Second s = refl
+unmarked Third s = refl
 
 same-tables : {k k′ : Kind} {s s′ : List ℕ} → k ≡ k′ → s ≡ s′ → tablesAs k s ≡ tablesAs k′ s′
 same-tables e f = cc (e, f)

@@ -9,7 +9,7 @@ use native.Mathlib.Nat.{suc-mul, le-refl}
 use native.Mathlib.Numerals.{add-one}
 use lib.ListN.{length, length-append}
 use Rattle.tables.specs.declared.Kind.{Kind}
-use Rattle.tables.specs.declared.Kind.the-variants.{First, Second}
+use Rattle.tables.specs.declared.Kind.the-variants.{First, Second, Third}
 use Rattle.tables.specs.declared.DeviceRecord.{DeviceRecord}
 use Rattle.tables.specs.declared.Tables.{Tables}
 use Rattle.tables.specs.declared.Part.{Part}
@@ -17,6 +17,7 @@ use Rattle.tables.specs.declared.Part.the-variants.{Devices, Tasks, Jobs
 use Rattle.tables.specs.Records.{deviceBytes}
 use Rattle.tables.specs.Layout.{marker, deviceIn, joined, countIn, recordIn, sectionOf, layoutOf, bytesOf}
 use Rattle.tables.specs.Held.{cut}
+use Rattle.tables.proofs.Levels.{length-third}
 
 pub joined-more : (g : ℕ → List ℕ) (n : ℕ) → joined g (n + 1) ≡ joined g n ++ g n
 unfolding joined
@@ -44,17 +45,19 @@ joined-le g m (suc n) h =
 
 -- ---- the tables' records
 
-length-device : (k : Kind) (d : DeviceRecord) → length (deviceBytes k d) ≤ 10
+length-device : (k : Kind) (d : DeviceRecord) → length (deviceBytes k d) ≤ 14
 length-device First d = omega arith
 length-device Second d = omega arith
+length-device Third d = omega (arith, length-third d)
 
 pub length-marker : (k : Kind) → length (marker k) ≤ 2
 length-marker First = omega arith
 length-marker Second = omega arith
+length-marker Third = omega arith
 
 module _ (T : Tables) where
-  pub length-devices : (n : ℕ) → length (joined (recordIn T Devices) n) ≤ n * 10
-  length-devices n = joined-most (recordIn T Devices) 10 n (λ k. length-device (T .kind) (deviceIn T k))
+  pub length-devices : (n : ℕ) → length (joined (recordIn T Devices) n) ≤ n * 14
+  length-devices n = joined-most (recordIn T Devices) 14 n (λ k. length-device (T .kind) (deviceIn T k))
 
   pub length-tasks : (n : ℕ) → length (joined (recordIn T Tasks) n) ≡ n * 5
   length-tasks n = length-joined (recordIn T Tasks) 5 n (λ k l. refl)
@@ -84,7 +87,7 @@ count-cut T Tasks = omega arith
 count-cut T Jobs = omega arith
 
 -- So each table of them is short,
-pub devices-short : (T : Tables) → length (sectionOf (cut T) Devices) ≤ 91
+pub devices-short : (T : Tables) → length (sectionOf (cut T) Devices) ≤ 127
 unfolding cut
 devices-short T = omega (arith, length-section (cut T) Devices, length-devices (cut T) (min (T .devices .count) 9))
 
@@ -97,7 +100,7 @@ unfolding cut
 jobs-short T = omega (arith, length-section (cut T) Jobs, length-jobs (cut T) (min (T .jobs .count) 17))
 
 -- and their bytes fit the array.
-pub cut-fits : (T : Tables) → length (bytesOf (cut T)) ≤ 261
+pub cut-fits : (T : Tables) → length (bytesOf (cut T)) ≤ 297
 unfolding bytesOf
 cut-fits T =
     rw length-append

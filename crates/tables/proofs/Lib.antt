@@ -1,4 +1,5 @@
 pub mod Appending
+pub mod Levels
 pub mod Joining
 pub mod Copying
 pub mod Parts

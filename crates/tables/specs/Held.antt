@@ -23,9 +23,9 @@ cut T =
       jobs = record { count = min (T .jobs .count) 17; list = T .jobs .list };
     }
 
--- Bytes in an array of 261.
+-- Bytes in an array of 297.
 unfoldable pub held : List ℕ → File
-held l = record { count = length l; bytes = padded 261 0 l }
+held l = record { count = length l; bytes = padded 297 0 l }
 
 -- With more bytes after those that it has.
 unfoldable pub appended : File → List ℕ → File

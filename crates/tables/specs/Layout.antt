@@ -10,7 +10,7 @@ use Rattle.base.specs.Bytes.{byteAt, pairAt}
 use Rattle.base.specs.Lists.{upTo, padded}
 use Rattle.base.specs.Refusals.{after}
 use Rattle.tables.specs.declared.Kind.{Kind}
-use Rattle.tables.specs.declared.Kind.the-variants.{First, Second}
+use Rattle.tables.specs.declared.Kind.the-variants.{First, Second, Third}
 use Rattle.tables.specs.declared.DeviceRecord.{DeviceRecord}
 use Rattle.tables.specs.declared.DeviceTable.{DeviceTable}
 use Rattle.tables.specs.declared.TaskRecord.{TaskRecord}
@@ -24,13 +24,14 @@ use Rattle.tables.specs.Records.{pairBytes, deviceAt, deviceSize, device
 
 -- ---- the kind
 
--- A file of the first kind has no mark, one of the second begins with FF 02 (rule 75).
+-- A file of the first kind has no mark, one of the second begins with FF 02 (rule 75), one of the third with FF 03 (rule 80).
 abbrev pub marker : Kind → List ℕ
 marker First = []
 marker Second = 255 ∷ 2 ∷ []
+marker Third = 255 ∷ 3 ∷ []
 
 unfoldable pub kindOf : List ℕ → Kind
-kindOf s = cond (eqb (byteAt s 0) 255) (cond (eqb (byteAt s 1) 2) Second First) First
+kindOf s = cond (eqb (byteAt s 0) 255) (cond (eqb (byteAt s 1) 2) Second (cond (eqb (byteAt s 1) 3) Third First)) First
 
 -- What follows the mark: the layout is the same in all kinds but for the device records.
 abbrev pub bodyOf : List ℕ → List ℕ

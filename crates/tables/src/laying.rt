@@ -3,7 +3,7 @@ ghost use mathlib.Core.Path.{_≡_};
 ghost use mathlib.Core.List.{[], _∷_, _++_};
 ghost use Prim.Native.Nat.{ℕ, _+_, _*_, _≤_, _<_, min};
 ghost use lib.ListN.{length, drop, getD};
-ghost use Rattle.tables.specs.Records.{pairBytes, firstBytes, secondBytes, deviceBytes, taskBytes, jobBytes, blankDevice, blankTask, blankJob};
+ghost use Rattle.tables.specs.Records.{pairBytes, firstBytes, secondBytes, powerBytes, powersBytes, thirdBytes, deviceBytes, taskBytes, jobBytes, blankDevice, blankTask, blankJob};
 ghost use Rattle.tables.specs.Layout.{marker, countIn, recordIn, sectionOf, bytesOf};
 ghost use Rattle.tables.specs.Held.{cut, held, appended};
 use crate::DeviceRecord;
@@ -25,12 +25,12 @@ fn empty() -> File
 {
     File {
         count: 0,
-        bytes: [0; 261],
+        bytes: [0; 297],
     }
 }
 
 fn push(f: File, byte: u8) -> File
-    requires { ⌜ f .count < 261 ⌝ }
+    requires { ⌜ f .count < 297 ⌝ }
     ensures { λ r. ⌜ r ≡ appended f (byte ∷ []) ⌝ }
 {
     let n = f.count;
@@ -41,7 +41,7 @@ fn push(f: File, byte: u8) -> File
 }
 
 fn push_pair(f: File, number: u16) -> File
-    requires { ⌜ f .count + 2 ≤ 261 ⌝ }
+    requires { ⌜ f .count + 2 ≤ 297 ⌝ }
     ensures { λ r. ⌜ r ≡ appended f (pairBytes number) ⌝ }
 {
     let high = push(f, (number / 256) as u8);
@@ -49,7 +49,7 @@ fn push_pair(f: File, number: u16) -> File
 }
 
 fn push_marker(f: File, kind: Kind) -> File
-    requires { ⌜ f .count + 2 ≤ 261 ⌝ }
+    requires { ⌜ f .count + 2 ≤ 297 ⌝ }
     ensures { λ r. ⌜ r ≡ appended f (marker kind) ⌝ }
 {
     match kind {
@@ -58,11 +58,15 @@ fn push_marker(f: File, kind: Kind) -> File
             let a = push(f, 255);
             push(a, 2)
         }
+        Kind::Third => {
+            let a = push(f, 255);
+            push(a, 3)
+        }
     }
 }
 
 fn push_first(f: File, d: DeviceRecord) -> File
-    requires { ⌜ f .count + 7 ≤ 261 ⌝ }
+    requires { ⌜ f .count + 7 ≤ 297 ⌝ }
     ensures { λ r. ⌜ r ≡ appended f (firstBytes d) ⌝ }
 {
     let a = push(f, d.wake);
@@ -72,7 +76,7 @@ fn push_first(f: File, d: DeviceRecord) -> File
 }
 
 fn push_second(f: File, d: DeviceRecord) -> File
-    requires { ⌜ f .count + 10 ≤ 261 ⌝ }
+    requires { ⌜ f .count + 10 ≤ 297 ⌝ }
     ensures { λ r. ⌜ r ≡ appended f (secondBytes d) ⌝ }
 {
     let a = push(f, d.wake);
@@ -83,18 +87,49 @@ fn push_second(f: File, d: DeviceRecord) -> File
     push_pair(g, d.pshut)
 }
 
+// The power of level i + 1, if n levels have it.
+fn push_power(f: File, n: u8, i: u8, power: u16) -> File
+    requires { ⌜ f .count + length (powerBytes n i power) ≤ 297 ⌝ }
+    ensures { λ r. ⌜ r ≡ appended f (powerBytes n i power) ⌝ }
+{
+    if i < n { push_pair(f, power) } else { f }
+}
+
+fn push_powers(f: File, d: DeviceRecord) -> File
+    requires { ⌜ f .count + length (powersBytes d) ≤ 297 ⌝ }
+    ensures { λ r. ⌜ r ≡ appended f (powersBytes d) ⌝ }
+{
+    let n = d.levels;
+    let a = push_power(f, n, 0, d.ps);
+    let b = push_power(a, n, 1, d.ps2);
+    let c = push_power(b, n, 2, d.ps3);
+    push_power(c, n, 3, d.ps4)
+}
+
+fn push_third(f: File, d: DeviceRecord) -> File
+    requires { ⌜ f .count + length (thirdBytes d) ≤ 297 ⌝ }
+    ensures { λ r. ⌜ r ≡ appended f (thirdBytes d) ⌝ }
+{
+    let a = push(f, d.wake);
+    let b = push_pair(a, d.pw);
+    let c = push_pair(b, d.pwake);
+    let e = push(c, d.levels);
+    push_powers(e, d)
+}
+
 fn push_device(f: File, kind: Kind, d: DeviceRecord) -> File
-    requires { ⌜ f .count + length (deviceBytes kind d) ≤ 261 ⌝ }
+    requires { ⌜ f .count + length (deviceBytes kind d) ≤ 297 ⌝ }
     ensures { λ r. ⌜ r ≡ appended f (deviceBytes kind d) ⌝ }
 {
     match kind {
         Kind::First => push_first(f, d),
         Kind::Second => push_second(f, d),
+        Kind::Third => push_third(f, d),
     }
 }
 
 fn push_task(f: File, k: TaskRecord) -> File
-    requires { ⌜ f .count + 5 ≤ 261 ⌝ }
+    requires { ⌜ f .count + 5 ≤ 297 ⌝ }
     ensures { λ r. ⌜ r ≡ appended f (taskBytes k) ⌝ }
 {
     let a = push_pair(f, k.period);
@@ -103,7 +138,7 @@ fn push_task(f: File, k: TaskRecord) -> File
 }
 
 fn push_job(f: File, j: JobRecord) -> File
-    requires { ⌜ f .count + 7 ≤ 261 ⌝ }
+    requires { ⌜ f .count + 7 ≤ 297 ⌝ }
     ensures { λ r. ⌜ r ≡ appended f (jobBytes j) ⌝ }
 {
     let a = push_pair(f, j.release);
@@ -132,7 +167,7 @@ fn job_of(t: JobTable, j: usize) -> JobRecord
 }
 
 fn push_record(f: File, t: Tables, part: Part, k: usize) -> File
-    requires { ⌜ f .count + length (recordIn t part k) ≤ 261 ⌝ }
+    requires { ⌜ f .count + length (recordIn t part k) ≤ 297 ⌝ }
     ensures { λ r. ⌜ r ≡ appended f (recordIn t part k) ⌝ }
 {
     match part {
@@ -171,7 +206,7 @@ fn count_of(t: Tables, part: Part) -> usize
 
 // A table after its count.
 fn push_section(f: File, t: Tables, part: Part) -> File
-    requires { ⌜ f .count + length (sectionOf (cut t) part) ≤ 261 ⌝ }
+    requires { ⌜ f .count + length (sectionOf (cut t) part) ≤ 297 ⌝ }
     ensures { λ r. ⌜ r ≡ appended f (sectionOf (cut t) part) ⌝ }
 {
     let n = count_of(t, part);

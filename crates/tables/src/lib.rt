@@ -14,18 +14,21 @@ pub use crate::listing::averaged;
 pub use crate::listing::device_at;
 pub use crate::listing::first_at;
 pub use crate::listing::job_at;
+pub use crate::listing::leveled;
 pub use crate::listing::no_tables;
 pub use crate::listing::tables_in;
 pub use crate::listing::task_at;
 
-// The kind of a file: what its first bytes say of the device records in it (rule 75).
+// The kind of a file: what its first bytes say of the device records in it (rules 75 and 80).
 pub enum Kind {
     First,
     Second,
+    Third,
 }
 
-// A device as a file gives it: the times of waking and of shutting down, the powers working and asleep, and those of the two moves. A file of the first kind has
-// one time and one power for both: there `wake` and `pwake` count, and `averaged` fills in all.
+// A device as a file gives it: the times of waking and of shutting down, the powers working and asleep, and those of the two moves; how many sleep levels there
+// are, and the powers of those below the first. Files of the first and the third kind have one time and one power for both moves: there `wake` and `pwake` count,
+// and `averaged` and `leveled` fill in all. Only those of the third kind have more than one level.
 pub struct DeviceRecord {
     pub wake: u8,
     pub shut: u8,
@@ -33,6 +36,10 @@ pub struct DeviceRecord {
     pub ps: u16,
     pub pwake: u16,
     pub pshut: u16,
+    pub levels: u8,
+    pub ps2: u16,
+    pub ps3: u16,
+    pub ps4: u16,
 }
 
 // A task as the file gives it: period, running time, and its device set, a bit for each device.
@@ -85,5 +92,5 @@ pub enum Part {
 // A file in an array: its first `count` bytes.
 pub struct File {
     pub count: usize,
-    pub bytes: [u8; 261],
+    pub bytes: [u8; 297],
 }

@@ -1,9 +1,10 @@
 // The tables of a file, record by record.
 ghost use mathlib.Core.Path.{_≡_};
-ghost use Prim.Native.Nat.{ℕ, _+_, _*_, _≤_, _<_};
+ghost use Prim.Native.Nat.{ℕ, _+_, _*_, _≤_, _<_, min};
+ghost use Rattle.base.specs.Bytes.{byteAt, pairAt};
 ghost use lib.ListN.{length};
 ghost use Rattle.tables.specs.Records as Records;
-ghost use Rattle.tables.specs.Records.{firstAt, secondAt, deviceAt, deviceSize, taskAt, jobAt, blankDevice, blankTask, blankJob};
+ghost use Rattle.tables.specs.Records.{firstAt, secondAt, thirdAt, powerOf, deviceAt, deviceSize, taskAt, jobAt, blankDevice, blankTask, blankJob};
 ghost use Rattle.tables.specs.Layout.{kindOf, bodyOf, devicePlace, devicesHeld, tasksHeld, jobsHeld, tablesAs, tablesOf, noTables};
 ghost use Rattle.tables.specs.Held.{Whole};
 use crate::DeviceRecord;
@@ -20,8 +21,17 @@ use crate::kinds::kind_of;
 use crate::kinds::marker_size;
 
 // Both moves take the same time at the same power.
-pub fn averaged(t: u8, pw: u16, ps: u16, p0: u16) -> DeviceRecord
-    ensures { λ r. ⌜ r ≡ Records.averaged t pw ps p0 ⌝ }
+pub fn leveled(
+    t: u8,
+    pw: u16,
+    p0: u16,
+    levels: u8,
+    ps: u16,
+    ps2: u16,
+    ps3: u16,
+    ps4: u16,
+) -> DeviceRecord
+    ensures { λ r. ⌜ r ≡ Records.leveled t pw p0 levels ps ps2 ps3 ps4 ⌝ }
 {
     DeviceRecord {
         wake: t,
@@ -30,7 +40,18 @@ pub fn averaged(t: u8, pw: u16, ps: u16, p0: u16) -> DeviceRecord
         ps,
         pwake: p0,
         pshut: p0,
+        levels,
+        ps2,
+        ps3,
+        ps4,
     }
+}
+
+// The same with one sleep level.
+pub fn averaged(t: u8, pw: u16, ps: u16, p0: u16) -> DeviceRecord
+    ensures { λ r. ⌜ r ≡ Records.averaged t pw ps p0 ⌝ }
+{
+    leveled(t, pw, p0, 1, ps, 0, 0, 0)
 }
 
 pub fn first_at(s: &[u8], at: usize) -> DeviceRecord
@@ -56,7 +77,36 @@ fn second_at(s: &[u8], at: usize) -> DeviceRecord
         ps: base::pair_at(s, at + 4),
         pwake: base::pair_at(s, at + 6),
         pshut: base::pair_at(s, at + 8),
+        levels: 1,
+        ps2: 0,
+        ps3: 0,
+        ps4: 0,
     }
+}
+
+// The power of level i + 1, which stands at a place if n levels have it.
+fn power_at(s: &[u8], at: usize, n: u8, i: u8) -> u16
+    requires { ⌜ (i < n → at + 1 < length (now s)) ⌝ }
+    ensures { λ r. ⌜ r ≡ powerOf n i (pairAt (now (s .entry)) at) ⌝ }
+{
+    if i < n { base::pair_at(s, at) } else { 0 }
+}
+
+fn third_at(s: &[u8], at: usize) -> DeviceRecord
+    requires { ⌜ at + (6 + 2 * min (byteAt (now s) (at + 5)) 4) ≤ length (now s) ⌝ }
+    ensures { λ r. ⌜ r ≡ thirdAt (now (s .entry)) at ⌝ }
+{
+    let n = s[at + 5];
+    leveled(
+        s[at],
+        base::pair_at(s, at + 1),
+        base::pair_at(s, at + 3),
+        n,
+        power_at(s, at + 6, n, 0),
+        power_at(s, at + 8, n, 1),
+        power_at(s, at + 10, n, 2),
+        power_at(s, at + 12, n, 3),
+    )
 }
 
 pub fn device_at(s: &[u8], kind: Kind, at: usize) -> DeviceRecord
@@ -66,6 +116,7 @@ pub fn device_at(s: &[u8], kind: Kind, at: usize) -> DeviceRecord
     match kind {
         Kind::First => first_at(s, at),
         Kind::Second => second_at(s, at),
+        Kind::Third => third_at(s, at),
     }
 }
 

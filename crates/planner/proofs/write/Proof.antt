@@ -26,7 +26,7 @@ use Rattle.planner.proofs.write.Tie as tie
 laid : (c : tie.After-file-of) → take (c .file-of .result .count) (c .file-of .result .bytes) ≡ bytesOf (cut (c .before .before .args .given))
 laid c = rw (c .file-of .ensures) (held-front (bytesOf (cut (c .before .before .args .given))))
 
-small : (c : tie.After-file-of) → c .file-of .result .count ≤ 261
+small : (c : tie.After-file-of) → c .file-of .result .count ≤ 297
 unfolding held
 small c = rw (c .file-of .ensures) (cut-fits (c .before .before .args .given))
 

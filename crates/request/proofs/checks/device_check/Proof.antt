@@ -1,41 +1,33 @@
--- `request::checks::device_check` meets its contract.
+-- `request::checks::device_check` meets its contract: with one level there is no 26.
 -- Assumes nothing.
-use Rattle.request.specs.Format.{deviceTable}
+use borrow.Author.Needs.{needs}
+use mathlib.Core.Path.{_≡_}
+use mathlib.Core.Bool.{false, cond}
+use Prim.Native.Nat.{ℕ}
+use lib.Dec.{eqb, ltb}
+use Rattle.base.specs.Refusals.{firstThat}
 use Rattle.base.proofs.Paths.{paths}
+use Rattle.tables.specs.declared.DeviceRecord.{DeviceRecord}
+use Rattle.request.specs.Format.{powersTable, deviceTable}
 use Rattle.request.proofs.checks.device_check.Statement.{statement}
 use Rattle.request.proofs.checks.device_check.Tie as tie
 
-returns : tie.Need-returns
+-- With one level.
+one : (d : DeviceRecord) → d .levels ≡ 1 → firstThat (deviceTable false d) ≡ cond (eqb (d .wake) 0) 4 (cond (eqb (d .shut) 0) 4 (firstThat (powersTable d)))
 unfolding deviceTable
-returns c = search paths depth 9
+one d e = rw e
+
+returns : tie.Need-returns
+returns c = rw (one (c .before .before .args .d) (c .before .before .pre)) (search paths)
 
 returns-2 : tie.Need-returns-2
-unfolding deviceTable
-returns-2 c = search paths depth 9
+returns-2 c = rw (one (c .before .before .before .before .args .d) (c .before .before .before .before .pre)) (search paths)
+
+powers-check-requires : tie.Need-powers-check-requires
+powers-check-requires c κs = search needs
 
 returns-3 : tie.Need-returns-3
-unfolding deviceTable
-returns-3 c = search paths depth 9
-
-returns-4 : tie.Need-returns-4
-unfolding deviceTable
-returns-4 c = search paths depth 9
-
-returns-5 : tie.Need-returns-5
-unfolding deviceTable
-returns-5 c = search paths depth 9
-
-returns-6 : tie.Need-returns-6
-unfolding deviceTable
-returns-6 c = search paths depth 9
+returns-3 c = rw (one (c .before .before .before .before .before .args .d) (c .before .before .before .before .before .pre)) (search paths)
 
 pub device-check-spec : {M : Type 1} → statement M
-device-check-spec =
-    tie.close
-    (tie.spec
-    returns
-    returns-2
-    returns-3
-    returns-4
-    returns-5
-    returns-6)
+device-check-spec = tie.close (tie.spec returns returns-2 powers-check-requires returns-3)

@@ -80,11 +80,15 @@ jobs-of-requires c κs =
 cast-t16 : tie.Need-cast-t16
 cast-t16 c = search needs
 
+has-digits-requires : tie.Need-has-digits-requires
+has-digits-requires c κs = search needs
+
 returns : tie.Need-returns
 unfolding recorderAs
 returns c =
-    let few = length-jobs _ _ _ _ _ (ok (c .before .before .before .before .before) .jobs) in
-    rw (c .jobs-of .ensures, c .before .before .before .before .device-place .ensures, packed-held _ few, c .before .devices-of .ensures, same (c .before .before))
+    let j = c .before in
+    let few = length-jobs _ _ _ _ _ (ok (j .before .before .before .before .before) .jobs) in
+    rw (j .jobs-of .ensures, j .before .before .before .before .device-place .ensures, packed-held _ few, j .before .devices-of .ensures, same (j .before .before), c .has-digits .ensures)
 
 pub recorder-in-spec : {M : Type 1} → statement M
 recorder-in-spec =
@@ -104,4 +108,5 @@ recorder-in-spec =
     add-jobs-of-3
     jobs-of-requires
     cast-t16
+    has-digits-requires
     returns)

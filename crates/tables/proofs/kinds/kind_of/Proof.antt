@@ -41,9 +41,16 @@ returns-3 : tie.Need-returns-3
 unfolding kindOf
 returns-3 c = search paths
 
+shared-slice-read-if4 : tie.Need-shared-slice-read-if4
+shared-slice-read-if4 c = search needs
+
 returns-4 : tie.Need-returns-4
 unfolding kindOf
 returns-4 c = search paths
+
+returns-5 : tie.Need-returns-5
+unfolding kindOf
+returns-5 c = search paths
 
 pub kind-of-spec : {M : Type 1} → statement M
 kind-of-spec =
@@ -54,4 +61,6 @@ kind-of-spec =
     returns-2
     shared-slice-read-if3
     returns-3
-    returns-4)
+    shared-slice-read-if4
+    returns-4
+    returns-5)

@@ -28,12 +28,12 @@ headed c =
     let a = c .before .before .before .args .t in
     omega (arith, marked (c .before), ap (λ (f : File). f .count) (c .push-pair .ensures), appended-count (c .before .push-marker .result) (pairBytes (a .horizon)))
 
-after-devices : (c : tie.After-push-section) → c .push-section .result .count ≤ 95
+after-devices : (c : tie.After-push-section) → c .push-section .result .count ≤ 131
 after-devices c =
     let t = c .before .before .before .before .args .t in
     omega (arith, headed (c .before), ap (λ (f : File). f .count) (c .push-section .ensures), appended-count (c .before .push-pair .result) (sectionOf (cut t) Devices), devices-short t)
 
-after-tasks : (c : tie.After-push-section2) → c .push-section2 .result .count ≤ 141
+after-tasks : (c : tie.After-push-section2) → c .push-section2 .result .count ≤ 177
 after-tasks c =
     let t = c .before .before .before .before .before .args .t in
     omega (arith, after-devices (c .before), ap (λ (f : File). f .count) (c .push-section2 .ensures), appended-count (c .before .push-section .result) (sectionOf (cut t) Tasks), tasks-short t)

@@ -16,11 +16,20 @@ enum-told-2 c = search needs
 push-second-requires : tie.Need-push-second-requires
 push-second-requires c κs = rw (c .enum-told2 .given .1) at (c .before .before .pre)
 
+enum-told-3 : tie.Need-enum-told-3
+enum-told-3 c = search needs
+
+push-third-requires : tie.Need-push-third-requires
+push-third-requires c κs = rw (c .enum-told3 .given .1) at (c .before .before .pre)
+
 returns : tie.Need-returns
 returns c = rw (c .before .enum-told .given .1) (c .push-first .ensures)
 
 returns-2 : tie.Need-returns-2
 returns-2 c = rw (c .before .enum-told2 .given .1) (c .push-second .ensures)
+
+returns-3 : tie.Need-returns-3
+returns-3 c = rw (c .before .enum-told3 .given .1) (c .push-third .ensures)
 
 pub push-device-spec : {M : Type 1} → statement M
 push-device-spec =
@@ -30,5 +39,8 @@ push-device-spec =
     push-first-requires
     enum-told-2
     push-second-requires
+    enum-told-3
+    push-third-requires
     returns
-    returns-2)
+    returns-2
+    returns-3)

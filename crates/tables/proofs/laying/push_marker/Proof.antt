@@ -21,6 +21,16 @@ push-requires-2 : tie.Need-push-requires-2
 unfolding appended
 push-requires-2 c κs = rw (c .push .ensures) (omega arith)
 
+enum-told-3 : tie.Need-enum-told-3
+enum-told-3 c = search needs
+
+push-requires-3 : tie.Need-push-requires-3
+push-requires-3 c κs = search needs
+
+push-requires-4 : tie.Need-push-requires-4
+unfolding appended
+push-requires-4 c κs = rw (c .push3 .ensures) (omega arith)
+
 returns : tie.Need-returns
 unfolding appended
 returns c = rw (c .enum-told .given .1)
@@ -28,6 +38,10 @@ returns c = rw (c .enum-told .given .1)
 returns-2 : tie.Need-returns-2
 unfolding appended
 returns-2 c = rw (c .before .before .enum-told2 .given .1, c .push2 .ensures, c .before .push .ensures)
+
+returns-3 : tie.Need-returns-3
+unfolding appended
+returns-3 c = rw (c .before .before .enum-told3 .given .1, c .push4 .ensures, c .before .push3 .ensures)
 
 pub push-marker-spec : {M : Type 1} → statement M
 push-marker-spec =
@@ -37,5 +51,9 @@ push-marker-spec =
     enum-told-2
     push-requires
     push-requires-2
+    enum-told-3
+    push-requires-3
+    push-requires-4
     returns
-    returns-2)
+    returns-2
+    returns-3)

@@ -25,7 +25,7 @@ abbrev μ-loop : tie.MeasureT-loop
 -- The next record has room in what the whole table asks for.
 fits :
     (T : Tables) (p : Part) (f : File) (n k : ℕ) (start out : File) → n ≡ countIn (cut T) p → start ≡ appended f (n ∷ [])
-    → out ≡ appended start (joined (recordIn T p) k) → k < n → f .count + length (sectionOf (cut T) p) ≤ 261 → out .count + length (recordIn T p k) ≤ 261
+    → out ≡ appended start (joined (recordIn T p) k) → k < n → f .count + length (sectionOf (cut T) p) ≤ 297 → out .count + length (recordIn T p k) ≤ 297
 fits T p f n k start out e s o l room =
     let g = recordIn T p in
     let more : length (joined g (k + 1)) ≡ length (joined g k) + length (g k) = ap length (joined-more g k) ∙ length-append (joined g k) (g k) in
