@@ -14,7 +14,7 @@ use Rattle.schedule.specs.Listing.{used, laid, soonest, ordered}
 use Rattle.schedule.specs.Visiting.{written, starts, choices, late, cutA, planEnergy, better, lastEnd, firstStart, since, deviceFloor, floor, cutB, complete, examine, visit, visited}
 use Rattle.tables.specs.Layout.{kindOf}
 use Rattle.request.specs.Euclid.{euclid, gcdOf}
-use Rattle.request.specs.Format.{deviceTable, lacks, taskTable, jobTable, recordTable, recordFault, lcmFrom, horizonOf, releasedAt, unfolded, jobsOf, mixed, countOf, jobRecords, jobSection, taskSection, faultAs, recorderAs, readAs, readOf}
+use Rattle.request.specs.Format.{noLower, powersTable, deviceTable, lacks, taskTable, jobTable, recordTable, recordFault, lcmFrom, horizonOf, releasedAt, unfolded, jobsOf, mixed, countOf, jobRecords, jobSection, taskSection, faultAs, recorderAs, readAs, readOf}
 use Rattle.figures.specs.Figures.{Figure, check, margins, verdict, rows, search, unfolds, comes-first, Case, table, Says, Hold}
 use Rattle.figures.proofs.Computed.{outcome, checked, checked-by, margined, margined-by, all, feasible, judged, judged-by, rowed, rowed-by, found, ended, searched, searched-by}
 
@@ -46,5 +46,5 @@ all-say [] e = tt
 all-say (c ∷ cs) e = (says (c .file) (c .figure) (e .0), all-say cs (e .1))
 
 pub figures-hold : Hold table
-unfolding readOf readAs faultAs kindOf taskSection jobSection jobRecords countOf mixed recordFault recordTable deviceTable taskTable jobTable lacks firstOf horizonOf lcmFrom gcdOf euclid jobsOf unfolded releasedAt recorderAs upTo padded remove trip used laid soonest ordered written starts choices late cutA planEnergy better lastEnd firstStart since deviceFloor floor cutB complete examine visit visited windowFault clashes outcome checked margined all feasible judged rowed found ended searched
-figures-hold = all-say table (refl, (refl, (refl, (refl, (refl, (refl, (refl, (refl, (refl, (refl, (refl, (refl, (refl, (refl, (refl, (refl, (refl, (refl, (refl, (refl, (refl, ((refl, inr (refl, inl (inl (omega arith)))), ((refl, refl, refl, refl), (refl, (refl, (refl, (refl, (refl, (refl, (refl, (refl, (refl, (refl, (refl, (refl, (refl, (refl, (refl, (refl, (refl, (refl, (refl, (refl, (refl, (refl, (refl, (refl, (refl, (refl, (refl, (refl, (refl, (refl, tt)))))))))))))))))))))))))))))))))))))))))))))))))))))
+unfolding readOf readAs faultAs kindOf taskSection jobSection jobRecords countOf mixed recordFault recordTable deviceTable powersTable noLower taskTable jobTable lacks firstOf horizonOf lcmFrom gcdOf euclid jobsOf unfolded releasedAt recorderAs upTo padded remove trip used laid soonest ordered written starts choices late cutA planEnergy better lastEnd firstStart since deviceFloor floor cutB complete examine visit visited windowFault clashes outcome checked margined all feasible judged rowed found ended searched
+figures-hold = all-say table (refl, (refl, (refl, (refl, (refl, (refl, (refl, (refl, (refl, (refl, (refl, (refl, (refl, (refl, (refl, (refl, (refl, (refl, (refl, (refl, (refl, ((refl, inr (refl, inl (inl (omega arith)))), ((refl, refl, refl, refl), (refl, (refl, (refl, (refl, (refl, (refl, (refl, (refl, (refl, (refl, (refl, (refl, (refl, (refl, (refl, (refl, (refl, (refl, (refl, (refl, (refl, (refl, (refl, (refl, (refl, (refl, (refl, (refl, (refl, (refl, (refl, (refl, (refl, (refl, (refl, (refl, (refl, (refl, (refl, (refl, tt)))))))))))))))))))))))))))))))))))))))))))))))))))))))))))))))

@@ -4,7 +4,7 @@
 -- proofs/Hold: the table holds.
 -- Assumes nothing.
 use mathlib.Core.Path.{_≡_}
-use mathlib.Core.Bool.{false}
+use mathlib.Core.Bool.{true, false}
 use mathlib.Core.List.{List, [], _∷_, _++_, map}
 use Prim.Native.Nat.{ℕ}
 use lib.IntN.{ℤ, pos, negsuc}
@@ -113,6 +113,25 @@ G5 = two 0 ++ 1 ∷ 2 ∷ two 5 ++ two 1 ++ two 3 ++ round 6
 abbrev G6 : List ℕ
 G6 = two 0 ++ 2 ∷ A ++ A ++ round 5
 
+-- Of the third kind: T 1, Pw 10, P0 4, and two levels.
+abbrev third : List ℕ → List ℕ
+third l = 255 ∷ 3 ∷ l
+
+abbrev L : List ℕ
+L = 1 ∷ two 10 ++ two 4 ++ 2 ∷ two 3 ++ two 1
+
+abbrev J7 : List ℕ
+J7 = third (two 10 ++ 1 ∷ 1 ∷ two 20 ++ two 10 ++ 4 ∷ two 9 ++ two 6 ++ two 3 ++ two 0 ++ idle)
+
+abbrev J9 : List ℕ
+J9 = third (two 0 ++ 2 ∷ L ++ L ++ round 8)
+
+abbrev J10 : List ℕ
+J10 = third (two 10 ++ 2 ∷ L ++ L ++ 0 ∷ 2 ∷ two 0 ++ two 10 ++ two 2 ++ 1 ∷ two 3 ++ two 9 ++ two 1 ++ 3 ∷ [])
+
+abbrev J19 : List ℕ
+J19 = third (two 5 ++ 1 ∷ 1 ∷ two 5 ++ two 3 ++ 1 ∷ two 1 ++ 0 ∷ 1 ∷ two 0 ++ two 5 ++ two 2 ++ 1 ∷ [])
+
 -- ---- what a file has
 
 pub data Figure : Type 0 where
@@ -143,6 +162,10 @@ S = at 1
 
 abbrev letters : List Letter → List ℕ
 letters l = map (byteOf false) l
+
+-- Where a sleep is written as the digit of its level.
+abbrev digits : List Letter → List ℕ
+digits l = map (byteOf true) l
 
 abbrev pub table : List Case
 table =
@@ -210,6 +233,21 @@ table =
     -- G6: a device that is never used
     ∷ G6 has search 1000000 (9 ∷ 9 ∷ []) (success 5 22 5) (0 ∷ 9 ∷ [])
     ∷ G6 has rows (0 ∷ []) (replicate 11 9) (success 5 22 0) (letters (W ∷ W ∷ D ∷ S ∷ U ∷ S ∷ S ∷ S ∷ S ∷ S ∷ []) ++ 9 ∷ [])
+    -- J5 to J7: a gap is slept at the level that costs least: at the first of two, at the second, at the third of four
+    ∷ third (two 5 ++ 1 ∷ L ++ idle) has rows [] (replicate 6 9) (success 5 17 0) (digits (D ∷ at 1 ∷ at 1 ∷ at 1 ∷ U ∷ []) ++ 9 ∷ [])
+    ∷ third (two 6 ++ 1 ∷ L ++ idle) has rows [] (replicate 7 9) (success 6 18 0) (digits (D ∷ D ∷ at 2 ∷ at 2 ∷ U ∷ U ∷ []) ++ 9 ∷ [])
+    ∷ J7 has rows [] (replicate 11 9) (success 10 72 0) (digits (D ∷ D ∷ D ∷ at 3 ∷ at 3 ∷ at 3 ∷ at 3 ∷ U ∷ U ∷ U ∷ []) ++ 9 ∷ [])
+    -- J9: over the seam, and a device that is never used
+    ∷ J9 has rows (1 ∷ []) (replicate 17 9) (success 8 46 0) (digits (U ∷ W ∷ W ∷ D ∷ D ∷ at 2 ∷ at 2 ∷ U ∷ replicate 8 (at 2)) ++ 9 ∷ [])
+    ∷ J10 has search 1000000 (replicate 3 9) (success 10 86 58) (8 ∷ 7 ∷ 9 ∷ [])
+    ∷ J10 has rows (8 ∷ 7 ∷ []) (replicate 21 9) (success 10 86 0)
+    (digits (D ∷ D ∷ at 2 ∷ at 2 ∷ at 2 ∷ U ∷ U ∷ W ∷ W ∷ W ∷ D ∷ D ∷ at 2 ∷ at 2 ∷ at 2 ∷ U ∷ U ∷ W ∷ D ∷ U ∷ []) ++ 9 ∷ [])
+    -- J12: no time comes before no level. J13: five levels, though no power is there
+    ∷ third (two 5 ++ 1 ∷ 0 ∷ two 10 ++ two 4 ++ 0 ∷ []) has check (refusal 4)
+    ∷ third (two 5 ++ 1 ∷ 1 ∷ two 10 ++ two 4 ++ 5 ∷ []) has check (refusal 26)
+    -- J19: device A's figures, one level, give P3's plan with another letter
+    ∷ J19 has search 1000 (9 ∷ 9 ∷ []) (success 5 17 5) (0 ∷ 9 ∷ [])
+    ∷ J19 has rows (0 ∷ []) (replicate 6 9) (success 5 17 0) (digits (W ∷ W ∷ D ∷ at 1 ∷ U ∷ []) ++ 9 ∷ [])
     ∷ []
 
 -- ---- the statement
