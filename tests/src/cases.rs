@@ -3,7 +3,7 @@
 use crate::random::Random;
 use crate::request::{read, Job, Request};
 use crate::tables::Tables;
-use crate::{damage, faults, listing, second, valid};
+use crate::{damage, faults, listing, second, third, valid};
 
 #[derive(Clone, Copy, Debug, PartialEq, Eq, PartialOrd, Ord)]
 pub enum Kind {
@@ -11,6 +11,8 @@ pub enum Kind {
     Dear,
     Second,
     SecondFault,
+    Third,
+    ThirdFault,
     Tasks,
     Rounds,
     Tight,
@@ -34,6 +36,8 @@ impl Kind {
             Kind::Dear => "devices dear to move",
             Kind::Second => "of the second kind",
             Kind::SecondFault => "of the second kind, damaged",
+            Kind::Third => "of the third kind",
+            Kind::ThirdFault => "of the third kind, damaged",
             Kind::Tasks => "valid task lists",
             Kind::Rounds => "rounds of devices dear to move, or unused",
             Kind::Tight => "tight windows, aimed at 19",
@@ -61,22 +65,24 @@ pub struct Case {
 
 /// The kinds in turn, so that any hundred cases have all of them. A case over the budget costs a
 /// million vertices on both sides, so there is only one.
-const ROUND: [(Kind, u64); 18] = [
-    (Kind::Jobs, 8),
+const ROUND: [(Kind, u64); 20] = [
+    (Kind::Jobs, 6),
     (Kind::Dear, 6),
-    (Kind::Second, 8),
-    (Kind::SecondFault, 6),
-    (Kind::Tasks, 6),
+    (Kind::Second, 7),
+    (Kind::SecondFault, 5),
+    (Kind::Third, 9),
+    (Kind::ThirdFault, 7),
+    (Kind::Tasks, 5),
     (Kind::Rounds, 4),
-    (Kind::Tight, 8),
+    (Kind::Tight, 6),
     (Kind::OverBudget, 1),
     (Kind::NearLimits, 5),
-    (Kind::CutShort, 8),
-    (Kind::Changed, 8),
-    (Kind::Added, 5),
-    (Kind::CountChanged, 5),
-    (Kind::OneFault, 9),
-    (Kind::TwoFaults, 6),
+    (Kind::CutShort, 5),
+    (Kind::Changed, 6),
+    (Kind::Added, 4),
+    (Kind::CountChanged, 4),
+    (Kind::OneFault, 8),
+    (Kind::TwoFaults, 5),
     (Kind::Noise, 4),
     (Kind::Long, 2),
     (Kind::LongFault, 1),
@@ -117,6 +123,8 @@ fn file_of(random: &mut Random, kind: Kind) -> Vec<u8> {
         Kind::Dear => valid::dear_list(random).bytes(),
         Kind::Second => second::accepted(random).bytes(),
         Kind::SecondFault => second::damaged(random),
+        Kind::Third => third::accepted(random).bytes(),
+        Kind::ThirdFault => third::damaged(random),
         Kind::Tasks => accepted_tasks(random).bytes(),
         Kind::Rounds => accepted(random, valid::dear_round).bytes(),
         Kind::Tight => tight(random).bytes(),
@@ -226,16 +234,19 @@ fn faulty(random: &mut Random, count: usize) -> Vec<u8> {
 /// Small enough to write out the listing, and to work out the rows of every use that comes up.
 fn is_small(request: &Request) -> bool {
     let ways = |job: &Job| u64::from(job.latest() - job.release + 2);
-    let row_steps = |device: usize| {
+    let cells = |device: usize| {
         let powers = &request.devices[device];
-        let states = u64::from(powers.shut.ticks + powers.wake.ticks + 2);
-        let jobs = request.jobs.iter().filter(|job| job.uses(device));
-        jobs.fold(states * u64::from(request.horizon), |steps, job| {
-            steps.saturating_mul(ways(job))
-        })
+        let between = u64::from(powers.shut.ticks + powers.wake.ticks + 1);
+        (between * powers.levels.len() as u64 + 1) * u64::from(request.horizon)
     };
-    let steps = (0..request.devices.len()).map(row_steps);
-    listing::size(request) <= 100_000 && steps.fold(0, u64::saturating_add) <= 60_000_000
+    let row_steps = |device: usize| {
+        let jobs = request.jobs.iter().filter(|job| job.uses(device));
+        jobs.fold(cells(device), |steps, job| steps.saturating_mul(ways(job)))
+    };
+    let devices = 0..request.devices.len();
+    listing::size(request) <= 100_000
+        && devices.clone().map(row_steps).fold(0, u64::saturating_add) <= 60_000_000
+        && devices.map(cells).all(|cells| cells <= 3_000_000)
 }
 
 /// Most files come in one piece. (`slow` has those that tell a program which stops at its first read.)
@@ -280,6 +291,7 @@ mod tests {
             Kind::Jobs,
             Kind::Dear,
             Kind::Second,
+            Kind::Third,
             Kind::Tasks,
             Kind::Rounds,
             Kind::Tight,

@@ -3,6 +3,7 @@
 use crate::request::FileKind;
 use crate::second::{Second, Shut};
 use crate::tables::{job, task, DeviceRecord, Tables};
+use crate::third::{Levels, Third};
 use std::fs;
 use std::path::{Path, PathBuf};
 
@@ -59,12 +60,13 @@ fn parse(name: &str, text: &str) -> Result<Example, String> {
     })
 }
 
-/// What the lines say so far. Shutting down is told apart in the second kind alone.
+/// What the lines say so far. Shutting down is told apart in the second kind alone, levels in the third.
 #[derive(Default)]
 struct Request {
     kind: FileKind,
     tables: Tables,
     shuts: Vec<Shut>,
+    levels: Vec<Levels>,
 }
 
 impl Request {
@@ -73,10 +75,12 @@ impl Request {
             kind,
             tables,
             shuts,
+            levels,
         } = self;
         match kind {
             FileKind::First => tables.bytes(),
             FileKind::Second => Second { tables, shuts }.bytes(),
+            FileKind::Third => Third { tables, levels }.bytes(),
         }
     }
 }
@@ -89,10 +93,12 @@ fn add(request: &mut Request, words: &[&str]) -> Option<()> {
         kind,
         tables,
         shuts,
+        levels,
     } = request;
     match *words {
         [] => {}
         ["kind", "2"] if tables.devices.is_empty() => *kind = FileKind::Second,
+        ["kind", "3"] if tables.devices.is_empty() => *kind = FileKind::Third,
         ["horizon", ticks] => tables.horizon = number(ticks)?,
         ["device", transition, working, sleeping, moving] if *kind == FileKind::First => {
             tables.devices.push(DeviceRecord {
@@ -112,6 +118,22 @@ fn add(request: &mut Request, words: &[&str]) -> Option<()> {
                 moving: number(waking)?,
             });
             shuts.push((byte(shut)?, number(shutting)?));
+        }
+        ["device", transition, working, moving, count, ref powers @ ..]
+            if *kind == FileKind::Third =>
+        {
+            let powers: Option<Vec<u16>> = powers.iter().copied().map(number).collect();
+            let (count, powers) = (byte(count)?, powers?);
+            if powers.len() != usize::from(count) {
+                return None;
+            }
+            tables.devices.push(DeviceRecord {
+                transition: byte(transition)?,
+                working: number(working)?,
+                sleeping: 0,
+                moving: number(moving)?,
+            });
+            levels.push(Levels { count, powers });
         }
         ["task", period, running, devices] => {
             let devices = set(devices)?;

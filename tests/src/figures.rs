@@ -303,7 +303,7 @@ fn slept_from_2t(device: &Device, uses: &[Use], length: u32) -> u64 {
     let gap = |ticks: u32| match ticks.checked_sub(moves) {
         None => ticks * device.working,
         Some(asleep) => {
-            shut.ticks * shut.power + wake.ticks * wake.power + asleep * device.sleeping
+            shut.ticks * shut.power + wake.ticks * wake.power + asleep * device.levels[0]
         }
     };
     let (mut energy, mut at) = (0, 0);

@@ -1,8 +1,9 @@
-//! Cases that are not left to chance: the figures P1 to P12, E1 to E6 and H1 to H16 as files, and counts that meet
-//! the budget exactly or pass it by one.
+//! Cases that are not left to chance: the figures P1 to P12, E1 to E6, H1 to H16 and J5 to J19 as files, and counts
+//! that meet the budget exactly or pass it by one.
 
 use crate::second::Second;
 use crate::tables::{device_a, job, task, DeviceRecord, JobRecord, Tables, TaskRecord};
+use crate::third::{Levels, Third};
 
 pub struct Fixed {
     pub name: &'static str,
@@ -128,6 +129,74 @@ fn second_kind() -> Vec<(&'static str, Vec<u8>)> {
     ]
 }
 
+/// Files of the third kind: sensors of two levels and of four, alone, in a round, and with jobs; device A
+/// with one level; then records that are cut short or wrong.
+fn third_kind() -> Vec<(&'static str, Vec<u8>)> {
+    let sensors = |tables: Tables, levels: &[u16]| Third {
+        levels: vec![Levels::of(levels); tables.devices.len()],
+        tables,
+    };
+    let sensor = |working, moving| DeviceRecord {
+        working,
+        moving,
+        ..device_a()
+    };
+    let alone = |horizon| {
+        let tables = Tables {
+            horizon,
+            devices: vec![sensor(10, 4)],
+            ..Tables::default()
+        };
+        sensors(tables, &[3, 1]).bytes()
+    };
+    let deep = Tables {
+        horizon: 10,
+        devices: vec![sensor(20, 10)],
+        ..Tables::default()
+    };
+    let round = Tables {
+        devices: vec![sensor(10, 4); 2],
+        tasks: vec![task(8, 2, 1)],
+        ..Tables::default()
+    };
+    let two = Tables {
+        horizon: 10,
+        devices: vec![sensor(10, 4); 2],
+        tasks: Vec::new(),
+        jobs: vec![job(0, 10, 2, 1), job(3, 9, 1, 3)],
+    };
+    let single = Tables {
+        horizon: 5,
+        devices: vec![device_a()],
+        tasks: Vec::new(),
+        jobs: vec![job(0, 5, 2, 1)],
+    };
+    let cut = |length| alone(5)[..length].to_vec();
+    let changed = |place: usize, byte| {
+        let mut file = alone(5);
+        file[place] = byte;
+        file
+    };
+    vec![
+        ("J5", alone(5)),
+        ("J6", alone(6)),
+        ("J7", sensors(deep, &[9, 6, 3, 0]).bytes()),
+        ("J9's request", sensors(round, &[3, 1]).bytes()),
+        ("J10", sensors(two, &[3, 1]).bytes()),
+        ("J12", vec![255, 3, 0, 5, 1, 0, 0, 10, 0, 4, 0]),
+        ("J13", vec![255, 3, 0, 5, 1, 1, 0, 10, 0, 4, 5]),
+        ("J19", Third::single(single).bytes()),
+        ("FF 03", vec![255, 3]),
+        ("FF 03, cut in the first six bytes", cut(10)),
+        ("FF 03, cut before the powers", cut(11)),
+        ("FF 03, cut in the powers", cut(14)),
+        ("FF 03, no level", changed(10, 0)),
+        ("FF 03, 255 levels", changed(10, 255)),
+        ("FF 03, the second level as the first", changed(14, 3)),
+        ("FF 03, moving as at the first level", changed(9, 3)),
+    ]
+}
+
 /// A device that no job uses is worth its sleep in the floor and more in any plan, so no floor ever
 /// cuts. Two jobs of one tick with m and n starts, k of them shared, then give 1 vertex for the
 /// root, m + n for one job placed, m n - k for both: (m + 1)(n + 1) - k in all.
@@ -175,6 +244,7 @@ fn eight_tasks() -> Vec<u8> {
 pub fn all() -> Vec<Fixed> {
     let mut all = figures();
     all.extend(dear_moves().into_iter().chain(second_kind()));
+    all.extend(third_kind());
     all.extend(budget_edges());
     all.push(("eight tasks", eight_tasks()));
     all.into_iter()

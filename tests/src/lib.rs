@@ -31,6 +31,7 @@ pub mod stepping;
 pub mod streams;
 pub mod tables;
 pub mod tally;
+pub mod third;
 pub mod valid;
 pub mod visit;
 pub mod writing;

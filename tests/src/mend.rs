@@ -11,6 +11,7 @@ use crate::faults::damaged;
 use crate::random::Random;
 use crate::request::{read, Job, Request};
 use crate::tables::{job, Tables};
+use crate::third;
 use crate::valid::{crowded_list, job_list, long_list, task_list, tight_list};
 
 /// What every operation of the library answers.
@@ -243,7 +244,7 @@ impl Call {
 /// The numbers that were met, and how many calls moved a job and moved none.
 #[derive(Clone, Debug, Default, PartialEq, Eq)]
 pub struct Met {
-    pub numbers: [u64; 21],
+    pub numbers: [u64; 27],
     pub moved: u64,
     pub unmoved: u64,
 }
@@ -266,7 +267,7 @@ pub fn run(seed: u64, calls: u64, mend: impl Mending) -> Result<Met, String> {
 /// A request with given starts and lent lists: mostly good ones, and sometimes a damaged file, a
 /// start too many or too few, a list too short.
 pub fn draw(random: &mut Random) -> Call {
-    let file = match random.within(1, 12) {
+    let file = match random.within(1, 14) {
         1 => crowded_list(random).bytes(),
         2 => long_list(random).bytes(),
         3 => task_list(random).bytes(),
@@ -276,6 +277,8 @@ pub fn draw(random: &mut Random) -> Call {
             let tables = small_list(random);
             damaged(random, tables)
         }
+        7 => third::accepted(random).bytes(),
+        8 => third::damaged(random),
         _ => small_list(random).bytes(),
     };
     let request = read(&file).ok();

@@ -11,28 +11,56 @@ pub mod anew;
 pub mod carried;
 pub mod shaped;
 
-use crate::request::{read, MOST_DEVICES, MOST_JOBS};
+use crate::request::{read, MOST_DEVICES, MOST_JOBS, MOST_LEVELS};
 
 const DEVICES: usize = MOST_DEVICES as usize;
+
+/// To a level and back: the ticks of all moves, what they cost, and the power at the level.
+#[derive(Clone, Copy, Default)]
+struct Trip {
+    moves: u32,
+    moving: u32,
+    power: u32,
+}
 
 #[derive(Clone, Copy, Default)]
 struct Device {
     working: u32,
+    /// The power of the deepest level.
     sleeping: u32,
-    /// The ticks of both moves, and what they cost.
-    moves: u32,
-    moving: u32,
+    levels: usize,
+    trips: [Trip; MOST_LEVELS as usize],
 }
 
 impl Device {
+    fn of(device: &crate::request::Device) -> Device {
+        let mut trips = [Trip::default(); MOST_LEVELS as usize];
+        let (shut, wake) = (device.shut, device.wake);
+        for (depth, (trip, &power)) in (1..).zip(trips.iter_mut().zip(&device.levels)) {
+            *trip = Trip {
+                moves: depth * (shut.ticks + wake.ticks),
+                moving: depth * (shut.ticks * shut.power + wake.ticks * wake.power),
+                power,
+            };
+        }
+        Device {
+            working: device.working,
+            sleeping: device.deepest(),
+            levels: device.levels.len(),
+            trips,
+        }
+    }
+
     /// The least energy of a stretch without use between two that work.
     fn gap(&self, ticks: u32) -> u32 {
-        let worked = ticks * self.working;
-        if ticks < self.moves {
-            worked
-        } else {
-            worked.min(self.moving + (ticks - self.moves) * self.sleeping)
+        let mut least = ticks * self.working;
+        for trip in &self.trips[..self.levels] {
+            if ticks < trip.moves {
+                break;
+            }
+            least = least.min(trip.moving + (ticks - trip.moves) * trip.power);
         }
+        least
     }
 
     /// What is charged before a use at `start`: a gap, or the power of sleep before a round's first.
@@ -98,16 +126,10 @@ impl Problem {
                 devices: job.devices,
             };
         }
-        let device = |device: &crate::request::Device| Device {
-            working: device.working,
-            sleeping: device.sleeping,
-            moves: device.shut.ticks + device.wake.ticks,
-            moving: device.shut.ticks * device.shut.power + device.wake.ticks * device.wake.power,
-        };
         Ok(Problem {
             horizon: request.horizon,
             round: request.round,
-            devices: request.devices.iter().map(device).collect(),
+            devices: request.devices.iter().map(Device::of).collect(),
             jobs,
             job_count: request.jobs.len(),
         })

@@ -11,6 +11,7 @@ use crate::listing;
 use crate::random::Random;
 use crate::request::{read, Job, Request};
 use crate::tables::Tables;
+use crate::third;
 use crate::valid::{
     crowded_list, hopeless_list, job_list, long_list, loose_list, task_list, tight_list,
 };
@@ -189,7 +190,7 @@ fn expected(request: &Request) -> Answer {
 /// The numbers that were met.
 #[derive(Clone, Debug, Default, PartialEq, Eq)]
 pub struct Met {
-    pub numbers: [u64; 21],
+    pub numbers: [u64; 27],
 }
 
 /// Draws requests and holds the outcomes under budgets around the count to the rules; the first that
@@ -227,7 +228,7 @@ fn budgets(file: &[u8]) -> Vec<u32> {
 
 /// Mostly good files of every shape, and some damaged ones.
 fn draw(random: &mut Random) -> Vec<u8> {
-    match random.within(1, 12) {
+    match random.within(1, 14) {
         1 => crowded_list(random).bytes(),
         2 => long_list(random).bytes(),
         3 => task_list(random).bytes(),
@@ -238,6 +239,8 @@ fn draw(random: &mut Random) -> Vec<u8> {
             let tables = job_list(random);
             damaged(random, tables)
         }
+        10 => third::accepted(random).bytes(),
+        11 => third::damaged(random),
         _ => job_list(random).bytes(),
     }
 }

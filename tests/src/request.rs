@@ -4,13 +4,14 @@
 //! a cursor that only moves forward, and every judgement stands at the place in the file where the
 //! rule makes it.
 
-/// One of the numbers 1 to 20.
+/// One of the numbers 1 to 20, or 26.
 pub type Refusal = u8;
 
 pub const MOST_DEVICES: u8 = 8;
 pub const MOST_TASKS: u8 = 8;
 pub const MOST_JOBS: usize = 16;
 pub const LONGEST_HORIZON: u32 = 4096;
+pub const MOST_LEVELS: u8 = 4;
 
 /// How the device records of a file are laid out: what its first bytes say (rule 75).
 #[derive(Clone, Copy, Debug, Default, PartialEq, Eq)]
@@ -18,9 +19,10 @@ pub enum FileKind {
     #[default]
     First,
     Second,
+    Third,
 }
 
-/// Going down or coming up.
+/// Going down or coming up, by one level.
 #[derive(Clone, Copy, Debug, PartialEq, Eq)]
 pub struct Move {
     pub ticks: u32,
@@ -30,13 +32,16 @@ pub struct Move {
 #[derive(Clone, Debug, PartialEq, Eq)]
 pub struct Device {
     pub working: u32,
-    pub sleeping: u32,
+    /// The powers of the levels at which it sleeps, the shallowest first.
+    pub levels: Vec<u32>,
     pub shut: Move,
     pub wake: Move,
+    /// Its rows name the level at which it sleeps.
+    pub numbered: bool,
 }
 
 impl Device {
-    /// Both moves take the same time at the same power.
+    /// Both moves take the same time at the same power, and there is one level.
     pub fn averaged(transition: u32, working: u32, sleeping: u32, moving: u32) -> Device {
         let both = Move {
             ticks: transition,
@@ -44,9 +49,32 @@ impl Device {
         };
         Device {
             working,
-            sleeping,
+            levels: vec![sleeping],
             shut: both,
             wake: both,
+            numbered: false,
+        }
+    }
+
+    /// What a tick at a level costs; level 0 is work.
+    pub fn power_at(&self, level: usize) -> u32 {
+        match level {
+            0 => self.working,
+            _ => self.levels[level - 1],
+        }
+    }
+
+    /// The power of the deepest level.
+    pub fn deepest(&self) -> u32 {
+        self.power_at(self.levels.len())
+    }
+
+    /// The letter of a tick at a level.
+    pub fn letter_at(&self, level: usize) -> char {
+        match level {
+            0 => 'W',
+            _ if self.numbered => ['1', '2', '3', '4'][level - 1],
+            _ => 'S',
         }
     }
 }
@@ -117,10 +145,11 @@ fn pair(record: &[u8], place: usize) -> u32 {
     u32::from(record[place]) * 256 + u32::from(record[place + 1])
 }
 
-/// The kind of a file and what follows its mark. Only FF 02 is one.
+/// The kind of a file and what follows its mark. Only FF 02 and FF 03 are marks.
 pub fn unmarked(file: &[u8]) -> (FileKind, &[u8]) {
     match file {
         [0xFF, 2, rest @ ..] => (FileKind::Second, rest),
+        [0xFF, 3, rest @ ..] => (FileKind::Third, rest),
         _ => (FileKind::First, file),
     }
 }
@@ -185,7 +214,7 @@ fn read_device(cursor: &mut Cursor, kind: FileKind) -> Result<Device, Refusal> {
             let record = cursor.take(10)?;
             Device {
                 working: pair(record, 2),
-                sleeping: pair(record, 4),
+                levels: vec![pair(record, 4)],
                 shut: Move {
                     ticks: u32::from(record[1]),
                     power: pair(record, 8),
@@ -194,6 +223,23 @@ fn read_device(cursor: &mut Cursor, kind: FileKind) -> Result<Device, Refusal> {
                     ticks: u32::from(record[0]),
                     power: pair(record, 6),
                 },
+                numbered: false,
+            }
+        }
+        FileKind::Third => {
+            let front = cursor.take(6)?;
+            let (transition, count) = (u32::from(front[0]), front[5]);
+            if transition == 0 {
+                return Err(4);
+            }
+            if !(1..=MOST_LEVELS).contains(&count) {
+                return Err(26);
+            }
+            let powers = cursor.take(2 * usize::from(count))?;
+            Device {
+                levels: powers.chunks(2).map(|power| pair(power, 0)).collect(),
+                numbered: true,
+                ..Device::averaged(transition, pair(front, 1), 0, pair(front, 3))
             }
         }
     };
@@ -201,8 +247,9 @@ fn read_device(cursor: &mut Cursor, kind: FileKind) -> Result<Device, Refusal> {
     if moves.iter().any(|one| one.ticks == 0) {
         return Err(4);
     }
-    let asleep = device.sleeping;
-    if device.working <= asleep || moves.iter().any(|one| one.power <= asleep) {
+    let first = device.levels[0];
+    let falls = device.levels.windows(2).all(|pair| pair[0] > pair[1]);
+    if !falls || device.working <= first || moves.iter().any(|one| one.power <= first) {
         return Err(5);
     }
     Ok(device)
@@ -350,10 +397,35 @@ mod tests {
         assert!(read(&[&head, &device[..], &[0, 0]].concat()).is_ok());
     }
 
+    /// In a record of the third kind the first six bytes are judged before the powers are called for.
+    #[test]
+    fn a_record_of_the_third_kind() {
+        let head = [255, 3, 0, 9, 1];
+        let number = |record: &[u8]| read(&[&head, record, &[0, 0]].concat()).err();
+        assert_eq!(refusal(&[&[255, 3]]), 1);
+        assert_eq!(refusal(&[&[255, 3, 0, 0, 0, 0, 0]]), 10);
+        assert_eq!(refusal(&[&head, &[0, 0, 9, 0, 4]]), 1);
+        assert_eq!(refusal(&[&head, &[0, 0, 9, 0, 4, 9]]), 4);
+        for count in [0, 5, 6, 128, 255] {
+            assert_eq!(refusal(&[&head, &[1, 0, 9, 0, 4, count]]), 26);
+        }
+        assert_eq!(refusal(&[&head, &[1, 0, 9, 0, 4, 1]]), 1);
+        assert_eq!(refusal(&[&head, &[1, 0, 0, 0, 0, 2, 0, 3, 0]]), 1);
+        assert_eq!(number(&[1, 0, 9, 0, 4, 2, 0, 3, 0, 3]), Some(5));
+        assert_eq!(number(&[1, 0, 9, 0, 4, 3, 0, 3, 0, 1, 0, 2]), Some(5));
+        assert_eq!(number(&[1, 0, 9, 0, 3, 1, 0, 3]), Some(5));
+        assert_eq!(number(&[1, 0, 3, 0, 9, 1, 0, 3]), Some(5));
+        assert_eq!(number(&[1, 0, 9, 0, 4, 1, 0, 3]), None);
+        assert_eq!(number(&[1, 0, 4, 0, 9, 1, 0, 3]), None);
+        let four = [1, 0, 9, 0, 4, 4, 0, 3, 0, 2, 0, 1, 0, 0];
+        assert_eq!(number(&four), None);
+        assert_eq!(refusal(&[&head, &four[..13]]), 1);
+    }
+
     /// No other mark is one: what begins with FF is of the first kind, and refused.
     #[test]
-    fn only_ff_02_is_a_mark() {
-        for second in (0..=255).filter(|&byte| byte != 2) {
+    fn only_ff_02_and_ff_03_are_marks() {
+        for second in (0..=255).filter(|byte| ![2, 3].contains(byte)) {
             let file = [255, second, 0, 0, 0];
             assert_eq!(read(&file), Err(10), "{second}");
         }

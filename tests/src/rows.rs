@@ -3,10 +3,11 @@
 //! The program under test fills gaps by a rule about their length and their cost. This file must not
 //! know that rule: it only steps from tick to tick through every state that the rules allow, and keeps
 //! the least energy with which each state can be reached, and of the ways that cost as little the
-//! fewest ticks in which the device moves. A row that is repeated for ever (rule 86) is a cycle of
-//! states: it is stepped through from a used tick, after which the device works, to that tick again.
+//! fewest ticks in which the device moves: of several levels that is the shallowest. A row that is
+//! repeated for ever (rule 86) is a cycle of states: it is stepped through from a used tick, after which
+//! the device works, to that tick again.
 
-use crate::request::{Device, Request};
+use crate::request::{Device, Move, Request};
 use std::cmp::Ordering;
 use std::collections::HashMap;
 
@@ -73,57 +74,85 @@ impl Ways {
     }
 }
 
-/// For each state after some tick the ways there. `down[n]` and `up[n]` are moves with n ticks left.
+/// For each state after some tick the ways there: at a level, of which 0 is work, or on the way between
+/// one and the next deeper one, by the shallower of the two and the ticks left.
 struct Column {
-    working: Ways,
-    down: Vec<Ways>,
-    asleep: Ways,
-    up: Vec<Ways>,
+    at: Vec<Ways>,
+    down: Vec<Vec<Ways>>,
+    up: Vec<Vec<Ways>>,
 }
 
 impl Column {
     fn impossible(device: &Device) -> Column {
+        let levels = device.levels.len();
+        let moves = |one: Move| vec![vec![Ways::NONE; one.ticks as usize]; levels];
         Column {
-            working: Ways::NONE,
-            down: vec![Ways::NONE; device.shut.ticks as usize],
-            asleep: Ways::NONE,
-            up: vec![Ways::NONE; device.wake.ticks as usize],
+            at: vec![Ways::NONE; levels + 1],
+            down: moves(device.shut),
+            up: moves(device.wake),
         }
     }
 
     /// The device works just before tick 0.
     fn before_the_row(device: &Device) -> Column {
-        Column {
-            working: Ways::BEGIN,
-            ..Column::impossible(device)
-        }
+        let mut column = Column::impossible(device);
+        column.at[0] = Ways::BEGIN;
+        column
     }
 
     /// The device works just after the last tick: the row ends in W or with a whole block of U.
     fn at_the_end(&self) -> Ways {
-        self.working.or(self.up[0])
+        self.at[0].or(self.up[0][0])
+    }
+
+    /// The ways to be at a level: it has stayed there, or a move to it is over. One that came up to work
+    /// has to work first.
+    fn rests(&self, level: usize) -> impl Iterator<Item = (State, Ways)> + '_ {
+        let stays = [(State::At(level), self.at[level])];
+        let fallen = level.checked_sub(1);
+        let fallen = fallen.map(|above| (State::Down(above, 0), self.down[above][0]));
+        let risen = self.up.get(level).filter(|_| level > 0);
+        let risen = risen.map(|up| (State::Up(level, 0), up[0]));
+        stays.into_iter().chain(fallen).chain(risen)
+    }
+
+    fn at_rest(&self, level: usize) -> Ways {
+        self.rests(level)
+            .fold(Ways::NONE, |ways, (_, other)| ways.or(other))
     }
 
     /// One tick on. A used tick can only be W.
     fn step(&self, device: &Device, used: bool) -> Column {
         let mut next = Column::impossible(device);
-        next.working = self.working.or(self.up[0]).stays(device.working);
+        next.at[0] = self.at_the_end().stays(device.working);
         if used {
             return next;
         }
-        let down = self.down[0].or(self.asleep);
-        let (shut, wake) = (device.shut.power, device.wake.power);
-        for left in 1..self.down.len() {
-            next.down[left - 1] = self.down[left].moves(shut);
+        let levels = device.levels.len();
+        for level in 1..=levels {
+            next.at[level] = self.at_rest(level).stays(device.power_at(level));
         }
-        for left in 1..self.up.len() {
-            next.up[left - 1] = self.up[left].moves(wake);
+        for above in 0..levels {
+            let begun = (self.at_rest(above), self.at_rest(above + 1));
+            move_on(
+                &mut next.down[above],
+                &self.down[above],
+                begun.0,
+                device.shut,
+            );
+            move_on(&mut next.up[above], &self.up[above], begun.1, device.wake);
         }
-        next.down[self.down.len() - 1] = self.working.moves(shut);
-        next.up[self.up.len() - 1] = down.moves(wake);
-        next.asleep = down.stays(device.sleeping);
         next
     }
+}
+
+/// A tick of a move, which is its first or not.
+fn move_on(next: &mut [Ways], moves: &[Ways], begun: Ways, one: Move) {
+    let last = moves.len() - 1;
+    for left in 0..last {
+        next[left] = moves[left + 1].moves(one.power);
+    }
+    next[last] = begun.moves(one.power);
 }
 
 fn used_ticks(uses: &[Use], length: u32) -> Vec<bool> {
@@ -149,11 +178,11 @@ fn cycle(uses: &[Use], length: u32) -> Option<(usize, Vec<bool>)> {
     Some((used, others))
 }
 
-/// No letter costs less than S, so that a cycle without a use is all S.
+/// No letter costs less than the deepest level's, so that a cycle without a use is all that.
 fn round_ways(device: &Device, uses: &[Use], length: u32) -> Ways {
     match cycle(uses, length) {
         Some((_, others)) => ways(device, &others).stays(device.working),
-        None => (0..length).fold(Ways::BEGIN, |ways, _| ways.stays(device.sleeping)),
+        None => (0..length).fold(Ways::BEGIN, |ways, _| ways.stays(device.deepest())),
     }
 }
 
@@ -181,53 +210,57 @@ pub fn is_tied(round: bool, device: &Device, uses: &[Use], length: u32) -> bool 
     ways.fewest < ways.most
 }
 
-/// Where a device stands after a tick, the moves with their ticks left.
+/// Where a device stands after a tick: at a level, or on the way between one and the next deeper one,
+/// with the ticks left.
 #[derive(Clone, Copy)]
 enum State {
-    Working,
-    Down(usize),
-    Asleep,
-    Up(usize),
+    At(usize),
+    Down(usize, usize),
+    Up(usize, usize),
 }
 
 impl State {
-    fn letter(self) -> char {
+    fn letter(self, device: &Device) -> char {
         match self {
-            State::Working => 'W',
-            State::Down(_) => 'D',
-            State::Asleep => 'S',
-            State::Up(_) => 'U',
+            State::At(level) => device.letter_at(level),
+            State::Down(..) => 'D',
+            State::Up(..) => 'U',
         }
     }
 
     /// The state one tick earlier on the best way here.
     fn before(self, earlier: &Column) -> State {
-        let down = (State::Down(0), earlier.down[0]);
         match self {
-            State::Working => end_state(earlier),
-            State::Down(left) if left + 1 == earlier.down.len() => State::Working,
-            State::Down(left) => State::Down(left + 1),
-            State::Up(left) if left + 1 < earlier.up.len() => State::Up(left + 1),
-            State::Asleep | State::Up(_) => better(down, (State::Asleep, earlier.asleep)),
+            State::At(0) => end_state(earlier),
+            State::At(level) => best(earlier.rests(level)),
+            State::Down(above, left) if left + 1 < earlier.down[above].len() => {
+                State::Down(above, left + 1)
+            }
+            State::Down(above, _) => best(earlier.rests(above)),
+            State::Up(above, left) if left + 1 < earlier.up[above].len() => {
+                State::Up(above, left + 1)
+            }
+            State::Up(above, _) => best(earlier.rests(above + 1)),
         }
     }
 }
 
 /// Two ways of one rank would be two rows that could be given, which rule 37 rules out.
-fn better(one: (State, Ways), other: (State, Ways)) -> State {
-    assert_ne!(one.1.rank(), other.1.rank(), "two rows to be given");
-    if one.1.rank() < other.1.rank() {
-        one.0
-    } else {
-        other.0
+fn best(all: impl Iterator<Item = (State, Ways)>) -> State {
+    let mut all: Vec<(State, Ways)> = all.collect();
+    all.sort_by_key(|(_, ways)| ways.rank());
+    if let [one, other, ..] = all[..] {
+        assert_ne!(one.1.rank(), other.1.rank(), "two rows to be given");
     }
+    all[0].0
 }
 
 fn end_state(column: &Column) -> State {
-    better(
-        (State::Working, column.working),
-        (State::Up(0), column.up[0]),
-    )
+    let ends = [
+        (State::At(0), column.at[0]),
+        (State::Up(0, 0), column.up[0][0]),
+    ];
+    best(ends.into_iter())
 }
 
 /// The best letters from work to work.
@@ -240,7 +273,7 @@ fn letters(device: &Device, ticks: &[bool]) -> Vec<char> {
     let mut letters = Vec::new();
     let mut state = end_state(&columns[ticks.len()]);
     for earlier in columns[..ticks.len()].iter().rev() {
-        letters.push(state.letter());
+        letters.push(state.letter(device));
         state = state.before(earlier);
     }
     letters.reverse();
@@ -253,7 +286,10 @@ pub fn row_given(round: bool, device: &Device, uses: &[Use], length: u32) -> Str
         return letters(device, &used_ticks(uses, length)).iter().collect();
     }
     match cycle(uses, length) {
-        None => "S".repeat(length as usize),
+        None => {
+            let deepest = device.letter_at(device.levels.len());
+            deepest.to_string().repeat(length as usize)
+        }
         Some((used, others)) => {
             let (after, before) = (length as usize - used - 1, letters(device, &others));
             let (last, first) = before.split_at(after);
@@ -307,7 +343,6 @@ impl<'a> Energies<'a> {
 #[cfg(test)]
 mod tests {
     use super::*;
-    use crate::request::Move;
 
     /// Rules 31 to 35 again, read off the finished row run by run.
     fn is_legal(row: &[u8], device: &Device, used: &[bool]) -> bool {
@@ -333,9 +368,10 @@ mod tests {
     fn energy(row: &[u8], device: &Device) -> u64 {
         let power = |letter: &u8| match letter {
             b'W' => device.working,
-            b'S' => device.sleeping,
             b'D' => device.shut.power,
-            _ => device.wake.power,
+            b'U' => device.wake.power,
+            b'S' => device.levels[0],
+            level => device.power_at(usize::from(level - b'0')),
         };
         row.iter().map(|letter| u64::from(power(letter))).sum()
     }
@@ -445,17 +481,11 @@ mod tests {
         for length in 1..=7 {
             let all: Vec<Vec<u8>> = words(length).collect();
             for (shut, wake) in MOVES {
+                let one = |(ticks, power): (u32, u32)| Move { ticks, power };
                 let device = Device {
-                    working: 5,
-                    sleeping: 1,
-                    shut: Move {
-                        ticks: shut.0,
-                        power: shut.1,
-                    },
-                    wake: Move {
-                        ticks: wake.0,
-                        power: wake.1,
-                    },
+                    shut: one(shut),
+                    wake: one(wake),
+                    ..Device::averaged(1, 5, 1, 3)
                 };
                 let unused = vec![false; length as usize];
                 let legal = |row: &Vec<u8>| {
@@ -483,5 +513,122 @@ mod tests {
     #[test]
     fn so_it_is_where_the_row_is_repeated_for_ever() {
         assert_eq!(check_all(true), (485, 6_096));
+    }
+
+    /// A legal row, with a bit for each tick that is not W.
+    struct Laid {
+        row: Vec<u8>,
+        idle: u32,
+        rank: (u64, usize),
+    }
+
+    /// All legal rows of a device with levels from work to work, laid out block by block: a tick at the
+    /// level where it is, or a whole move to the next one, down or up. After it came up to work it works.
+    fn lay_out(
+        device: &Device,
+        length: usize,
+        row: &mut Vec<u8>,
+        level: usize,
+        all: &mut Vec<Laid>,
+    ) {
+        let levels = device.levels.len();
+        if row.len() >= length {
+            if row.len() == length && level == 0 {
+                let ticks = row.iter().enumerate();
+                all.push(Laid {
+                    row: row.clone(),
+                    idle: ticks.fold(0, |idle, (tick, &letter)| {
+                        idle | u32::from(letter != b'W') << tick
+                    }),
+                    rank: (energy(row, device), moves(row)),
+                });
+            }
+            return;
+        }
+        let mut blocks = vec![(device.letter_at(level), 1, level)];
+        if level > 0 {
+            blocks.push(('U', device.wake.ticks, level - 1));
+        }
+        if level < levels && !(level == 0 && row.last() == Some(&b'U')) {
+            blocks.push(('D', device.shut.ticks, level + 1));
+        }
+        for (letter, ticks, level) in blocks {
+            let before = row.len();
+            row.extend(vec![letter as u8; ticks as usize]);
+            lay_out(device, length, row, level, all);
+            row.truncate(before);
+        }
+    }
+
+    /// Holds the row given for a pattern to all rows laid out, in a round from its first use on. One if the
+    /// tie decides.
+    fn check_laid(round: bool, device: &Device, pattern: u32, all: &[Laid], length: u32) -> u64 {
+        let used = |tick: &u32| pattern >> tick & 1 == 1;
+        let uses: Vec<Use> = (0..length)
+            .filter(used)
+            .map(|tick| (tick, tick + 1))
+            .collect();
+        let first = if round { pattern.trailing_zeros() } else { 0 };
+        let turned = pattern >> first | (pattern << (length - first)) & ((1 << length) - 1);
+        let legal = all.iter().filter(|laid| laid.idle & turned == 0);
+        let least = legal.clone().map(|laid| laid.rank.0).min().unwrap();
+        let mut cheapest: Vec<&Laid> = legal.filter(|laid| laid.rank.0 == least).collect();
+        cheapest.sort_by_key(|laid| laid.rank);
+        let mut given = row_given(round, device, &uses, length).into_bytes();
+        given.rotate_left(first as usize);
+        assert_eq!(ways_of(round, device, &uses, length).energy, least);
+        assert_eq!(given, cheapest[0].row);
+        assert!(cheapest.len() == 1 || cheapest[0].rank < cheapest[1].rank);
+        let is_tied = cheapest.last().unwrap().rank > cheapest[0].rank;
+        assert_eq!(super::is_tied(round, device, &uses, length), is_tied);
+        u64::from(is_tied)
+    }
+
+    /// T, Pw, P0 and the powers of the levels: moves cheaper than work and dearer, gaps that cost the same
+    /// at two levels and at three, levels that are never worth the way.
+    const SENSORS: [(u32, u32, u32, &[u32]); 10] = [
+        (1, 20, 9, &[8, 6, 4, 2]),
+        (1, 10, 4, &[3, 1]),
+        (1, 10, 5, &[4, 3, 2, 1]),
+        (1, 9, 9, &[3, 2, 1]),
+        (1, 6, 8, &[3, 0]),
+        (1, 5, 12, &[4, 0]),
+        (1, 30, 5, &[4, 2, 0]),
+        (1, 8, 7, &[6, 5, 1]),
+        (2, 9, 4, &[3, 1]),
+        (2, 12, 20, &[9, 1]),
+    ];
+
+    /// How often the tie decides, and the patterns.
+    fn check_levels(round: bool) -> (u64, u64) {
+        let (mut patterns, mut ties) = (0, 0);
+        for (transition, working, moving, levels) in SENSORS {
+            let device = Device {
+                levels: levels.to_vec(),
+                numbered: true,
+                ..Device::averaged(transition, working, 0, moving)
+            };
+            for length in 1..=10 {
+                let mut all = Vec::new();
+                let mut row = vec![b'W'; usize::from(round)];
+                lay_out(&device, length as usize, &mut row, 0, &mut all);
+                // A round begins with its first use here, so that it has one.
+                for pattern in u32::from(round)..1 << length {
+                    ties += check_laid(round, &device, pattern, &all, length);
+                    patterns += 1;
+                }
+            }
+        }
+        (ties, patterns)
+    }
+
+    #[test]
+    fn of_several_levels_it_is_the_only_one_too() {
+        assert_eq!(check_levels(false), (1_487, 20_460));
+    }
+
+    #[test]
+    fn so_it_is_in_a_round() {
+        assert_eq!(check_levels(true), (1_580, 20_360));
     }
 }

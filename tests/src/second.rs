@@ -45,11 +45,8 @@ impl Second {
             .collect()
     }
 
-    /// The mark, then the first kind's file with these records in the place of its own.
     pub fn bytes(&self) -> Vec<u8> {
-        let file = self.tables.bytes();
-        let rest = self.tables.count_places()[1];
-        [&MARK, &file[..3], &self.records().concat(), &file[rest..]].concat()
+        self.tables.marked(&MARK, &self.records())
     }
 }
 
@@ -214,7 +211,7 @@ mod tests {
 
     #[test]
     fn damage_meets_every_number_of_a_record() {
-        let mut met = [0; 14];
+        let mut met = [0; 27];
         for number in 0..2_000 {
             let file = damaged(&mut Random::new(9, number));
             met[usize::from(read(&file).map_or_else(|number| number, |_| 0))] += 1;

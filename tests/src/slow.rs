@@ -4,6 +4,7 @@ use crate::expect::{search, text, BUDGET};
 use crate::runner::Feed;
 use crate::second::Second;
 use crate::tables::{device_a, job, task, Tables};
+use crate::third::{Levels, Third};
 
 /// Each of them has another answer than its first piece alone.
 pub struct Slow {
@@ -54,6 +55,16 @@ fn longest() -> Tables {
     }
 }
 
+/// With four levels each.
+fn deepest() -> Vec<u8> {
+    let mut third = Third::single(longest());
+    for (device, levels) in third.tables.devices.iter_mut().zip(&mut third.levels) {
+        (device.working, device.moving) = (9, 7);
+        *levels = Levels::of(&[4, 3, 2, 1]);
+    }
+    third.bytes()
+}
+
 fn with_a_tail() -> Vec<u8> {
     let mut file = listed();
     file.push(0);
@@ -72,14 +83,15 @@ pub fn all() -> Vec<Slow> {
         slow("a piece a section", periodic(), &[2, 8, 11]),
         slow("the longest of the first kind", longest().bytes(), &[100]),
         slow(
-            "the longest accepted file",
+            "the longest of the second kind",
             Second::alike(longest()).bytes(),
-            &[100, 99],
+            &[100, 98],
         ),
+        slow("the longest accepted file", deepest(), &[100, 99, 31]),
         slow(
             "a byte after the longest",
-            [Second::alike(longest()).bytes(), vec![0]].concat(),
-            &[199],
+            [deepest(), vec![0]].concat(),
+            &[231],
         ),
         slow("a byte after the last section", with_a_tail(), &[19]),
     ]
@@ -103,5 +115,6 @@ mod tests {
             assert_eq!(slow.pieces.iter().sum::<usize>(), slow.file.len());
         }
         assert_eq!(longest().bytes().len(), 173);
+        assert_eq!(deepest().len(), 231);
     }
 }

@@ -54,6 +54,13 @@ impl Tables {
         file
     }
 
+    /// The mark of another kind, then the file with these device records in the place of its own.
+    pub fn marked(&self, mark: &[u8], records: &[Vec<u8>]) -> Vec<u8> {
+        let file = self.bytes();
+        let rest = self.count_places()[1];
+        [mark, &file[..3], &records.concat(), &file[rest..]].concat()
+    }
+
     /// Where the three count bytes stand: devices, tasks, jobs.
     pub fn count_places(&self) -> [usize; 3] {
         let tasks = 3 + 7 * self.devices.len();

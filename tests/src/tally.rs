@@ -2,14 +2,14 @@
 
 use crate::cases::Kind;
 use crate::listing::uses;
-use crate::request::Request;
+use crate::request::{Request, MOST_LEVELS};
 use crate::rows::{is_tied, row_given};
 use std::cmp::Ordering;
 use std::collections::BTreeMap;
 use std::fmt::Write;
 
 /// The refusals that a search on a file can give. 0 is added to them below.
-const REFUSALS: [u8; 15] = [1, 2, 3, 4, 5, 6, 7, 8, 9, 10, 11, 12, 13, 19, 20];
+const REFUSALS: [u8; 16] = [1, 2, 3, 4, 5, 6, 7, 8, 9, 10, 11, 12, 13, 19, 20, 26];
 
 const MOVING: [(Ordering, &str); 3] = [
     (Ordering::Less, "less than work"),
@@ -34,6 +34,10 @@ pub struct Rows {
     ties: u64,
     /// Those of a device whose two moves are not alike.
     apart: u64,
+    /// Those of devices with several levels in which the tie decides, and all of them by the deepest level
+    /// at which they stay.
+    level_ties: u64,
+    depths: [u64; MOST_LEVELS as usize + 1],
     /// Of rounds: in which the tie decides, that are not at work at the seam, and that have no use.
     round_ties: u64,
     over_the_seam: u64,
@@ -51,11 +55,18 @@ impl Rows {
             self.apart += u64::from(device.shut != device.wake);
             let tied = u64::from(is_tied(request.round, device, &uses, request.horizon));
             self.ties += tied;
+            let row = row_given(request.round, device, &uses, request.horizon);
+            if device.levels.len() > 1 {
+                let level = |letter: char| letter.to_digit(10).unwrap_or(0);
+                let deepest = row.chars().map(level).max().unwrap_or(0);
+                self.depths[deepest as usize] += 1;
+                self.level_ties += tied;
+            }
             if request.round {
-                let row = row_given(true, device, &uses, request.horizon);
+                let is_over = !uses.is_empty() && !row.starts_with(['W', 'D']);
                 self.round_ties += tied;
                 self.unused += u64::from(uses.is_empty());
-                self.over_the_seam += u64::from(!uses.is_empty() && row.starts_with(['S', 'U']));
+                self.over_the_seam += u64::from(is_over);
             }
         }
     }
@@ -69,6 +80,19 @@ impl Rows {
         ];
         let missed = met.iter().filter(|(count, _)| *count == 0);
         missed.map(|(_, name)| name.to_string()).collect()
+    }
+
+    /// The same of devices with several levels.
+    pub fn levels_never_met(&self) -> Vec<String> {
+        let depths = self.depths.iter().enumerate();
+        let missed = depths.filter(|(_, count)| **count == 0);
+        let mut missed: Vec<String> = missed
+            .map(|(level, _)| format!("a row that stays at level {level} at most"))
+            .collect();
+        if self.level_ties == 0 {
+            missed.push("a tie of levels".to_string());
+        }
+        missed
     }
 
     pub fn never_met(&self) -> Vec<String> {
@@ -94,6 +118,10 @@ impl Rows {
         }
         text += &format!("rows in which the tie decides: {}\n", self.ties);
         text += &format!("rows of devices whose moves differ: {}\n", self.apart);
+        text += &format!(
+            "rows of devices with several levels in which it decides: {}, by the deepest at which they stay: {:?}\n",
+            self.level_ties, self.depths
+        );
         text + &format!(
             "rows of rounds in which it decides: {}, asleep over the seam: {}, without a use: {}\n",
             self.round_ties, self.over_the_seam, self.unused
@@ -117,6 +145,7 @@ impl Tally {
         let mut missed: Vec<String> = numbers.iter().map(u8::to_string).collect();
         missed.extend(self.rows.never_met());
         missed.extend(self.rows.rounds_never_met());
+        missed.extend(self.rows.levels_never_met());
         missed
     }
 
@@ -190,7 +219,7 @@ mod tests {
     #[test]
     fn what_was_not_met_is_missed() {
         let mut tally = Tally::default();
-        for number in (0..=13).chain([20]) {
+        for number in (0..=13).chain([20, 26]) {
             tally.add(Kind::Jobs, number, 1);
         }
         for moving in [3, 9] {
@@ -198,9 +227,12 @@ mod tests {
         }
         let rounds = tally.rows.rounds_never_met();
         assert_eq!(rounds.len(), 3);
+        let levels = tally.rows.levels_never_met();
+        assert_eq!(levels.len(), 6);
         let missed = [
             &["19", "moving costs as much", "a tie", "moves apart"].map(String::from),
             &rounds[..],
+            &levels[..],
         ];
         assert_eq!(tally.never_met(), missed.concat());
         tally.add(Kind::Tight, 19, 2);
@@ -208,7 +240,7 @@ mod tests {
         let mut apart = alone(9);
         apart.devices[0].wake.power = 3;
         tally.rows.add(&apart, &[]);
-        assert_eq!(tally.never_met(), rounds);
+        assert_eq!(tally.never_met(), [rounds, levels].concat());
     }
 
     /// A round of four ticks with one use of two, or with none. Two ticks of moves cost as much as work.
@@ -237,6 +269,26 @@ mod tests {
         assert_eq!(rows.rounds_never_met(), ["a tie in a round"]);
         rows.add(&round(1, 5), &[1]);
         assert!(rows.rounds_never_met().is_empty());
+    }
+
+    /// A device of four levels alone: the longer it has, the deeper it goes. In five ticks the first two
+    /// levels cost the same.
+    #[test]
+    fn so_are_levels() {
+        let mut rows = Rows::default();
+        let mut add = |horizon| {
+            let mut request = alone(9);
+            request.horizon = horizon;
+            request.devices[0].working = 20;
+            request.devices[0].levels = vec![8, 6, 4, 2];
+            request.devices[0].numbered = true;
+            rows.add(&request, &[]);
+            rows.levels_never_met()
+        };
+        for (horizon, missed) in [(1, 5), (4, 4), (7, 3), (11, 2), (14, 1)] {
+            assert_eq!(add(horizon).len(), missed, "{horizon}");
+        }
+        assert!(add(5).is_empty());
     }
 
     #[test]

@@ -146,8 +146,8 @@ impl Visitor<'_> {
             .sum()
     }
 
-    /// The ticks before the first placed use of a round are charged at the power of sleep; the rest up
-    /// to the end of the last one is a list of its own.
+    /// The ticks before the first placed use of a round are charged at the power of the deepest level; the
+    /// rest up to the end of the last one is a list of its own.
     fn floor_of(&mut self, device: usize) -> u64 {
         let placed = self.uses(device);
         let first = match placed.first() {
@@ -169,6 +169,6 @@ impl Visitor<'_> {
         let powers = &self.request.devices[device];
         self.floors.least(device, &uses)
             + u64::from(powers.working) * u64::from(to_come)
-            + u64::from(powers.sleeping) * u64::from(first + others)
+            + u64::from(powers.deepest()) * u64::from(first + others)
     }
 }

@@ -4,18 +4,23 @@
 use crate::faults;
 use crate::random::Random;
 use crate::request::{read_as, unmarked, FileKind, Refusal};
-use crate::second::{apart, Second, MARK};
+use crate::second::{self, apart, Second};
 use crate::tables::Tables;
+use crate::third::{self, deepened, Third};
 use crate::valid;
 
 /// Of devices, tasks and jobs: how many records tables have at most.
 pub const MOST: [usize; 3] = [8, 8, 16];
 
-/// The bytes of a record, by kind.
-fn sizes(kind: FileKind) -> [usize; 3] {
-    match kind {
-        FileKind::First => [7, 5, 7],
-        FileKind::Second => [10, 5, 7],
+/// How many bytes the record of a part has that these bytes begin with. In the third kind a device tells
+/// its levels in its sixth byte, of which at most four are listed.
+fn size(kind: FileKind, part: usize, record: &[u8]) -> usize {
+    match (part, kind) {
+        (0, FileKind::First) => 7,
+        (0, FileKind::Second) => 10,
+        (0, FileKind::Third) => 6 + 2 * usize::from(record[5].min(4)),
+        (1, _) => 5,
+        _ => 7,
     }
 }
 
@@ -24,13 +29,15 @@ fn kind_byte(kind: FileKind) -> u8 {
     match kind {
         FileKind::First => 1,
         FileKind::Second => 2,
+        FileKind::Third => 3,
     }
 }
 
 fn mark(kind: FileKind) -> &'static [u8] {
     match kind {
         FileKind::First => &[],
-        FileKind::Second => &MARK,
+        FileKind::Second => &second::MARK,
+        FileKind::Third => &third::MARK,
     }
 }
 
@@ -58,7 +65,7 @@ impl Given {
         let lengths = [tables.devices.len(), tables.tasks.len(), tables.jobs.len()];
         let table = |part: usize| {
             let from = tables.count_places()[part] + 1;
-            let size = sizes(FileKind::First)[part];
+            let size = size(FileKind::First, part, &[]);
             let records = file[from..].chunks(size).map(<[u8]>::to_vec);
             Table {
                 count: lengths[part] as u16,
@@ -77,6 +84,18 @@ impl Given {
         given.kind = FileKind::Second;
         given.tables[0].records = second.records();
         given.tables[0].records.truncate(MOST[0]);
+        given
+    }
+
+    /// Of a device with too many levels four are listed.
+    pub fn of_third(third: &Third) -> Given {
+        let mut given = Given::of(&third.tables);
+        given.kind = FileKind::Third;
+        given.tables[0].records = third.records();
+        given.tables[0].records.truncate(MOST[0]);
+        for record in &mut given.tables[0].records {
+            record.resize(size(FileKind::Third, 0, record), 0);
+        }
         given
     }
 
@@ -120,20 +139,24 @@ pub fn listed(file: &[u8]) -> Written {
     let mut at = 2;
     let mut counts = Vec::new();
     let mut records = Vec::new();
-    for size in sizes(kind) {
-        let end = at + 1 + usize::from(file[at]) * size;
-        counts.extend([0, file[at]]);
-        records.extend(&file[at + 1..end]);
-        at = end;
+    for part in 0..3 {
+        let count = file[at];
+        counts.extend([0, count]);
+        at += 1;
+        for _ in 0..count {
+            let end = at + size(kind, part, &file[at..]);
+            records.extend(&file[at..end]);
+            at = end;
+        }
     }
     let bytes = [&[kind_byte(kind)], &file[..2], &counts, &records].concat();
     Ok((request.horizon as u16, bytes))
 }
 
-/// Tables of either kind, valid ones and such with faults: in a record, in a count, in the horizon
+/// Tables of any kind, valid ones and such with faults: in a record, in a count, in the horizon
 /// field.
 pub fn draw(random: &mut Random) -> Given {
-    let kind = random.pick(&[FileKind::First, FileKind::First, FileKind::Second]);
+    let kind = random.pick(&[FileKind::First, FileKind::Second, FileKind::Third]);
     draw_of(random, kind)
 }
 
@@ -155,25 +178,30 @@ pub fn draw_of(random: &mut Random, kind: FileKind) -> Given {
     let mut given = match kind {
         FileKind::First => Given::of(&tables),
         FileKind::Second => Given::of_second(&apart(random, tables)),
+        FileKind::Third => {
+            let mut third = deepened(random, tables);
+            if random.one_in(6) {
+                third::spoil(random, &mut third);
+            }
+            Given::of_third(&third)
+        }
     };
-    let sizes = sizes(kind);
     match random.within(1, 8) {
         1 => {
             let part = random.index(3);
             let count = random.pick(&[0, 1, 8, 9, 16, 17, 255, 256, 257, 264, 512, 65_535]);
-            recount(
-                random,
-                &mut given.tables[part],
-                (MOST[part], sizes[part]),
-                count,
-            );
+            recount(random, &mut given, part, count);
         }
         2 => {
             let part = random.index(3);
             let table = &mut given.tables[part];
             if !table.records.is_empty() {
                 let place = random.index(table.records.len());
-                table.records[place][random.index(sizes[part])] = random.u8(0, 255);
+                let record = &mut table.records[place];
+                let length = record.len();
+                record[random.index(length)] = random.u8(0, 255);
+                // Another level count has other powers with it.
+                record.resize(size(kind, part, record), 0);
             }
         }
         3 => given.horizon = random.pick(&[0, 1, 4_096, 4_097, 0xFF02, 0xFF03, 65_535]),
@@ -182,13 +210,16 @@ pub fn draw_of(random: &mut Random, kind: FileKind) -> Given {
     given
 }
 
-/// Another count, with the records that go with it: so many at most, of so many bytes.
-fn recount(random: &mut Random, table: &mut Table, (most, size): (usize, usize), count: u16) {
+/// Another count, with the records that go with it, as many as there is room for.
+fn recount(random: &mut Random, given: &mut Given, part: usize, count: u16) {
+    let table = &mut given.tables[part];
     table.count = count;
-    let length = usize::from(count).min(most);
+    let length = usize::from(count).min(MOST[part]);
     table.records.truncate(length);
     while table.records.len() < length {
-        table.records.push(random.bytes(size));
+        let mut record = random.bytes(14);
+        record.truncate(size(given.kind, part, &record));
+        table.records.push(record);
     }
 }
 
@@ -251,13 +282,7 @@ mod tests {
         for count in [17, 255, 256, 257, 264, 65_535] {
             for (part, number) in [(0, 3), (1, 6), (2, 12)] {
                 let mut given = Given::of(&small());
-                let limits = (MOST[part], sizes(given.kind)[part]);
-                recount(
-                    &mut Random::new(1, 1),
-                    &mut given.tables[part],
-                    limits,
-                    count,
-                );
+                recount(&mut Random::new(1, 1), &mut given, part, count);
                 let first = given.tables[part].records[0].clone();
                 given.tables[part].records.fill(first);
                 assert_eq!(written(&given), Err(number), "{count}");
@@ -267,7 +292,7 @@ mod tests {
 
     #[test]
     fn every_number_but_1_and_2_is_met() {
-        let mut met = [0; 16];
+        let mut met = [0; 27];
         for number in 0..5_000 {
             let given = draw(&mut Random::new(12, number));
             match written(&given) {
@@ -278,8 +303,8 @@ mod tests {
                 Err(number) => met[usize::from(number)] += 1,
             }
         }
-        for (number, count) in met.iter().enumerate().take(14) {
-            assert_eq!((1..=2).contains(&number), *count < 30, "{met:?}");
-        }
+        let numbers = (0..27).filter(|&number| met[number] >= 30);
+        let expected = [0].into_iter().chain(3..=13).chain([26]);
+        assert!(numbers.eq(expected), "{met:?}");
     }
 }

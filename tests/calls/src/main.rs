@@ -5,6 +5,7 @@ mod catalogue;
 mod dear;
 mod expected;
 mod figures;
+mod levels;
 mod library;
 mod looser;
 mod mend;
@@ -26,8 +27,9 @@ const SEED: u64 = 14;
 const FILES: u64 = 1_500;
 const LEAST_CALLS: u64 = 20_000;
 
-/// 255 is a door's own.
+/// All numbers that a request can bring; 255 is a door's own.
 const NUMBERS: std::ops::RangeInclusive<u8> = 0..=20;
+const FURTHER: [u8; 2] = [26, 255];
 
 /// The stream of the drawn files is another: these draw what goes with a file.
 const STREAM: u64 = 1 << 40;
@@ -218,6 +220,7 @@ fn test() -> Result<String, String> {
     }
     dear::test(&mut tester)?;
     rounds::test(&mut tester)?;
+    levels::test(&mut tester)?;
     writing::test(&mut tester)?;
     catalogue::test(&mut tester)?;
     sheets::test(&mut tester)?;
@@ -241,7 +244,7 @@ fn test() -> Result<String, String> {
     println!("looser windows: {}", looser::test()?);
     let is_met = |number: &u8| tester.met.keys().any(|(_, met)| met == number);
     let missed: Vec<u8> = NUMBERS
-        .chain([255])
+        .chain(FURTHER)
         .filter(|number| !is_met(number))
         .collect();
     if !missed.is_empty() {

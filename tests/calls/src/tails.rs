@@ -28,7 +28,7 @@ pub fn is_blank(bytes: &[u8]) -> bool {
 /// How often each number came, if these did and no others. The door was shut so many times besides.
 pub fn only(
     name: &str,
-    came: [u64; 21],
+    came: [u64; 27],
     numbers: &[u8],
     shut: u64,
 ) -> Result<BTreeMap<u8, u64>, String> {

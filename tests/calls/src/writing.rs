@@ -12,8 +12,8 @@ const TABLES: u64 = 10_000;
 const FILES: u64 = 6_000;
 
 /// What the tables of a file can be refused with, and what a file can be.
-const WRITE_NUMBERS: [u8; 14] = [0, 3, 4, 5, 6, 7, 8, 9, 10, 11, 12, 13, 15, SHUT];
-const TABLES_NUMBERS: [u8; 16] = [0, 1, 2, 3, 4, 5, 6, 7, 8, 9, 10, 11, 12, 13, 15, SHUT];
+const WRITE_NUMBERS: [u8; 15] = [0, 3, 4, 5, 6, 7, 8, 9, 10, 11, 12, 13, 15, 26, SHUT];
+const TABLES_NUMBERS: [u8; 17] = [0, 1, 2, 3, 4, 5, 6, 7, 8, 9, 10, 11, 12, 13, 15, 26, SHUT];
 
 pub fn test(tester: &mut Tester) -> Result<(), String> {
     for number in 0..TABLES {
@@ -53,7 +53,7 @@ impl Tester {
             1 => tables.push(self.random.u8(0, 255)),
             2 => drop(tables.pop()),
             3 => tables.truncate(self.random.index(9)),
-            _ => tables[0] = self.random.pick(&[0, 3, 4, 255]),
+            _ => tables[0] = self.random.pick(&[0, 4, 5, 255]),
         }
         let mut after = self.buffers(300);
         let expected = after.untouched(SHUT);
