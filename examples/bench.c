@@ -15,7 +15,7 @@ static unsigned number(const uint8_t *bytes, int count) {
 }
 
 static const char *reason(int refusal) {
-    if (refusal <= 13) return "the file is not a request";
+    if (refusal <= 13 || refusal == 26) return "the file is not a request";
     if (refusal <= 15) return "a buffer has the wrong size";
     if (refusal <= 18) return "the start times are not feasible";
     return refusal == 19 ? "no schedule meets all deadlines" : "the budget is too small to tell";
@@ -37,7 +37,7 @@ int main(void) {
 
     floe_rows(file, size, starts, 2 * jobs, rows, sizeof rows, result, sizeof result);
     unsigned horizon = number(result + 1, 2);
-    const uint8_t *sections = file[0] == 0xFF ? file + 2 : file; /* after the mark of the second kind */
+    const uint8_t *sections = file[0] == 0xFF ? file + 2 : file; /* after the mark of another kind than the first */
     for (unsigned device = 0; device < sections[2]; device++)
         printf("device %u %.*s\n", device, (int)horizon, (const char *)rows + device * horizon);
     return 0;

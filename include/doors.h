@@ -18,9 +18,9 @@ uint8_t door_verdict(const uint8_t *file, size_t file_len, const uint8_t *starts
 uint8_t door_margins(const uint8_t *file, size_t file_len, const uint8_t *starts, size_t starts_len, uint8_t *out, size_t out_len, uint8_t *result,
                      size_t result_len);
 
-/* Tables as bytes: kind (1 byte: 1 or 2), horizon field, device count, task count and job count (2 each), then the first 8 device records at most, the first
- * 8 tasks and the first 16 jobs, as in a file of that kind: a device has 7 bytes in the first kind and 10 in the second. A door returns 255 for tables of
- * another length or kind.
+/* Tables as bytes: kind (1 byte: 1, 2 or 3), horizon field, device count, task count and job count (2 each), then the first 8 device records at most, the
+ * first 8 tasks and the first 16 jobs, as in a file of that kind: a device has 7 bytes in the first kind, 10 in the second, and in the third 6 and two for
+ * each level that it says it has, but at most 14. A door returns 255 for tables of another length or kind.
  *
  * The file that the tables make; the count of the answer is its bytes. */
 uint8_t door_write(const uint8_t *tables, size_t tables_len, uint8_t *out, size_t out_len, uint8_t *result, size_t result_len);

@@ -32,7 +32,7 @@ uint8_t floe_check(const uint8_t *file, size_t file_len, uint8_t *result, size_t
 uint8_t floe_search(const uint8_t *file, size_t file_len, uint32_t budget, uint8_t *starts, size_t starts_len, uint8_t *result, size_t result_len);
 
 /* For start times that are feasible, two bytes each and exactly one for each job: the row of every device, one letter a tick (W working, D going down,
- * S asleep, U coming up), that of device k from byte k x horizon on. `rows` has at least devices x horizon bytes; the rest stays as it was. */
+ * S asleep, or in a file of the third kind 1 to 4 for the level, U coming up), that of device k from byte k x horizon on. `rows` has at least devices x horizon bytes; the rest stays as it was. */
 uint8_t floe_rows(const uint8_t *file, size_t file_len, const uint8_t *starts, size_t starts_len, uint8_t *rows, size_t rows_len, uint8_t *result,
                   size_t result_len);
 

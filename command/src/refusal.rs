@@ -34,6 +34,7 @@ fn meaning(number: u8) -> &'static str {
         21 => "a part number is not digits and capital letters, or there are more than 64 parts",
         22 => "a part number stands twice in the catalogue",
         23 => "a wanted part that the catalogue lacks",
+        26 => "a level count outside 1 to 4",
         27 => "a stray quote, or one that is open at the end of the line",
         28 => "not as many fields as the line has to have",
         29 => "a field that is not a number, or one that is too large",
@@ -93,6 +94,7 @@ fn fault(number: u8, file: &File, place: &Place) -> Option<String> {
         (3, Part::DeviceCount) => format!("{} devices, at most 8", counted(count)),
         (4, Part::Device(_)) => no_time(file.kind, record)?,
         (5, Part::Device(_)) => powers(file.kind, record)?,
+        (26, Part::Device(_)) => level_count(file.kind, record)?,
         (6, Part::TaskCount) => format!("{} tasks, at most 8", counted(count)),
         (7, Part::Task(_)) => format!("period {} is outside 1 to 4096", task(0)),
         (8, Part::Task(_)) if task(1) == 0 => "running time 0".to_string(),
@@ -133,12 +135,25 @@ fn no_time(kind: &Kind, record: &[u8]) -> Option<String> {
     Some(format!("a {name} of 0"))
 }
 
-/// The first power that is not above that of sleep, by the letters whose powers they are.
+fn level_count(kind: &Kind, record: &[u8]) -> Option<String> {
+    let figures = kind.figures(record);
+    let (_, count) = figures.into_iter().find(|(name, _)| *name == "levels")?;
+    Some(match count {
+        0 => "0 levels, at least 1".to_string(),
+        count => format!("{count} levels, at most 4"),
+    })
+}
+
+/// The first power that is not above that of the sleep below it, by the letters whose powers they are:
+/// moving and work stand above the first level, and each level above the next.
 fn powers(kind: &Kind, record: &[u8]) -> Option<String> {
-    let named = |letter| kind.named_power(record, letter);
-    let (asleep, least) = named(b'S')?;
-    b"UDW".iter().find_map(|&letter| {
-        let (name, power) = named(letter)?;
+    let levels = kind.levels(record);
+    let first = *levels.first()?;
+    let moves = b"UDW".iter().map(|&letter| (letter, first));
+    let falls = levels.windows(2).map(|pair| (pair[0], pair[1]));
+    moves.chain(falls).find_map(|(above, below)| {
+        let (name, power) = kind.named_power(record, above)?;
+        let (asleep, least) = kind.named_power(record, below)?;
         (power <= least).then(|| format!("{asleep} {least} is not below {name} {power}"))
     })
 }

@@ -172,7 +172,9 @@ mod tests {
     fn each_example_prints_what_it_says() {
         let examples = all(&folder()).unwrap();
         let names: Vec<&str> = examples.iter().map(|each| each.name.as_str()).collect();
-        let wanted = ["budget", "h4", "none", "p3", "p9", "table2", "table3"];
+        let wanted = [
+            "budget", "h4", "j10", "none", "p3", "p9", "table2", "table3",
+        ];
         assert_eq!(names, wanted);
         for example in &examples {
             let printed = text(&search(&example.file, BUDGET));
@@ -190,6 +192,8 @@ mod tests {
             "device 1 3 9 1 4 2",
             "kind 2\ndevice 1 5 1 3",
             "device 1 5 1 3\nkind 2",
+            "kind 3\ndevice 1 10 4 2 3",
+            "kind 3\ndevice 1 10 4 1 3 1",
         ] {
             assert!(parse("wrong", line).is_err(), "{line}");
         }
@@ -202,5 +206,10 @@ mod tests {
             .file;
         let device = [1, 3, 0, 9, 0, 1, 0, 4, 0, 2];
         assert_eq!(file, [&[0xFF, 2, 0, 5, 1][..], &device, &[0, 0]].concat());
+        let file = parse("third", "kind 3\nhorizon 5\ndevice 1 10 4 2 3 1")
+            .unwrap()
+            .file;
+        let device = [1, 0, 10, 0, 4, 2, 0, 3, 0, 1];
+        assert_eq!(file, [&[0xFF, 3, 0, 5, 1][..], &device, &[0, 0]].concat());
     }
 }

@@ -117,6 +117,8 @@ pub fn overview() -> String {
   # a comment\n
 After a first line `kind 2` waking and shutting down have times and powers of their own:\n
   device 1 3 9 1 4 2    wake time, shut time, Pw, Ps, wake power, shut power\n
+After `kind 3` a device has one to four sleep levels:\n
+  device 1 10 4 2 3 1   T, Pw, P0, how many levels, the power of each\n
 START is a start time for each job, in job order. CATALOGUE has lines `part NUMBER T Pw Ps P0`;
 build takes the horizon, the tasks and the jobs from its REQUEST. Both may be comma-separated sheets
 instead, NUMBER,T,Pw,Ps,P0 and release,deadline,running time,device set; then --horizon N gives the

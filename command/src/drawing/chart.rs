@@ -18,9 +18,14 @@ const PROCESSOR: f64 = 30.0;
 const JOB: f64 = 20.0;
 const DEVICE: f64 = 46.0;
 
-/// Heights of a device at work and asleep.
+/// Heights of a device at work and at its deepest sleep.
 pub const HIGH: f64 = 28.0;
 pub const LOW: f64 = 5.0;
+
+/// The height between these two, of which 1 is the first and 0 the other.
+fn height(part: f64) -> f64 {
+    LOW + (HIGH - LOW) * part
+}
 
 /// What is narrower than this would not be seen.
 const THINNEST: f64 = 1.0;
@@ -53,7 +58,12 @@ pub fn picture(round: &Round) -> String {
     chart.devices();
     let grid = chart.grid(top);
     chart.sum();
-    let y = legend::draw(&mut chart.svg, EDGE, chart.y + 34.0, width - EDGE);
+    let y = legend::draw(
+        &mut chart.svg,
+        (EDGE, width - EDGE),
+        chart.y + 34.0,
+        round.asleep,
+    );
     let ticks = grouped(round.horizon as u64);
     let title = format!(
         "One round of {ticks} ticks, energy {}",
@@ -95,12 +105,13 @@ fn ticks((from, to): Stretch) -> String {
     }
 }
 
-fn state(letter: u8) -> &'static str {
+fn state(letter: u8) -> String {
     match letter {
-        b'W' => "working",
-        b'D' => "going down",
-        b'U' => "coming up",
-        _ => "asleep",
+        b'W' => "working".to_string(),
+        b'D' => "going down".to_string(),
+        b'U' => "coming up".to_string(),
+        b'1'..=b'4' => format!("asleep at level {}", letter as char),
+        _ => "asleep".to_string(),
     }
 }
 
@@ -287,13 +298,23 @@ impl Chart<'_> {
         let (from, to) = (self.scale.x(run.ticks.0), self.scale.x(run.ticks.1));
         match run.letter {
             b'W' => self.working(device, run, base, &title),
-            b'D' | b'U' => slope(&mut self.svg, run.letter, (from, to), base, Some(&title)),
-            _ => {
-                let area = self.area(run.ticks, base - LOW, LOW);
+            b'D' | b'U' => {
+                let points = [(from, height(run.from)), (to, height(run.to))];
+                slope(&mut self.svg, run.letter, points, base, Some(&title));
+            }
+            letter => {
+                let height = height(run.to);
+                let area = self.area(run.ticks, base - height, height);
                 self.svg.rect("asleep", area, Some(&title));
-                let count = run.ticks.1 - run.ticks.0;
-                let labels = [format!("asleep {}", grouped(count as u64))];
-                self.label("small middle", run.ticks, base - LOW - 4.0, &labels);
+                let count = grouped((run.ticks.1 - run.ticks.0) as u64);
+                let labels = match letter {
+                    b'1'..=b'4' => vec![
+                        format!("level {}: {count}", letter as char),
+                        (letter as char).to_string(),
+                    ],
+                    _ => vec![format!("asleep {count}")],
+                };
+                self.label("small middle", run.ticks, base - height - 4.0, &labels);
             }
         }
     }
@@ -337,12 +358,10 @@ pub fn flag(svg: &mut Svg, x: f64, y: f64, side: f64) {
     svg.polygon("flag", &points, None);
 }
 
-/// A move down (D) or up (U), between the heights of work and of sleep.
-pub fn slope(svg: &mut Svg, letter: u8, (from, to): (f64, f64), base: f64, title: Option<&str>) {
-    let (class, left, right) = match letter {
-        b'D' => ("down", HIGH, LOW),
-        _ => ("up", LOW, HIGH),
-    };
+/// A move down (D) or up (U), from a place and a height to others.
+pub fn slope(svg: &mut Svg, letter: u8, ends: [(f64, f64); 2], base: f64, title: Option<&str>) {
+    let class = if letter == b'D' { "down" } else { "up" };
+    let [(from, left), (to, right)] = ends;
     let points = [
         (from, base - left),
         (to, base - right),

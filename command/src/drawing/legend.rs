@@ -9,6 +9,7 @@ const LINE: f64 = 42.0;
 type Draw = fn(&mut Svg, f64, f64);
 
 struct Entry {
+    /// Nothing for sleep, of which the kind of the request has the words.
     words: &'static str,
     /// How wide the shape is, and how it is drawn from the left end of its base line.
     width: f64,
@@ -36,13 +37,11 @@ const ENTRIES: [Entry; 8] = [
         rect(svg, "unused", x, base, HIGH)
     }),
     entry("D: going down", SWATCH, |svg, x, base| {
-        slope(svg, b'D', (x, x + SWATCH), base, None)
+        slope(svg, b'D', [(x, HIGH), (x + SWATCH, LOW)], base, None)
     }),
-    entry("S: asleep", SWATCH, |svg, x, base| {
-        rect(svg, "asleep", x, base, LOW)
-    }),
+    entry("", SWATCH, |svg, x, base| rect(svg, "asleep", x, base, LOW)),
     entry("U: coming up", SWATCH, |svg, x, base| {
-        slope(svg, b'U', (x, x + SWATCH), base, None)
+        slope(svg, b'U', [(x, LOW), (x + SWATCH, HIGH)], base, None)
     }),
 ];
 
@@ -56,16 +55,21 @@ fn rect(svg: &mut Svg, class: &str, x: f64, base: f64, height: f64) {
     svg.rect(class, area, None);
 }
 
-/// Draws the legend into lines that end before `right`, and says where it ends.
-pub fn draw(svg: &mut Svg, left: f64, top: f64, right: f64) -> f64 {
+/// Draws the legend into lines from `left` that end before `right`, and says where it ends.
+pub fn draw(svg: &mut Svg, (left, right): (f64, f64), top: f64, asleep: &str) -> f64 {
     let (mut x, mut base) = (left, top + HIGH);
     for entry in &ENTRIES {
-        let width = entry.width + 7.0 + text_width(entry.words, 10.5);
+        let words = if entry.words.is_empty() {
+            asleep
+        } else {
+            entry.words
+        };
+        let width = entry.width + 7.0 + text_width(words, 10.5);
         if x > left && x + width > right {
             (x, base) = (left, base + LINE);
         }
         (entry.draw)(svg, x, base);
-        svg.text("soft", x + entry.width + 7.0, base - 5.0, entry.words);
+        svg.text("soft", x + entry.width + 7.0, base - 5.0, words);
         x += width + 20.0;
     }
     base

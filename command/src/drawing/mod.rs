@@ -1,6 +1,7 @@
 //! The picture of a round, as one SVG.
 
 mod chart;
+mod heights;
 mod legend;
 mod scale;
 mod style;
@@ -30,11 +31,14 @@ impl JobLine {
     }
 }
 
-/// A run of one letter in a device's row.
-#[derive(Clone, Copy, Debug, PartialEq, Eq)]
+/// A run of one letter in a device's row, and how high the device stands before and after it: 1 is at
+/// work, and 0 at its deepest level.
+#[derive(Clone, Copy, Debug, PartialEq)]
 pub struct Run {
     pub letter: u8,
     pub ticks: Stretch,
+    pub from: f64,
+    pub to: f64,
 }
 
 /// What is drawn of a device.
@@ -52,6 +56,8 @@ pub struct Round {
     pub energy: u64,
     /// How many vertices were searched, if the plan was found so.
     pub count: Option<u32>,
+    /// What the letters of sleep are.
+    pub asleep: &'static str,
 }
 
 fn disagreement(what: &str) -> Failure {
@@ -94,6 +100,7 @@ impl Round {
                     devices,
                     energy,
                     count: plan.count,
+                    asleep: tables.kind.asleep,
                 })
             }
             _ => Err(disagreement("the energies of the devices")),
@@ -109,22 +116,7 @@ fn device_line(kind: &Kind, record: &[u8], row: &[u8]) -> Option<DeviceLine> {
         .collect();
     Some(DeviceLine {
         figures: kind.figures(record),
-        runs: runs(row),
+        runs: heights::runs(kind, record, row)?,
         energy: powers?.into_iter().map(u64::from).sum(),
     })
-}
-
-fn runs(row: &[u8]) -> Vec<Run> {
-    let mut at = 0;
-    let pieces = row.chunk_by(|one, next| one == next);
-    pieces
-        .map(|piece| {
-            let from = at;
-            at += piece.len();
-            Run {
-                letter: piece[0],
-                ticks: (from, at),
-            }
-        })
-        .collect()
 }

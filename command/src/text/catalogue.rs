@@ -14,7 +14,7 @@ pub struct Catalogue {
 
 pub fn read(text: &[u8]) -> Result<Catalogue, Fault> {
     let mut catalogue = Catalogue::default();
-    let fields = FIRST.device_fields(4);
+    let fields = FIRST.device_fields();
     let names: Vec<&str> = ["part number"]
         .into_iter()
         .chain(fields.iter().map(|field| field.name))

@@ -8,7 +8,8 @@
 //! ```
 //!
 //! A request of the second kind has a line `kind 2` before all others, and its devices are
-//! `device 1 3 9 1 4 2`: wake, shut, Pw, Ps, Pwake, Pshut.
+//! `device 1 3 9 1 4 2`: wake, shut, Pw, Ps, Pwake, Pshut. After `kind 3` they are `device 1 10 4 2 3 1`:
+//! T, Pw, P0, how many levels, and the power of each.
 //!
 //! Nothing is judged here but what has no place in a file: the library refuses the rest.
 

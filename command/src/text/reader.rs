@@ -63,8 +63,7 @@ fn take(read: &mut Text, line: &Line, is_first: bool) -> Result<(), Fault> {
             places.horizon = Some(line.number);
         }
         "device" => {
-            let fields = tables.kind.device_fields(line.words.len() - 1);
-            let device = tables.kind.device_record(&numbers(line, fields)?);
+            let device = device(line, tables.kind)?;
             let (table, lines) = (&mut tables.devices, &mut places.devices);
             add(table, lines, line.number, device, MOST_DEVICES);
         }
@@ -122,6 +121,27 @@ fn numbers(line: &Line, fields: &[Field]) -> Result<Vec<Vec<u8>>, Fault> {
     let words = line.arguments(&names(fields))?;
     let pairs = words.iter().zip(fields);
     pairs.map(|(word, field)| number(word, field)).collect()
+}
+
+/// The record of a device line. Where there are levels, how many powers it has is what it says itself.
+fn device(line: &Line, kind: &Kind) -> Result<Vec<u8>, Fault> {
+    let fields = kind.device_fields();
+    let Some(words) = line.words.get(1..=fields.len()) else {
+        return Ok(numbers(line, fields)?.concat());
+    };
+    let further = match words.last().zip(fields.last()) {
+        Some((word, field)) if kind.has_levels => {
+            let levels = number(word, field)?.first().copied().unwrap_or(0);
+            kind.further_fields(levels.into(), line.words.len() - 1)
+        }
+        _ => Vec::new(),
+    };
+    let words = line.arguments(&[names(fields), names(&further)].concat())?;
+    let mut device = Vec::new();
+    for (word, field) in words.iter().zip(fields.iter().chain(&further)) {
+        device.extend(number(word, field)?);
+    }
+    Ok(kind.device_record(device))
 }
 
 /// The record of a line whose last word is a device set.

@@ -36,10 +36,10 @@ pub fn show(tables: &Tables, horizon: usize) -> String {
 /// The words of a line with their names.
 type Words = Vec<(&'static str, String)>;
 
-/// The lines of a section, and above them what their words are.
+/// The lines of a section, and above them what the words of the longest are.
 fn section(text: &mut String, word: &str, lines: Vec<Words>) {
-    if let Some(first) = lines.first() {
-        let names: Vec<&str> = first.iter().map(|(name, _)| *name).collect();
+    if let Some(longest) = lines.iter().max_by_key(|line| line.len()) {
+        let names: Vec<&str> = longest.iter().map(|(name, _)| *name).collect();
         let _ = writeln!(text, "\n# {word}: {}", names.join(", "));
     }
     for line in lines {

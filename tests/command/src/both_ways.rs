@@ -5,7 +5,8 @@ use crate::texts::{self, end_of_fault, part_before, Drawn, Text};
 use outside::faults;
 use outside::random::Random;
 use outside::request::FileKind;
-use outside::second::{self, Second};
+use outside::second;
+use outside::third;
 use outside::valid;
 
 const SEED: u64 = 21;
@@ -13,7 +14,7 @@ const TABLES: u64 = 4_800;
 
 pub fn test(floe: &Floe) -> Tried {
     // By kind, and by kind and number.
-    let (mut runs, mut accepted, mut met) = (0, [0; 2], [[0; 14]; 2]);
+    let (mut runs, mut accepted, mut met) = (0, [0; 3], [[0; 27]; 3]);
     for number in 0..TABLES {
         let random = &mut Random::new(SEED, number);
         let tables = draw(random);
@@ -24,7 +25,7 @@ pub fn test(floe: &Floe) -> Tried {
         let input = text.text.as_bytes();
         let named = |what: &str| format!("tables {number}, {what}:\n{}", text.text);
         let file = tables.bytes();
-        let kind = tables.kind as usize;
+        let kind = tables.kind() as usize;
         let Err(refusal) = tables.read().map(|_| ()) else {
             same(floe.output(&["write", "-"], input)?, file.clone(), || {
                 named("write")
@@ -50,8 +51,9 @@ pub fn test(floe: &Floe) -> Tried {
     }
     let missed: Vec<usize> = (3..=13)
         .filter(|&number| met.iter().any(|met| met[number] == 0))
+        .chain([26].into_iter().filter(|&number| met[2][number] == 0))
         .collect();
-    if !missed.is_empty() || accepted.iter().any(|&accepted| accepted < 1_000) {
+    if !missed.is_empty() || accepted.iter().any(|&accepted| accepted < 700) {
         return Err(format!("{accepted:?} accepted; not met: {missed:?}"));
     }
     Ok(runs)
@@ -68,29 +70,43 @@ fn draw(random: &mut Random) -> Drawn {
         7 => valid::most_energy(random),
         _ => valid::long_tasks(random),
     };
-    if random.one_in(2) {
-        if random.one_in(3) {
-            let number = random.pick(&faults::NUMBERS);
-            faults::put(random, &mut tables, number);
+    let fault = random.within(1, 6);
+    match random.pick(&[FileKind::First, FileKind::Second, FileKind::Third]) {
+        FileKind::First => {
+            if fault <= 2 {
+                let number = random.pick(&faults::NUMBERS);
+                faults::put(random, &mut tables, number);
+            }
+            // Such a field looks like a mark, and is none in a text of the first kind.
+            if random.one_in(32) {
+                tables.horizon = random.pick(&[0xFF02, 0xFF03]);
+            }
+            Drawn::First(tables)
         }
-        // Such a field looks like a mark, and is none in a text of the first kind.
-        if random.one_in(32) {
-            tables.horizon = 0xFF02;
+        FileKind::Second => {
+            let mut second = second::apart(random, tables);
+            match fault {
+                1 => second::put_any(random, &mut second),
+                2 => second::spoil(random, &mut second),
+                _ => {}
+            }
+            Drawn::Second(second)
         }
-        return Drawn {
-            kind: FileKind::First,
-            second: Second::alike(tables),
-        };
-    }
-    let mut second = second::apart(random, tables);
-    match random.within(1, 6) {
-        1 => second::put_any(random, &mut second),
-        2 => second::spoil(random, &mut second),
-        _ => {}
-    }
-    Drawn {
-        kind: FileKind::Second,
-        second,
+        FileKind::Third => {
+            let mut third = third::deepened(random, tables);
+            match fault {
+                1 => third::put_any(random, &mut third),
+                2 => third::spoil(random, &mut third),
+                _ => {}
+            }
+            // A line lists as many powers as it says it has levels, unless these are too many.
+            for levels in &mut third.levels {
+                if levels.count < levels.powers.len() as u8 {
+                    levels.powers.truncate(levels.count.into());
+                }
+            }
+            Drawn::Third(third)
+        }
     }
 }
 
@@ -110,10 +126,10 @@ fn line(drawn: &Drawn, text: &Text, refusal: u8) -> Option<usize> {
         12 => text.jobs.get(16),
         _ => {
             let mut file = drawn.bytes();
-            if drawn.kind == FileKind::First && drawn.tables().horizon == 0xFF02 {
+            if drawn.kind() == FileKind::First && file[0] == 0xFF {
                 file[1] = 0xFF;
             }
-            let (name, _) = part_before(&file, end_of_fault(&file)?);
+            let (name, _) = part_before(&file, end_of_fault(&file)?)?;
             let (section, number) = name.split_once(' ')?;
             let number: usize = number.parse().ok()?;
             match section {

@@ -22,7 +22,7 @@ fn joined(starts: &[u32]) -> String {
 }
 
 pub fn verdicts(floe: &Floe) -> Tried {
-    let (mut runs, mut met) = (0, [0; 21]);
+    let (mut runs, mut met) = (0, [0; 27]);
     for number in 0..FILES {
         let case = draw(SEED, number);
         let Ok(request) = read(&case.file) else {
@@ -125,7 +125,7 @@ fn number_after(line: &str, word: &str) -> Option<u32> {
 
 pub fn mends(floe: &Floe) -> Tried {
     const CALLS: u64 = 600;
-    let mut met = [0; 21];
+    let mut met = [0; 27];
     let failed = RefCell::new(None);
     for number in 0..CALLS {
         let mut call = mend::draw(&mut Random::new(SEED, number));

@@ -17,6 +17,7 @@ mod sheets;
 mod streams;
 mod terminal;
 mod texts;
+mod third;
 
 use floe::{Floe, Tried};
 use std::path::PathBuf;
@@ -26,10 +27,11 @@ use std::thread;
 
 type Test = fn(&Floe) -> Tried;
 
-const TESTS: [(&str, Test); 16] = [
+const TESTS: [(&str, Test); 17] = [
     ("plans and refusals of files", planning::test),
     ("write and show", both_ways::test),
     ("the second kind", second::test),
+    ("the third kind", third::test),
     ("verdicts and rows", judging::verdicts),
     ("mended start times", judging::mends),
     ("any plan at all", judging::possible),

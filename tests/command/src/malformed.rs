@@ -3,7 +3,7 @@
 use crate::floe::{same, Floe, Tried};
 
 /// A text, the line and the column, and some of the words.
-const TEXTS: [(&str, usize, usize, &str); 61] = [
+const TEXTS: [(&str, usize, usize, &str); 71] = [
     ("horizont 5\n", 1, 1, "not with 'horizont'"),
     ("Horizon 5\n", 1, 1, "not with 'Horizon'"),
     ("horizon 5\n\n  devise 1 5 1 3\n", 3, 3, "not with 'devise'"),
@@ -99,6 +99,56 @@ const TEXTS: [(&str, usize, usize, &str); 61] = [
         16,
         "'4' is a word too many: device takes T, Pw, Ps, P0",
     ),
+    ("horizon 5\nkind 3\n", 2, 1, "before all other lines"),
+    (
+        "kind 3\ndevice 1 10 4\n",
+        2,
+        15,
+        "levels is missing: device takes T, Pw, P0, levels",
+    ),
+    (
+        "kind 3\ndevice 1 10 4 2\n",
+        2,
+        17,
+        "P1 is missing: device takes T, Pw, P0, levels, P1, P2",
+    ),
+    ("kind 3\ndevice 1 10 4 2 3\n", 2, 19, "P2 is missing"),
+    (
+        "kind 3\ndevice 1 10 4 2 3 1 0\n",
+        2,
+        21,
+        "'0' is a word too many: device takes T, Pw, P0, levels, P1, P2",
+    ),
+    (
+        "kind 3\ndevice 1 10 4 0 3\n",
+        2,
+        17,
+        "'3' is a word too many",
+    ),
+    (
+        "kind 3\ndevice 1 10 4 256 3\n",
+        2,
+        15,
+        "'256' is too large for levels: at most 255",
+    ),
+    (
+        "kind 3\ndevice 1 10 4 two 3 1\n",
+        2,
+        15,
+        "'two' is not a number (levels)",
+    ),
+    (
+        "kind 3\ndevice 1 10 4 2 3 65536\n",
+        2,
+        19,
+        "'65536' is too large for P2: at most 65535",
+    ),
+    (
+        "kind 3\ndevice x 10 4 1 3\n",
+        2,
+        8,
+        "'x' is not a number (T)",
+    ),
     ("horizon 5\nä ö job\n", 2, 1, "not with 'ä'"),
 ];
 
@@ -129,6 +179,8 @@ const RIGHT_SECOND: [&str; 3] = [
     "kind 002#\nhorizon 5",
 ];
 
+const RIGHT_THIRD: [&str; 2] = ["kind 3\nhorizon 5", "kind 003#\nhorizon 5"];
+
 pub fn test(floe: &Floe) -> Tried {
     let texts = TEXTS
         .iter()
@@ -156,7 +208,8 @@ pub fn test(floe: &Floe) -> Tried {
     }
     let right = RIGHT.map(|text| (text, vec![0, 5, 0, 0, 0]));
     let second = RIGHT_SECOND.map(|text| (text, vec![0xFF, 2, 0, 5, 0, 0, 0]));
-    for (text, expected) in right.into_iter().chain(second) {
+    let third = RIGHT_THIRD.map(|text| (text, vec![0xFF, 3, 0, 5, 0, 0, 0]));
+    for (text, expected) in right.into_iter().chain(second).chain(third) {
         let file = floe.output(&["write", "-"], text.as_bytes())?;
         same(file, expected, || format!("{text:?}"))?;
         runs += 1;

@@ -54,8 +54,12 @@ pub fn test(floe: &Floe) -> Tried {
                 let state = match run[0] {
                     b'W' => "working",
                     b'D' => "going down",
+                    b'U' => "coming up",
                     b'S' => "asleep",
-                    _ => "coming up",
+                    b'1' => "asleep at level 1",
+                    b'2' => "asleep at level 2",
+                    b'3' => "asleep at level 3",
+                    _ => "asleep at level 4",
                 };
                 titles.insert(format!("device {device}: {state}, {}", ticks(from, to)));
                 from = to;
@@ -70,9 +74,10 @@ pub fn test(floe: &Floe) -> Tried {
             })?;
             let power = |letter: u8| match letter {
                 b'W' => figures.working,
-                b'S' => figures.sleeping,
                 b'D' => figures.shut.power,
-                _ => figures.wake.power,
+                b'U' => figures.wake.power,
+                b'S' => figures.power_at(1),
+                level => figures.power_at(usize::from(level - b'0')),
             };
             energies.push(
                 row.bytes()
@@ -110,17 +115,28 @@ pub fn test(floe: &Floe) -> Tried {
 fn label(file: &[u8], device: &Device) -> String {
     let Device {
         working,
-        sleeping,
+        levels,
         shut,
         wake,
+        ..
     } = device;
-    let powers = format!("Pw {working}, Ps {sleeping}");
+    let powers = format!("Pw {working}, Ps {}", levels[0]);
     match unmarked(file).0 {
         FileKind::First => format!("T {}, {powers}, P0 {}", wake.ticks, wake.power),
         FileKind::Second => format!(
             "wake {}, shut {}, {powers}, Pwake {}, Pshut {}",
             wake.ticks, shut.ticks, wake.power, shut.power
         ),
+        FileKind::Third => {
+            let level = |(number, power): (usize, &u32)| format!(", P{number} {power}");
+            let powers: String = (1..).zip(levels).map(level).collect();
+            format!(
+                "T {}, Pw {working}, P0 {}, levels {}{powers}",
+                wake.ticks,
+                wake.power,
+                levels.len()
+            )
+        }
     }
 }
 

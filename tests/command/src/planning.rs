@@ -2,7 +2,7 @@
 //! number and its place.
 
 use crate::floe::{same, Floe, Tried};
-use crate::texts::{end_of_fault, is_text, layout, part_before};
+use crate::texts::{end_of_fault, is_text, part_before, parts};
 use outside::cases::{draw, Kind};
 use outside::example;
 use outside::expect::{search, text, BUDGET};
@@ -13,7 +13,7 @@ const SEED: u64 = 20;
 const CASES: u64 = 1_200;
 
 pub fn test(floe: &Floe) -> Tried {
-    let mut met = [0; 21];
+    let mut met = [0; 27];
     let mut runs = examples(floe)?;
     for number in 0..CASES {
         let case = draw(SEED, number);
@@ -55,12 +55,12 @@ pub fn test(floe: &Floe) -> Tried {
         let (refused, said) = floe.refused(&words, file)?;
         same(refused, outcome.number, || named(&said))?;
         runs += 1;
-        if outcome.number <= 13 {
+        if outcome.number <= 13 || outcome.number == 26 {
             let (refused, said_by_check) = floe.refused(&["check", "-"], file)?;
             same((refused, &said_by_check), (outcome.number, &said), || {
                 named("check")
             })?;
-            same(place_told(&said), Some(place(file, outcome.number)), || {
+            same(place_told(&said), place(file, outcome.number), || {
                 named(&format!("refused {refused}: {said}"))
             })?;
             runs += 1;
@@ -72,7 +72,7 @@ pub fn test(floe: &Floe) -> Tried {
             runs += 1;
         }
     }
-    let expected = (0..=13).chain([19, 20]);
+    let expected = (0..=13).chain([19, 20, 26]);
     let missed: Vec<usize> = expected.filter(|&number| met[number] == 0).collect();
     if !missed.is_empty() {
         return Err(format!("never met: {missed:?}"));
@@ -100,8 +100,9 @@ fn examples(floe: &Floe) -> Tried {
 fn checked(file: &[u8]) -> Vec<u8> {
     let request = read(file).expect("an accepted file");
     let devices = request.devices.len();
-    let (from, size) = layout(file);
-    let tasks = file[from + 3 + size * devices];
+    let mut parts = parts(file).into_iter();
+    let tasks = parts.find(|(name, _, _)| name == "task count");
+    let tasks = tasks.map_or(0, |(_, from, _)| file[from]);
     let (horizon, jobs) = (request.horizon, request.jobs.len());
     format!("horizon {horizon}\ndevices {devices}\ntasks {tasks}\njobs {jobs}\n").into_bytes()
 }
@@ -117,42 +118,18 @@ fn place_told(said: &str) -> Option<(String, usize, usize)> {
     Some((name.to_string(), from.parse().ok()?, to.parse().ok()?))
 }
 
-fn place(file: &[u8], number: u8) -> (String, usize, usize) {
+fn place(file: &[u8], number: u8) -> Option<(String, usize, usize)> {
     match (number, end_of_fault(file)) {
-        (2, Some(end)) => ("end".to_string(), end, file.len() - 1),
+        (2, Some(end)) => Some(("end".to_string(), end, file.len() - 1)),
         (_, Some(end)) => {
-            let (name, from) = part_before(file, end);
-            (name, from, end - 1)
+            let (name, from) = part_before(file, end)?;
+            Some((name, from, end - 1))
         }
         // Cut short: the part that ends after the file does.
         (_, None) => {
-            let longer = |end: &usize| {
-                let mut whole = file.to_vec();
-                whole.resize(*end, 0);
-                *end > file.len() && is_end(&whole)
-            };
-            let end = (file.len() + 1..file.len() + 11).find(longer).unwrap_or(0);
-            let mut whole = file.to_vec();
-            whole.resize(end, 0);
-            let (name, from) = part_before(&whole, end);
-            (name, from, end - 1)
+            let mut parts = parts(file).into_iter();
+            let cut = parts.find(|(_, _, to)| *to > file.len());
+            cut.map(|(name, from, to)| (name, from, to - 1))
         }
     }
-}
-
-/// Whether a part of the file ends where the file does.
-fn is_end(file: &[u8]) -> bool {
-    let (from, device) = layout(file);
-    let mut at = from + 2;
-    for size in [device, 5, 7] {
-        if file.len() <= at + 1 {
-            return file.len() >= at;
-        }
-        let records = usize::from(file[at]) * size;
-        if file.len() <= at + 1 + records {
-            return (file.len() - at - 1) % size == 0;
-        }
-        at += 1 + records;
-    }
-    false
 }

@@ -5,7 +5,7 @@ use crate::floe::{same, Floe, Tried};
 const A: &str = "device 1 5 1 3\n";
 
 /// A text, the words after `floe COMMAND -`, and the line on standard error.
-const REFUSALS: [(&str, &str, &str); 45] = [
+const REFUSALS: [(&str, &str, &str); 56] = [
     (
         "9 of A",
         "check",
@@ -212,7 +212,63 @@ const REFUSALS: [(&str, &str, &str); 45] = [
         "check",
         "10: job count (line 2, byte 6): horizon 65282 is outside 1 to 4096",
     ),
+    // Of the third kind, where a record is judged before its powers are called for.
+    (
+        "kind 3\nhorizon 5\ndevice 0 10 4 2 3 1",
+        "check",
+        "4: device 0 (line 3, bytes 5 to 10): a transition time of 0",
+    ),
+    (
+        "kind 3\nhorizon 5\ndevice 1 10 4 0",
+        "check",
+        "26: device 0 (line 3, bytes 5 to 10): 0 levels, at least 1",
+    ),
+    (
+        "kind 3\nhorizon 5\ndevice 1 10 4 1 3\ndevice 1 10 4 5 5 4 3 2 1",
+        "plan",
+        "26: device 1 (line 4, bytes 13 to 18): 5 levels, at most 4",
+    ),
+    (
+        "kind 3\nhorizon 5\ndevice 1 10 4 255",
+        "show",
+        "26: device 0 (line 3, bytes 5 to 10): 255 levels, at most 4",
+    ),
+    (
+        "kind 3\nhorizon 5\ndevice 1 10 4 2 3 1\ndevice 1 10 4 3 3 1 1",
+        "write",
+        "5: device 1 (line 4, bytes 15 to 26): P3 1 is not below P2 1",
+    ),
+    (
+        "kind 3\nhorizon 5\ndevice 1 10 4 2 1 3",
+        "check",
+        "5: device 0 (line 3, bytes 5 to 14): P2 3 is not below P1 1",
+    ),
+    (
+        "kind 3\nhorizon 5\ndevice 1 10 4 1 4",
+        "draw",
+        "5: device 0 (line 3, bytes 5 to 12): P1 4 is not below P0 4",
+    ),
+    (
+        "kind 3\nhorizon 5\ndevice 1 4 10 2 4 4",
+        "check",
+        "5: device 0 (line 3, bytes 5 to 14): P1 4 is not below Pw 4",
+    ),
+    (
+        "kind 3\nhorizon 5\ndevice 1 10 4 2 3 1\njob 0 6 1 0",
+        "check",
+        "13: job 0 (line 4, bytes 17 to 23): deadline 6 > horizon 5",
+    ),
     // Of the first, though the horizon's bytes are those of a mark.
+    (
+        "horizon 65283",
+        "check",
+        "10: job count (line 1, byte 4): horizon 65283 is outside 1 to 4096",
+    ),
+    (
+        "horizon 65283\ndevice 0 5 1 3",
+        "check",
+        "4: device 0 (line 2, bytes 3 to 9): a transition time of 0",
+    ),
     (
         "horizon 65282",
         "check",
@@ -235,7 +291,7 @@ const REFUSALS: [(&str, &str, &str); 45] = [
     ),
 ];
 
-const FILES: [(&[u8], &str); 16] = [
+const FILES: [(&[u8], &str); 25] = [
     (
         &[],
         "1: horizon (bytes 0 to 1): the file ends here, with 0 of 2 bytes",
@@ -298,8 +354,45 @@ const FILES: [(&[u8], &str); 16] = [
         "2: end (byte 7): 1 byte after the last section",
     ),
     (
+        &[0xFF, 4, 0, 0, 0],
+        "10: job count (byte 4): horizon 65284 is outside 1 to 4096",
+    ),
+    // Of the third kind.
+    (
         &[0xFF, 3, 0, 0, 0],
-        "10: job count (byte 4): horizon 65283 is outside 1 to 4096",
+        "1: task count (byte 5): the file ends here, with 0 of 1 byte",
+    ),
+    (
+        &[0xFF, 3, 0, 5, 1, 0, 0, 10, 0, 4],
+        "1: device 0 (bytes 5 to 10): the file ends here, with 5 of 6 bytes",
+    ),
+    (
+        &[0xFF, 3, 0, 5, 1, 0, 0, 10, 0, 4, 0],
+        "4: device 0 (bytes 5 to 10): a transition time of 0",
+    ),
+    (
+        &[0xFF, 3, 0, 5, 1, 0, 0, 10, 0, 4, 2, 0, 3, 0, 1, 0, 0],
+        "4: device 0 (bytes 5 to 10): a transition time of 0",
+    ),
+    (
+        &[0xFF, 3, 0, 5, 1, 1, 0, 10, 0, 4, 5],
+        "26: device 0 (bytes 5 to 10): 5 levels, at most 4",
+    ),
+    (
+        &[0xFF, 3, 0, 5, 1, 1, 0, 10, 0, 4, 0, 0, 0],
+        "26: device 0 (bytes 5 to 10): 0 levels, at least 1",
+    ),
+    (
+        &[0xFF, 3, 0, 5, 1, 1, 0, 10, 0, 4, 2, 0, 3, 0],
+        "1: device 0 (bytes 5 to 14): the file ends here, with 9 of 10 bytes",
+    ),
+    (
+        &[0xFF, 3, 0, 5, 1, 1, 0, 10, 0, 4, 2, 0, 3, 0, 3],
+        "5: device 0 (bytes 5 to 14): P2 3 is not below P1 3",
+    ),
+    (
+        &[0xFF, 3, 0, 5, 1, 1, 0, 10, 0, 4, 1, 0, 3, 0, 0, 0],
+        "2: end (byte 15): 1 byte after the last section",
     ),
 ];
 

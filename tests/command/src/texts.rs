@@ -5,30 +5,45 @@ use outside::random::Random;
 use outside::request::{read, read_as, unmarked, FileKind, Request};
 use outside::second::Second;
 use outside::tables::{DeviceRecord, Tables};
+use outside::third::{Levels, Third};
 
-/// Tables and the kind of their file; only in the second is shutting down told apart.
-pub struct Drawn {
-    pub kind: FileKind,
-    pub second: Second,
+/// What a file says, by its kind.
+pub enum Drawn {
+    First(Tables),
+    Second(Second),
+    Third(Third),
 }
 
 impl Drawn {
+    pub fn kind(&self) -> FileKind {
+        match self {
+            Drawn::First(_) => FileKind::First,
+            Drawn::Second(_) => FileKind::Second,
+            Drawn::Third(_) => FileKind::Third,
+        }
+    }
+
     pub fn tables(&self) -> &Tables {
-        &self.second.tables
+        match self {
+            Drawn::First(tables) => tables,
+            Drawn::Second(second) => &second.tables,
+            Drawn::Third(third) => &third.tables,
+        }
     }
 
     pub fn bytes(&self) -> Vec<u8> {
-        match self.kind {
-            FileKind::First => self.tables().bytes(),
-            FileKind::Second => self.second.bytes(),
+        match self {
+            Drawn::First(tables) => tables.bytes(),
+            Drawn::Second(second) => second.bytes(),
+            Drawn::Third(third) => third.bytes(),
         }
     }
 
     /// By the reader of the kind: in the first a horizon field FF02 is no mark.
     pub fn read(&self) -> Result<Request, u8> {
-        match self.kind {
-            FileKind::First => read_as(self.kind, &self.bytes()),
-            FileKind::Second => read(&self.bytes()),
+        match self {
+            Drawn::First(tables) => read_as(FileKind::First, &tables.bytes()),
+            _ => read(&self.bytes()),
         }
     }
 
@@ -41,11 +56,16 @@ impl Drawn {
             moving,
         } = self.tables().devices[place];
         let transition = transition.into();
-        match self.kind {
-            FileKind::First => vec![transition, working, sleeping, moving],
-            FileKind::Second => {
-                let (time, power) = self.second.shuts[place];
+        match self {
+            Drawn::First(_) => vec![transition, working, sleeping, moving],
+            Drawn::Second(second) => {
+                let (time, power) = second.shuts[place];
                 vec![transition, time.into(), working, sleeping, moving, power]
+            }
+            Drawn::Third(third) => {
+                let Levels { count, powers } = &third.levels[place];
+                let front = [transition, working, moving, (*count).into()];
+                [&front, &powers[..]].concat()
             }
         }
     }
@@ -113,12 +133,16 @@ pub fn write(random: &mut Random, drawn: &Drawn) -> Text {
     if random.one_in(3) {
         blank(&mut written.text, "# horizon 7 is no line");
     }
-    match drawn.kind {
+    match drawn.kind() {
         FileKind::First if random.one_in(4) => drop(blank(&mut written.text, "kind 1")),
         FileKind::First => {}
         FileKind::Second => drop(blank(
             &mut written.text,
             random.pick(&["kind 2", " kind\t02 # 1"]),
+        )),
+        FileKind::Third => drop(blank(
+            &mut written.text,
+            random.pick(&["kind 3", "\tkind 003#"]),
         )),
     }
     while let Some(section) = next(random, &sections, in_order) {
@@ -171,33 +195,45 @@ pub fn end_of_fault(file: &[u8]) -> Option<usize> {
     (0..=file.len()).find(|&length| read(&file[..length]) != Err(1))
 }
 
-/// Where the sections of a file begin, and how long its device records are.
-pub fn layout(file: &[u8]) -> (usize, usize) {
+/// The parts of a file one after the other, as its counts say: the name of each, where it begins and
+/// where it ends. The last may end after the file.
+pub fn parts(file: &[u8]) -> Vec<(String, usize, usize)> {
     let (kind, rest) = unmarked(file);
-    let size = match kind {
-        FileKind::First => 7,
-        FileKind::Second => 10,
-    };
-    (file.len() - rest.len(), size)
+    let from = file.len() - rest.len();
+    let mut parts = vec![("horizon".to_string(), from, from + 2)];
+    let mut at = from + 2;
+    for section in ["device", "task", "job"] {
+        let records = file.get(at).copied().unwrap_or(0);
+        parts.push((format!("{section} count"), at, at + 1));
+        at += 1;
+        for number in 0..records {
+            let size = match section {
+                "device" => called_for(kind, file.get(at..).unwrap_or(&[])),
+                "task" => 5,
+                _ => 7,
+            };
+            parts.push((format!("{section} {number}"), at, at + size));
+            at += size;
+        }
+    }
+    parts
 }
 
-/// What stands before this end of a file's part, and where it begins.
-pub fn part_before(file: &[u8], end: usize) -> (String, usize) {
-    let (from, device) = layout(file);
-    if end == from + 2 {
-        return ("horizon".to_string(), from);
+/// How many bytes a device record calls for. In the third kind six, and the powers of its levels if it
+/// can have so many, and moves in some time.
+fn called_for(kind: FileKind, record: &[u8]) -> usize {
+    match (kind, record) {
+        (FileKind::First, _) => 7,
+        (FileKind::Second, _) => 10,
+        (FileKind::Third, [1..=255, _, _, _, _, count @ 1..=4, ..]) => 6 + 2 * usize::from(*count),
+        (FileKind::Third, _) => 6,
     }
-    let mut at = from + 2;
-    for (name, size) in [("device", device), ("task", 5), ("job", 7)] {
-        if end == at + 1 {
-            return (format!("{name} count"), at);
-        }
-        let records = usize::from(file[at]);
-        let within = end - at - 1;
-        if within <= records * size {
-            return (format!("{name} {}", within / size - 1), end - size);
-        }
-        at += 1 + records * size;
-    }
-    ("end".to_string(), end)
+}
+
+/// The part of a file that ends there, and where it begins.
+pub fn part_before(file: &[u8], end: usize) -> Option<(String, usize)> {
+    let mut parts = parts(file).into_iter();
+    parts
+        .find(|(_, _, to)| *to == end)
+        .map(|(name, from, _)| (name, from))
 }
