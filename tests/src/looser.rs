@@ -60,7 +60,7 @@ impl Met {
 }
 
 /// The kinds of cases that have job lists.
-const KINDS: [Kind; 4] = [Kind::Jobs, Kind::Dear, Kind::Second, Kind::Tight];
+const KINDS: [Kind; 5] = [Kind::Jobs, Kind::Dear, Kind::Second, Kind::Third, Kind::Tight];
 
 /// Bytes of a job record: release, deadline, running time, device set.
 const RECORD: usize = 7;
