@@ -137,12 +137,7 @@ mod tests {
     use super::*;
     use crate::expect::{search, text, BUDGET};
     use crate::request::{read_as, FileKind};
-    use crate::tables::{device_a, job};
-
-    fn hex(text: &str) -> Vec<u8> {
-        let byte = |place| u8::from_str_radix(&text[place..place + 2], 16).unwrap();
-        (0..text.len()).step_by(2).map(byte).collect()
-    }
+    use crate::tables::{device_a, hex, job};
 
     fn printed(file: &str) -> String {
         text(&search(&hex(file), BUDGET)).replace('\n', " / ")

@@ -79,6 +79,12 @@ fn put(file: &mut Vec<u8>, numbers: &[u16]) {
     }
 }
 
+/// The bytes of a file as the figures write it, two digits each.
+pub fn hex(text: &str) -> Vec<u8> {
+    let byte = |place| u8::from_str_radix(&text[place..place + 2], 16).expect("hex");
+    (0..text.len()).step_by(2).map(byte).collect()
+}
+
 /// Device A of the figures.
 pub fn device_a() -> DeviceRecord {
     DeviceRecord {

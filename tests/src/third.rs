@@ -219,12 +219,7 @@ mod tests {
     use crate::listing::uses;
     use crate::request::{read_as, FileKind};
     use crate::rows::row_given;
-    use crate::tables::device_a;
-
-    fn hex(text: &str) -> Vec<u8> {
-        let byte = |place| u8::from_str_radix(&text[place..place + 2], 16).unwrap();
-        (0..text.len()).step_by(2).map(byte).collect()
-    }
+    use crate::tables::{device_a, hex};
 
     /// The horizon, the energy and the rows for given starts.
     fn rows(file: &str, starts: &[u32]) -> (u32, u64, Vec<String>) {

@@ -2,6 +2,7 @@
 //! what is left of them. Every buffer is full of AA before the call.
 
 use crate::library;
+use outside::tables::hex;
 
 /// A search's output, an output for rows, one for a file, and a result buffer that is a byte too
 /// short.
@@ -354,13 +355,8 @@ fn table() -> Vec<Figure> {
     ]
 }
 
-fn bytes(hex: &str) -> Vec<u8> {
-    let byte = |place: usize| u8::from_str_radix(&hex[place..place + 2], 16).expect("hex");
-    (0..hex.len()).step_by(2).map(byte).collect()
-}
-
 fn fails(figure: &Figure) -> bool {
-    let file = bytes(figure.file);
+    let file = hex(figure.file);
     let full = |length: usize| vec![0xAA; length];
     let (mut lent, mut result) = (Vec::new(), full(11));
     let number = match figure.call {
@@ -374,7 +370,7 @@ fn fails(figure: &Figure) -> bool {
         }
         Call::Rows { starts, room } => {
             lent = full(room);
-            library::rows(&file, &bytes(starts), &mut lent, &mut result)
+            library::rows(&file, &hex(starts), &mut lent, &mut result)
         }
         Call::Write { room } => {
             lent = full(room);
@@ -383,16 +379,16 @@ fn fails(figure: &Figure) -> bool {
         Call::Build { parts, wanted } => {
             lent = full(FILE);
             let number = |text: &str| format!("{text:8}").into_bytes();
-            let part = |(text, record): &Part| [number(text), bytes(record)].concat();
+            let part = |(text, record): &Part| [number(text), hex(record)].concat();
             let parts: Vec<u8> = parts.iter().flat_map(part).collect();
             let wanted: Vec<u8> = wanted.iter().flat_map(|text| number(text)).collect();
             library::build(&parts, &wanted, &file, &mut lent, &mut result)
         }
     };
     let mut after = full(lent.len());
-    let written = bytes(figure.written);
+    let written = hex(figure.written);
     after[..written.len()].copy_from_slice(&written);
-    (number, result, lent) != (figure.number, bytes(figure.result), after)
+    (number, result, lent) != (figure.number, hex(figure.result), after)
 }
 
 /// The names of those that do not come out.

@@ -2,15 +2,13 @@
 //! lengths, and compares the number and every byte of every buffer with the oracle.
 
 mod catalogue;
-mod dear;
+mod chosen;
 mod expected;
 mod figures;
-mod levels;
 mod library;
 mod looser;
 mod mend;
 mod possible;
-mod rounds;
 mod sheets;
 mod stepping;
 mod tails;
@@ -218,9 +216,7 @@ fn test() -> Result<String, String> {
             return Err(failure);
         }
     }
-    dear::test(&mut tester)?;
-    rounds::test(&mut tester)?;
-    levels::test(&mut tester)?;
+    chosen::test(&mut tester)?;
     writing::test(&mut tester)?;
     catalogue::test(&mut tester)?;
     sheets::test(&mut tester)?;

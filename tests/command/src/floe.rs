@@ -61,6 +61,25 @@ impl Floe {
             None => Err(format!("floe {words:?}: {}", printed.report())),
         }
     }
+
+    /// A text and the words after `floe`, and what must be printed.
+    pub fn prints(&self, words: &[&str], text: &str, expected: &str) -> Result<(), String> {
+        let output = self.output(words, text.as_bytes())?;
+        same(String::from_utf8_lossy(&output).as_ref(), expected, || {
+            format!("{words:?} of {text:?}")
+        })
+    }
+
+    /// A file is shown as this text, which is written as the file.
+    pub fn shows(&self, file: &[u8], text: &str) -> Result<(), String> {
+        let shown = self.output(&["show", "-"], file)?;
+        same(String::from_utf8_lossy(&shown).as_ref(), text, || {
+            "show".to_string()
+        })?;
+        same(self.output(&["write", "-"], &shown)?, file.to_vec(), || {
+            "write".to_string()
+        })
+    }
 }
 
 /// Status 1, nothing on standard output, and one line `refused N: words` on standard error.

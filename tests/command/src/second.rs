@@ -1,6 +1,6 @@
 //! Requests of the second kind as text: the figures H1 to H4 and H7, and what is shown of a file.
 
-use crate::floe::{same, Floe, Tried};
+use crate::floe::{Floe, Tried};
 
 /// A device that wakes in 1 tick at 4 and shuts down in 3 at 2.
 const DEVICE: &str = "device 1 3 9 1 4 2";
@@ -40,21 +40,10 @@ job 2 7 2 0
 ";
 
 pub fn test(floe: &Floe) -> Tried {
-    let mut runs = 0;
     for (horizon, lines, command, printed) in FIGURES {
         let text = format!("kind 2\nhorizon {horizon}\n{lines}\n");
-        let output = floe.output(&[command, "-"], text.as_bytes())?;
-        same(String::from_utf8_lossy(&output).as_ref(), printed, || {
-            format!("{command} of {text:?}")
-        })?;
-        runs += 1;
+        floe.prints(&[command, "-"], &text, printed)?;
     }
-    let shown = floe.output(&["show", "-"], &FILE)?;
-    same(String::from_utf8_lossy(&shown).as_ref(), SHOWN, || {
-        "show".to_string()
-    })?;
-    same(floe.output(&["write", "-"], &shown)?, FILE.to_vec(), || {
-        "write".to_string()
-    })?;
-    Ok(runs + 2)
+    floe.shows(&FILE, SHOWN)?;
+    Ok(FIGURES.len() as u64 + 2)
 }

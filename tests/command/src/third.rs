@@ -1,6 +1,6 @@
 //! Requests of the third kind as text: the figures J5 to J10 and J19, and what is shown of a file.
 
-use crate::floe::{same, Floe, Tried};
+use crate::floe::{Floe, Tried};
 
 /// A sensor of two levels, and one of four.
 const SENSOR: &str = "device 1 10 4 2 3 1";
@@ -51,24 +51,12 @@ job 2 7 2 0,1
 ";
 
 pub fn test(floe: &Floe) -> Tried {
-    let mut runs = 0;
     for (lines, call, printed) in FIGURES {
         let lines = lines.replace("SENSOR", SENSOR).replace("DEEP", DEEP);
-        let text = format!("kind 3\n{lines}\n");
         let mut words: Vec<&str> = call.split(' ').collect();
         words.insert(1, "-");
-        let output = floe.output(&words, text.as_bytes())?;
-        same(String::from_utf8_lossy(&output).as_ref(), printed, || {
-            format!("{call} of {text:?}")
-        })?;
-        runs += 1;
+        floe.prints(&words, &format!("kind 3\n{lines}\n"), printed)?;
     }
-    let shown = floe.output(&["show", "-"], &FILE)?;
-    same(String::from_utf8_lossy(&shown).as_ref(), SHOWN, || {
-        "show".to_string()
-    })?;
-    same(floe.output(&["write", "-"], &shown)?, FILE.to_vec(), || {
-        "write".to_string()
-    })?;
-    Ok(runs + 2)
+    floe.shows(&FILE, SHOWN)?;
+    Ok(FIGURES.len() as u64 + 2)
 }
