@@ -13,7 +13,7 @@ pub const MOST_JOBS: usize = 16;
 pub const LONGEST_HORIZON: u32 = 4096;
 pub const MOST_LEVELS: u8 = 4;
 
-/// How the device records of a file are laid out: what its first bytes say (rule 75).
+/// How the device records of a file are laid out: what its first bytes say (rules 75 and 80).
 #[derive(Clone, Copy, Debug, Default, PartialEq, Eq)]
 pub enum FileKind {
     #[default]

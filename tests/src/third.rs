@@ -1,5 +1,6 @@
-//! Files of the third kind: tables whose devices have several sleep levels. What the first kind calls
-//! the power of sleep is not told here: each device has a level count and the powers of its levels.
+//! Files of the third kind (rules 80 to 83): tables whose devices have several sleep levels. What the first
+//! kind calls the power of sleep is not told here: each device has a level count and the powers of its
+//! levels.
 
 use crate::damage;
 use crate::faults;
