@@ -90,6 +90,9 @@ fn write_gap(rest: &mut [u8], digits: bool, d: Device, g: usize, x: usize, n: us
     requires { ⌜ Sound d × ((g ≤ 65535) × ((x + n ≤ g) × (n ≤ length (now rest)))) ⌝ }
     ensures { λ r. ⌜ (r ≡ n) × (now (rest .exit) ≡ take n (drop x (map (byteOf digits) (gapRow d g))) ++ drop n (now (rest .entry))) ⌝ }
 {
+    if n == 0 {
+        return 0;
+    }
     let trip = gap_trip(d, g as u16);
     let level = trip.level;
     let down = d.shut as usize * level;

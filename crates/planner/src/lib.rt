@@ -107,8 +107,7 @@ pub fn rows(file: &[u8], starts: &[u16], out: &mut [u8]) -> Answer
     if judged.number != 0 {
         return refusal_at(judged.number, judged.job);
     }
-    write_rows(recorder, starts, out);
-    let total = plan_energy(recorder, starts);
+    let total = write_rows(recorder, starts, out);
     success(recorder.horizon, total, 0)
 }
 

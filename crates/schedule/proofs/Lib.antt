@@ -11,4 +11,5 @@ pub mod Outcome
 pub mod Judgements
 pub mod Signs
 pub mod Usage
+pub mod Summing
 pub mod Laying

@@ -27,16 +27,19 @@ pub fn plan_energy(r: Recorder, starts: &[u16]) -> u32
     sum
 }
 
-// Writes the plan's rows into the lent bytes, the row of device k from place k * H on, and keeps what follows the last row.
-pub fn write_rows(r: Recorder, starts: &[u16], out: &mut [u8])
+// Writes the plan's rows into the lent bytes, the row of device k from place k * H on, keeps what follows the last row, and gives the plan's energy: the uses
+// of a device are looked for once.
+pub fn write_rows(r: Recorder, starts: &[u16], out: &mut [u8]) -> u32
     requires { ⌜ Valid r × Feasible r (now starts) × (r .devices .count * r .horizon ≤ length (now out)) ⌝ }
-    ensures { λ _. ⌜ now (out .exit) ≡ laid (r .digits) (planRow r (now (starts .entry))) (r .devices .count) ++ drop (r .devices .count * r .horizon) (now (out .entry)) ⌝ }
+    ensures { λ e. ⌜ (e ≡ planEnergy r (now (starts .entry))) × (now (out .exit) ≡ laid (r .digits) (planRow r (now (starts .entry))) (r .devices .count) ++ drop (r .devices .count * r .horizon) (now (out .entry))) ⌝ }
 {
     let devices = r.devices;
     let h = r.horizon as usize;
+    let mut sum: u32 = 0;
     let mut k = 0;
     while k < devices.count {
         let uses = uses_of(r, starts, k);
+        sum += energy_of(r.round, devices.list[k], r.horizon, uses);
         let at = k * h;
         write_row(
             r.round,
@@ -48,4 +51,5 @@ pub fn write_rows(r: Recorder, starts: &[u16], out: &mut [u8])
         );
         k += 1;
     }
+    sum
 }

@@ -59,9 +59,6 @@ returns-4 c = rw (c .refusal-at .ensures) (P.OfFile.read (recorded (c .before .b
 write-rows-requires : tie.Need-write-rows-requires
 write-rows-requires c κs = (within (c .before .before .before .before .before .before .before .before .before .before), judgement-feasible _ _ (c .before .before .before .judge .ensures) (c .before .if4 .left), c .before .before .before .before .if3 .left)
 
-plan-energy-requires : tie.Need-plan-energy-requires
-plan-energy-requires c κs = (within (c .before .before .before .before .before .before .before .before .before .before .before .before .before), judgement-feasible _ _ (c .before .before .before .before .before .before .judge .ensures) (c .before .before .before .before .if4 .left))
-
 success-requires : tie.Need-success-requires
 success-requires c κs = search needs
 
@@ -70,7 +67,10 @@ same-length c = search needs
 
 returns-5 : tie.Need-returns-5
 unfolding planEnergy
-returns-5 c = rw (c .success .ensures, c .before .plan-energy .ensures, c .before .before .before .before .write-rows .ensures) (P.OfFile.read (recorded (c .before .before .before .before .before .before .before .before .before .before .before .before .before .before .before)) (P.RowsOf.given (c .before .before .before .before .before .before .before .before .before .if3 .left) (judgement-feasible _ _ (c .before .before .before .before .before .before .before .before .judge .ensures) (c .before .before .before .before .before .before .if4 .left)) (plan-rows _ (within (c .before .before .before .before .before .before .before .before .before .before .before .before .before .before .before)) _)))
+returns-5 c =
+    let w = c .before .before .before .write-rows .ensures in
+    rw (c .success .ensures, w .0, w .1) (P.OfFile.read (recorded (c .before .before .before .before .before .before .before .before .before .before .before .before .before .before)) (P.RowsOf.given (c .before .before .before .before .before .before .before .before .if3 .left)
+    (judgement-feasible _ _ (c .before .before .before .before .before .before .before .judge .ensures) (c .before .before .before .before .before .if4 .left)) (plan-rows _ (within (c .before .before .before .before .before .before .before .before .before .before .before .before .before .before)) _)))
 
 pub rows-spec : {M : Type 1} → statement M
 rows-spec =
@@ -89,7 +89,6 @@ rows-spec =
     refusal-at-requires
     returns-4
     write-rows-requires
-    plan-energy-requires
     success-requires
     same-length
     returns-5)

@@ -1,6 +1,6 @@
 -- `device::write_gap` meets its contract: the level chosen has room, and its trip is the gap's row.
 -- Assumes nothing.
-use mathlib.Core.Path.{_≡_, sym, ap, _∙_, subst}
+use mathlib.Core.Path.{_≡_, refl, sym, ap, _∙_, subst}
 use mathlib.Core.List.{List, _++_, map}
 use Prim.Native.Nat.{ℕ, _+_, _-_, _*_, _≤_}
 use native.Mathlib.Omega.{arith}
@@ -14,6 +14,10 @@ use Rattle.device.proofs.Bytes.{bytes-trip}
 use Rattle.device.proofs.writer.write_gap.Statement.{statement}
 use Rattle.device.proofs.writer.write_gap.Tie as tie
 
+-- Nothing of it is asked for.
+returns : tie.Need-returns
+returns c = rw (c .if1 .taken) (refl, refl)
+
 cast-gap-trip : tie.Need-cast-gap-trip
 cast-gap-trip c = search needs
 
@@ -21,10 +25,10 @@ gap-trip-requires : tie.Need-gap-trip-requires
 gap-trip-requires c κs = search needs
 
 -- The level has room.
-room : (c : tie.After-gap-trip) → let a = c .before .before .args in
+room : (c : tie.After-gap-trip) → let a = c .before .before .before .args in
     a .d .shut * c .gap-trip .result .level + a .d .wake * c .gap-trip .result .level ≤ a .g
 room c =
-    let a = c .before .before .args in
+    let a = c .before .before .before .args in
     subst (λ (m : ℕ). a .d .shut * m + a .d .wake * m ≤ a .g) (sym (c .gap-trip .ensures .level)) (chosen (a .d) (a .d .levels) (a .g) .room)
 
 cast-down : tie.Need-cast-down
@@ -48,23 +52,23 @@ sub-stay c = omega (arith, room (c .before .before))
 letter-at-requires : tie.Need-letter-at-requires
 letter-at-requires c κs =
     let t = c .before .before .before in
-    let a = t .before .before .args in
-    omega (arith, t .gap-trip .ensures .level, chosen (a .d) (a .d .levels) (a .g) .within, t .before .before .pre .0 .few-levels)
+    let a = t .before .before .before .args in
+    omega (arith, t .gap-trip .ensures .level, chosen (a .d) (a .d .levels) (a .g) .within, t .before .before .before .pre .0 .few-levels)
 
 write-trip-requires : tie.Need-write-trip-requires
 write-trip-requires c κs =
-    let s = c .before .before .before .before .before .before in
+    let s = c .before .before .before .before .before .before .before in
     let h = room (c .before .before .before .before) in
     (omega arith, (omega arith, omega arith))
 
 same-length : tie.Need-same-length
 same-length c = search needs
 
-returns : tie.Need-returns
-returns c =
+returns-2 : tie.Need-returns-2
+returns-2 c =
     let w = c .before .before in
     let t = w .before .before .before .before .before in
-    let a = t .before .before .args in
+    let a = t .before .before .before .args in
     let m = t .gap-trip .result .level in
     let stay = a .g - (a .d .shut * m + a .d .wake * m) in
     let row : tripBytes (a .d .shut * m) stay (a .d .wake * m) (byteOf (a .digits) (Row.at m)) ≡ map (byteOf (a .digits)) (gapRow (a .d) (a .g))
@@ -76,6 +80,7 @@ pub write-gap-spec : {M : Type 1} → statement M
 write-gap-spec =
     tie.close
     (tie.spec
+    returns
     cast-gap-trip
     gap-trip-requires
     cast-down
@@ -87,4 +92,4 @@ write-gap-spec =
     letter-at-requires
     write-trip-requires
     same-length
-    returns)
+    returns-2)
