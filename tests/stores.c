@@ -13,19 +13,6 @@
 
 static uint8_t rows[MOST];
 
-#ifndef LIBC_MEMSET
-/* The compiler makes the loop that writes a run of equal letters a call of memset. This one stores each byte once; the C library's may store it more often. */
-void *memset(void *to, int byte, size_t count)
-{
-    volatile uint8_t *at = to;
-    while (count > 0) {
-        *at++ = (uint8_t)byte;
-        count--;
-    }
-    return to;
-}
-#endif
-
 static uint8_t file[256];
 static size_t length;
 
