@@ -14,7 +14,7 @@ use Rattle.device.specs.declared.Device.{Device}
 use Rattle.device.specs.declared.Uses.{Uses}
 use Rattle.device.specs.Row.{byteOf, trip, gapRow, rowOf, pattern}
 use Rattle.device.specs.Row as Row
-use Rattle.device.specs.Trips.{part, shared, tripBytes, around}
+use Rattle.device.specs.Trips.{shared, tripBytes, around}
 use Rattle.device.specs.Uses.{begin, end, usedIn, afterFrom, front, idle, Spaced}
 use Rattle.device.proofs.Prefix.{map-replicate}
 use Rattle.device.proofs.Chosen.{length-gap, gap-none}
@@ -64,6 +64,10 @@ pub bytes-use : (digits : Bool) (u : Uses) (h : ℕ) → Spaced u h → (d : Dev
 bytes-use digits u h ok d b hb i at l e = ap (map (byteOf digits)) (row-use u h ok b hb d i at l e) ∙ simp (map-append, map-replicate, append-assoc)
 
 -- ---- a part of a list
+
+-- Of a list the places from x on and before y.
+abbrev part : {A : Type 0} → ℕ → ℕ → List A → List A
+part x y l = take (y - x) (drop x l)
 
 map-drop : {A B : Type 0} (f : A → B) (n : ℕ) (l : List A) → map f (drop n l) ≡ drop n (map f l)
 map-drop f zero l = refl

@@ -24,10 +24,6 @@ tripBytes x n y b = (replicate x 68 ++ replicate n b) ++ replicate y 85
 unfoldable pub shared : ℕ → ℕ → ℕ → ℕ
 shared c x y = (c - x) - (c - y)
 
--- Of a list the places from x on and before y.
-abbrev pub part : {A : Type 0} → ℕ → ℕ → List A → List A
-part x y l = take (y - x) (drop x l)
-
 -- The bytes of a row from the tick b on, up to which there is no use, to the end of the last use; and before and after them those of one gap, of which n ticks lie at
 -- the end of the row and b at its front.
 unfoldable pub around : Bool → Device → Uses → ℕ → ℕ → List ℕ

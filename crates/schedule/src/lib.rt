@@ -11,6 +11,7 @@ pub use crate::judging::judge;
 pub use crate::margins::write_margins;
 pub use crate::rows::plan_energy;
 pub use crate::rows::write_rows;
+pub use crate::using::lies_between;
 
 // A job: release, deadline, running time, and for each device whether the job uses it.
 pub struct Job {
