@@ -3,3 +3,4 @@ pub mod Searching
 pub mod Larger
 pub mod Letters
 pub mod Writing
+pub mod SameFigures

@@ -31,10 +31,10 @@ use Rattle.planner.specs.Promises as P
 same-refusal : (file : List ℕ) {n n′ : ℕ} → Refused file n → Refused file n′ → n ≡ n′
 same-refusal file r r′ = let e = sym r ∙ r′ in cc
 
-same-recorder : (file : List ℕ) {R R′ : Recorder} → Reads file R → Reads file R′ → R ≡ R′
+pub same-recorder : (file : List ℕ) {R R′ : Recorder} → Reads file R → Reads file R′ → R ≡ R′
 same-recorder file r r′ = let e = sym r ∙ r′ in cc
 
-not-both : (file : List ℕ) {n : ℕ} {R : Recorder} → Refused file n → Reads file R → ⊥
+pub not-both : (file : List ℕ) {n : ℕ} {R : Recorder} → Refused file n → Reads file R → ⊥
 not-both file r r′ = let e = sym r ∙ r′ in let z : _≡_ {A = ℕ} 0 1 = cc in omega arith
 
 -- The law of the frame: what has one outcome for each valid recorder has one for each file.
