@@ -7,7 +7,7 @@ use mathlib.Core.Option.{Option, none, some}
 use mathlib.Core.List.{List, [], _∷_, _++_, append-nil}
 use Prim.Native.Nat.{ℕ, zero, suc, _+_, _≤_, _<_}
 use native.Mathlib.Omega.{arith}
-use lib.ListN.{getD, set, length, replicate, length-set, length-replicate, getD-replicate, drop-of-length-le}
+use lib.ListN.{getD, set, length, replicate, length-replicate, getD-replicate, drop-of-length-le}
 use Rattle.base.specs.Lists.{upTo, padded, remove}
 use Rattle.base.specs.Loops.{each, through}
 use Rattle.base.proofs.Arrays.{getD-padded, upTo-same, upTo-whole}
@@ -21,9 +21,10 @@ use Rattle.schedule.proofs.Tree.{starts-child}
 use Rattle.vertex.specs.Vertices.{flagged, unflagged}
 use Rattle.vertex.specs.Layout.{row, placedOf, marked}
 use Rattle.vertex.proofs.Flags.{flag-more, none-flagged}
-use Rattle.vertex.proofs.Reading.{row-at, row-other, row-store, placed-long, placed-other, placed-store}
+use Rattle.vertex.proofs.Marking.{marked-placed, marked-starts}
+use Rattle.vertex.proofs.Reading.{row-at, placed-long}
 use Rattle.possible.specs.TillFound.{unlessFound, found, enter, visitTillFound}
-use Rattle.possible.specs.Steps.{vertexOf, noneCells}
+use Rattle.possible.specs.Steps.{vertexOf}
 
 through-same : (f g : ℕ → Walk) → ((k : ℕ) (st : Visited) → f k st ≡ g k st) → (l : List ℕ) (st : Visited) → through f l st ≡ through g l st
 through-same f g h [] st = refl
@@ -105,20 +106,11 @@ module _ (R : Recorder) where
         ∙ upTo-same (start held) (λ j. getD l (24 + j) 0) n (λ j h. row-at 24 16 l j (omega arith))
 
     -- A job marked in them.
-    module _ (l : List ℕ) (long : length l ≡ 64) (j s : ℕ) (known : j < jobs R) where
-      pub placed-marked : placedOf (marked j s l) ≡ set (placedOf l) j true
-      unfolding marked
-      placed-marked =
-          placed-store (set l (24 + j) s) j (omega arith) (rw length-set long)
-          ∙ ap (λ (m : List Bool). set m j true) (placed-other l (24 + j) s (omega arith))
+    module _ (l : List ℕ) (long : length l ≡ 65) (j s c : ℕ) (known : j < jobs R) where
+      pub placed-marked : placedOf (marked j s c l) ≡ set (placedOf l) j true
+      placed-marked = marked-placed l long j s c (omega arith)
 
-      row-marked : row 24 (jobs R) (marked j s l) ≡ set (row 24 (jobs R) l) j s
-      unfolding marked
-      row-marked =
-          row-other 24 (jobs R) (set l (24 + j) s) (40 + j) 0 (λ k h e. omega (arith, h, e))
-          ∙ row-store 24 (jobs R) l j s known (omega arith)
-
-      pub marked-alike : (t : ℕ) → flagged (placedOf l) j ≡ false → Alike (vertexOf R (marked j s l) (s + run R j)) (child R (vertexOf R l t) j s)
+      pub marked-alike : (t : ℕ) → flagged (placedOf l) j ≡ false → Alike (vertexOf R (marked j s c l) (s + run R j)) (child R (vertexOf R l t) j s)
       unfolding vertexOf
       marked-alike t free =
           record {
@@ -127,33 +119,23 @@ module _ (R : Recorder) where
                 ap (λ (m : List Bool). unflagged m (jobs R)) placed-marked
                 ∙ flag-more (placedOf l) j (jobs R) (omega (arith, placed-long l)) known free;
             starts =
-                starts-are (marked j s l) (s + run R j) ∙ row-marked ∙ ap (λ (x : List ℕ). set x j s) (sym (starts-are l t)) ∙ sym (starts-child R (vertexOf R l t) j s);
+                starts-are (marked j s c l) (s + run R j) ∙ marked-starts l long j s c (omega arith) (jobs R) known few
+                ∙ ap (λ (x : List ℕ). set x j s) (sym (starts-are l t)) ∙ sym (starts-child R (vertexOf R l t) j s);
           }
 
     -- No job placed.
-    abbrev fresh : List ℕ
-    fresh = noneCells (replicate 64 0)
+    module _ (l : List ℕ) (none : placedOf l ≡ replicate 16 false) (zeros : row 24 16 l ≡ replicate 16 0) where
+      fresh-starts : row 24 (jobs R) l ≡ replicate (jobs R) 0
+      unfolding row
+      fresh-starts =
+          upTo-whole (λ i. getD l (24 + i) 0) (replicate (jobs R) 0) 0 (jobs R) (length-replicate (jobs R) 0)
+          (λ i h. sym (row-at 24 16 l i (omega arith)) ∙ ap (λ (r : List ℕ). getD r i 0) zeros ∙ getD-replicate 16 i 0 0 (omega arith) ∙ sym (getD-replicate (jobs R) i 0 0 h))
 
-    pub fresh-placed : placedOf fresh ≡ replicate 16 false
-    unfolding noneCells each placedOf upTo
-    fresh-placed = refl
-
-    fresh-row : row 24 16 fresh ≡ replicate 16 0
-    unfolding noneCells each row upTo
-    fresh-row = refl
-
-    fresh-starts : row 24 (jobs R) fresh ≡ replicate (jobs R) 0
-    unfolding row
-    fresh-starts =
-        upTo-whole (λ i. getD fresh (24 + i) 0) (replicate (jobs R) 0) 0 (jobs R) (length-replicate (jobs R) 0)
-        (λ i h. sym (row-at 24 16 fresh i (omega arith)) ∙ ap (λ (r : List ℕ). getD r i 0) fresh-row ∙ getD-replicate 16 i 0 0 (omega arith) ∙ sym (getD-replicate (jobs R) i 0 0 h))
-
-    pub fresh-alike : Alike (vertexOf R fresh 0) (root R)
-    unfolding vertexOf padded written
-    fresh-alike =
-        record {
-          time = refl;
-          unplaced =
-              ap (λ (m : List Bool). unflagged m (jobs R)) fresh-placed ∙ none-flagged (replicate 16 false) (getD-padded 16 false []) (jobs R);
-          starts = starts-are fresh 0 ∙ fresh-starts;
-        }
+      pub fresh-alike : Alike (vertexOf R l 0) (root R)
+      unfolding vertexOf padded written
+      fresh-alike =
+          record {
+            time = refl;
+            unplaced = ap (λ (m : List Bool). unflagged m (jobs R)) none ∙ none-flagged (replicate 16 false) (getD-padded 16 false []) (jobs R);
+            starts = starts-are l 0 ∙ fresh-starts;
+          }

@@ -9,7 +9,6 @@ use native.Mathlib.Omega.{arith}
 use lib.ListN.{getD, length, drop, replicate}
 use borrow.Author.Tests.{ne-eqb}
 use Rattle.base.specs.Lists.{upTo, padded}
-use Rattle.base.specs.Loops.{each}
 use Rattle.base.specs.Sums.{sum}
 use Rattle.base.proofs.Arrays.{getD-padded, getD-upTo}
 use Rattle.schedule.specs.declared.Recorder.{Recorder}
@@ -17,18 +16,17 @@ use Rattle.schedule.specs.Quantities.{jobs, run, Valid}
 use Rattle.schedule.specs.Visiting.{Visited, counted, root}
 use Rattle.schedule.specs.Visiting as Visiting
 use Rattle.vertex.specs.Vertices.{cutA}
-use Rattle.vertex.specs.Sums.{Stored}
-use Rattle.vertex.proofs.Adding.{rest-all, unplaced-all}
+use Rattle.vertex.specs.Layout.{rootCells}
 use Rattle.vertex.proofs.Cutting.{cut-visiting}
 use Rattle.vertex.proofs.Flags.{none-flagged}
-use Rattle.vertex.proofs.Rooting.{root-late, root-uncut}
+use Rattle.vertex.proofs.Rooting.{root-placed, root-starts, root-load, root-late, root-uncut}
 use Rattle.planner.specs.Promises.{success, refusalAfter}
 use Rattle.possible.specs.TillFound.{First, visitedTillFound}
 use Rattle.possible.specs.Promises.{PossibleOf}
 use Rattle.possible.specs.Promises as P
-use Rattle.possible.specs.Steps.{vertexOf, noneCells, below, foundIn, tallyOf, Run, capped, Came}
+use Rattle.possible.specs.Steps.{vertexOf, below, foundIn, tallyOf, Run, capped, Came}
 use Rattle.possible.proofs.Found.{found-first, found-none}
-use Rattle.possible.proofs.Alike.{fresh-placed, fresh-alike}
+use Rattle.possible.proofs.Alike.{fresh-alike}
 use Rattle.possible.proofs.Budget.{goes, holds-found, holds-over}
 use Rattle.possible.proofs.Walking.{visit-over, visit-cut, visit-spared}
 
@@ -56,8 +54,11 @@ module _ (R : Recorder) (t : List ℕ) (empty : t ≡ replicate 18 0) where
   unfolding visitedTillFound
   root-over b e = rw tally-empty (visit-over R (root R) (jobs R) b nothing refl (sym e))
 
-  -- x is the running time of all jobs, and u the tally with the root counted.
-  module _ (ok : Valid R) (x : ℕ) (ex : x ≡ sum (jobs R) (run R)) (u : Visited) (eu : u ≡ counted (tallyOf R t)) (b : ℕ) (positive : b ≡ 0 → ⊥) where
+  -- u is the tally with the root counted, and v are its numbers.
+  module _ (ok : Valid R) (u : Visited) (eu : u ≡ counted (tallyOf R t)) (b : ℕ) (positive : b ≡ 0 → ⊥) (v : List ℕ) (ev : v ≡ rootCells R) where
+    load-is : getD v 64 0 ≡ sum (jobs R) (run R)
+    load-is = rw ev (root-load R ok)
+
     counted-root : u ≡ counted nothing
     counted-root = eu ∙ ap (λ (w : Visited). counted w) tally-empty
 
@@ -65,31 +66,16 @@ module _ (R : Recorder) (t : List ℕ) (empty : t ≡ replicate 18 0) where
     unfolding padded
     cut-root = cut-visiting R (replicate 16 false) (root R) (sym (none-flagged (replicate 16 false) (getD-padded 16 false []) (jobs R)))
 
-    pub root-cut : R .horizon < x → record { stopped = false; tally = u } ≡ capped b (visitedTillFound R)
+    pub root-cut : R .horizon < getD v 64 0 → record { stopped = false; tally = u } ≡ capped b (visitedTillFound R)
     unfolding visitedTillFound
-    root-cut h = visit-cut R (root R) (jobs R) b nothing u counted-root refl (omega (arith, positive)) (sym cut-root ∙ root-late R ok x ex h)
+    root-cut h = visit-cut R (root R) (jobs R) b nothing u counted-root refl (omega (arith, positive)) (sym cut-root ∙ root-late R ok (getD v 64 0) load-is h)
 
     pub root-enters :
-        x ≤ R .horizon → (v : List ℕ) → v ≡ noneCells (replicate 64 0) → (n : ℕ) → n ≡ jobs R → (r : Run) → r ≡ capped b (below R n (vertexOf R v 0) u)
-        → r ≡ capped b (visitedTillFound R)
+        getD v 64 0 ≤ R .horizon → (n : ℕ) → n ≡ jobs R → (r : Run) → r ≡ capped b (below R n (vertexOf R v 0) u) → r ≡ capped b (visitedTillFound R)
     unfolding visitedTillFound
-    root-enters h v ev n en r er =
-        visit-spared R (root R) (vertexOf R v 0) (rw ev (fresh-alike R (ok .few-jobs))) (jobs R) b nothing u counted-root refl (sym cut-root ∙ root-uncut R ok x ex h) r
-        (rw en at er)
-
--- The vertex where no job is placed.
-module _ (R : Recorder) (ok : Valid R) (v : List ℕ) (ev : v ≡ noneCells (replicate 64 0)) where
-  pub fresh-long : length v ≡ 64
-  unfolding noneCells each
-  fresh-long = rw ev
-
-  pub fresh-stored : (x : ℕ) → x ≡ sum (jobs R) (run R) → x ≤ R .horizon → (n : ℕ) → n ≡ jobs R → Stored R v 0 n x
-  fresh-stored x ex h n en =
-      record {
-        left = rw (ev, fresh-placed R (ok .few-jobs)) (en ∙ sym (unplaced-all R));
-        sum = rw (ev, fresh-placed R (ok .few-jobs)) (ex ∙ sym (rest-all R (run R)));
-        fits = omega arith;
-      }
+    root-enters h n en r er =
+        visit-spared R (root R) (vertexOf R v 0) (rw ev (fresh-alike R (ok .few-jobs) (rootCells R) (root-placed R ok) (root-starts R ok))) (jobs R) b nothing u counted-root refl
+        (sym cut-root ∙ root-uncut R ok (getD v 64 0) load-is h) r (rw en at er)
 
 -- ---- the answer
 

@@ -8,20 +8,20 @@ use Prim.Native.Nat.{ℕ, zero, suc, _+_, _-_, _≤_, _<_, max}
 use native.Mathlib.Omega.{arith}
 use native.Mathlib.Nat.{le-refl}
 use lib.Dec.{ltb, eqb}
-use lib.ListN.{set, length, length-set}
+use lib.ListN.{getD, set, length}
 use borrow.Author.Tests.{lt-ltb, le-ltb, ne-eqb}
 use Rattle.base.specs.Loops.{each, through, under}
-use Rattle.base.specs.Sums.{total}
 use Rattle.base.proofs.Cases.{cond-cases}
 use Rattle.schedule.specs.declared.Recorder.{Recorder}
 use Rattle.schedule.specs.Quantities.{Valid, jobs, run, deadline, release}
 use Rattle.schedule.specs.Visiting.{Vertex, Visited, Walk, counted, child, earliest, starts, choices, cutA}
 use Rattle.vertex.specs.Vertices.{flagged}
 use Rattle.vertex.specs.Layout.{row, placedOf, marked}
-use Rattle.vertex.specs.Sums.{Stored, Offered}
+use Rattle.vertex.specs.Sums.{Loaded, Spared, Offered}
 use Rattle.vertex.proofs.Cutting.{cut-visiting}
 use Rattle.vertex.proofs.Flags.{flag-more, over-flags, over-span}
-use Rattle.vertex.proofs.Offering.{cut-is, child-stored}
+use Rattle.vertex.proofs.Marking.{run-in, marked-loaded}
+use Rattle.vertex.proofs.Offering.{few, cut-is, child-spared}
 use Rattle.vertex.proofs.Reading.{placed-long}
 use Rattle.possible.specs.TillFound.{unlessFound, found, enter, visitTillFound}
 use Rattle.possible.specs.Steps.{vertexOf, span, tryStart, tryJob, below, tallyOf, kept, Run, capped}
@@ -154,13 +154,13 @@ visit-spared R v w alike n b st u eu nothing q r e =
 
 -- ---- a child by its parent's numbers
 
-module _ (R : Recorder) (ok : Valid R) (l : List ℕ) (n x y j s : ℕ) (o : Offered R l n x y j s) where
+module _ (R : Recorder) (ok : Valid R) (l : List ℕ) (n y j s : ℕ) (o : Offered R l n y j s) where
   cut-tested : (time : ℕ) → time ≡ s + run R j → (q : Bool) → ltb y time ≡ q → cutA R (child R (vertexOf R l s) j s) ≡ q
   unfolding vertexOf
   cut-tested time et q e =
       sym (cut-visiting R (set (placedOf l) j true) (child R (vertexOf R l s) j s)
       (sym (flag-more (placedOf l) j (jobs R) (omega (arith, placed-long l, o .known, ok .few-jobs)) (o .known) (o .free))))
-      ∙ cut-is R ok l n x y j s o ∙ ap (ltb y) (sym et) ∙ e
+      ∙ cut-is R ok l n y j s o ∙ ap (ltb y) (sym et) ∙ e
 
   pub is-cut : (time : ℕ) → time ≡ s + run R j → y < time → cutA R (child R (vertexOf R l s) j s) ≡ true
   is-cut time et h = cut-tested time et true (lt-ltb y time h)
@@ -168,21 +168,21 @@ module _ (R : Recorder) (ok : Valid R) (l : List ℕ) (n x y j s : ℕ) (o : Off
   pub is-spared : (time : ℕ) → time ≡ s + run R j → time ≤ y → cutA R (child R (vertexOf R l s) j s) ≡ false
   is-spared time et h = cut-tested time et false (le-ltb y time h)
 
-  module _ (long : length l ≡ 64) (time : ℕ) (et : time ≡ s + run R j) (w : List ℕ) (ew : w ≡ marked j s l) where
-    pub is-alike : Alike R (vertexOf R w time) (child R (vertexOf R l s) j s)
-    is-alike = rw (ew, et) (marked-alike R (ok .few-jobs) l long j s (o .known) s (o .free))
+  module _ (held : Loaded R l) (c : ℕ) (ec : c ≡ run R j) where
+    pub may-mark : (j < 16) × (c ≤ getD l 64 0)
+    may-mark = (few R ok l n y j s o, rw ec (run-in R ok l held j (o .known) (o .free)))
 
-    pub is-stored : time ≤ y → Stored R w time n x
-    is-stored h = child-stored R ok l n x y j s o time et h w (rw ew (placed-marked R (ok .few-jobs) l long j s (o .known)))
+    -- Marked, it is the child.
+    module _ (w : List ℕ) (ew : w ≡ marked j s c l) where
+      pub is-loaded : Loaded R w
+      is-loaded = rw (ew, ec) (marked-loaded R ok l held j (o .known) (o .free) s)
 
-    pub is-long : length w ≡ 64
-    unfolding marked
-    is-long = rw (ew, length-set, length-set) long
+      module _ (time : ℕ) (et : time ≡ s + run R j) where
+        pub is-alike : Alike R (vertexOf R w time) (child R (vertexOf R l s) j s)
+        is-alike = rw (ew, et) (marked-alike R (ok .few-jobs) l (held .long) j s c (o .known) s (o .free))
 
--- The sum that is stored is that of rule 43: the running times of the unplaced jobs.
-pub stored-sum : (R : Recorder) (l : List ℕ) (t n x : ℕ) → Stored R l t n x → x ≡ total (run R) (vertexOf R l t .unplaced)
-unfolding vertexOf
-stored-sum R l t n x stored = stored .sum
+        pub is-entered : time ≤ y → Spared R w time n
+        is-entered h = child-spared R ok l n y j s o time et h w (rw ew (placed-marked R (ok .few-jobs) l (held .long) j s c (o .known)))
 
 -- Its parent's time is not asked for.
 pub child-at :

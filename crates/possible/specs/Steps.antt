@@ -25,10 +25,6 @@ use Rattle.possible.specs.TillFound.{visitTillFound}
 unfoldable pub vertexOf : Recorder → List ℕ → ℕ → Vertex
 vertexOf R l t = record { placed = places R (row 24 16 l); time = t; unplaced = unflagged (placedOf l) (jobs R) }
 
--- The numbers where no job is placed.
-unfoldable pub noneCells : List ℕ → List ℕ
-noneCells l = each (λ j. λ m. set m (40 + j) 1) 16 l
-
 -- ---- its choices
 
 -- How many starts job j has after the time t; the child that places it at the k-th of them, and all of them in turn, where m flags the placed jobs.

@@ -16,12 +16,12 @@ use vertex::Cells;
 use vertex::dues::Dues;
 use vertex::dues::dues_of;
 use vertex::dues::limit_of;
-use vertex::dues::load_of;
 use vertex::placing::mark;
+use vertex::placing::root_of;
 ghost use mathlib.Core.Path.{_≡_};
 ghost use mathlib.Core.Bool.{false, true};
 ghost use Prim.Native.Nat.{_-_, _<_};
-ghost use lib.ListN.{set, length, replicate};
+ghost use lib.ListN.{set, replicate};
 ghost use Rattle.base.specs.Loops.{through};
 ghost use Rattle.schedule.specs.Quantities.{Valid, jobs};
 ghost use Rattle.schedule.specs.Visiting.{child, starts};
@@ -29,70 +29,53 @@ ghost use Rattle.schedule.specs.Visiting as Visiting;
 ghost use Rattle.flat.specs.Flat.{recorderOf};
 ghost use Rattle.vertex.specs.Vertices.{flagged};
 ghost use Rattle.vertex.specs.Layout.{placedOf};
-ghost use Rattle.vertex.specs.Sums.{due, dueFor, Stored, Offered};
+ghost use Rattle.vertex.specs.Sums.{due, dueFor, Loaded, Spared, Offered};
 ghost use Rattle.possible.specs.TillFound.{visitTillFound, visitedTillFound};
-ghost use Rattle.possible.specs.Steps.{vertexOf, noneCells, below, tallyOf, Came, Within};
+ghost use Rattle.possible.specs.Steps.{vertexOf, below, tallyOf, Came, Within};
 
-// The child of v that places job j at s, and all below it; left and load are the child's. Answers whether the visit stops: a schedule is found, or the budget is
-// used up.
+// The child of v that places job j at s, and all below it; left is the child's. Answers whether the visit stops: a schedule is found, or the budget is used up.
 fn visit(
     r: &Flat,
     v: &Cells,
     tally: &mut Tally,
     budget: u32,
     left: usize,
-    load: u32,
     limit: u32,
     j: JobNumber,
     s: u32,
 ) -> bool
-    requires { ⌜ Valid (recorderOf (now r)) × ((length (now v) ≡ 64) × (Offered (recorderOf (now r)) (now v) left load limit (j .0) s × Within (recorderOf (now r)) budget (now tally))) ⌝ }
+    requires { ⌜ Valid (recorderOf (now r)) × (Loaded (recorderOf (now r)) (now v) × (Offered (recorderOf (now r)) (now v) left limit (j .0) s × Within (recorderOf (now r)) budget (now tally))) ⌝ }
     ensures { λ x. ⌜ Came (recorderOf (now (r .entry))) budget x (now (tally .exit)) (visitTillFound (recorderOf (now (r .entry))) left (child (recorderOf (now (r .entry))) (vertexOf (recorderOf (now (r .entry))) (now (v .entry)) s) (j .0) s) (tallyOf (recorderOf (now (r .entry))) (now (tally .entry)))) ⌝ }
 {
     if tally[0] == budget {
         return true;
     }
     count_one(tally);
-    let time = s + wide(run_of(r, j.0));
+    let c = wide(run_of(r, j.0));
+    let time = s + c;
     if limit < time {
         return false;
     }
     let mut w = *v;
-    mark(&mut w, j, s);
-    enter(r, &w, tally, budget, left, time, load)
+    mark(&mut w, j, s, c);
+    enter(r, &w, tally, budget, left, time)
 }
 
 // A vertex that cut A spares: it is complete, or its children are examined.
-fn enter(
-    r: &Flat,
-    v: &Cells,
-    tally: &mut Tally,
-    budget: u32,
-    left: usize,
-    time: u32,
-    load: u32,
-) -> bool
-    requires { ⌜ Valid (recorderOf (now r)) × ((length (now v) ≡ 64) × (Stored (recorderOf (now r)) (now v) time left load × Within (recorderOf (now r)) budget (now tally))) ⌝ }
+fn enter(r: &Flat, v: &Cells, tally: &mut Tally, budget: u32, left: usize, time: u32) -> bool
+    requires { ⌜ Valid (recorderOf (now r)) × (Loaded (recorderOf (now r)) (now v) × (Spared (recorderOf (now r)) (now v) time left × Within (recorderOf (now r)) budget (now tally))) ⌝ }
     ensures { λ x. ⌜ Came (recorderOf (now (r .entry))) budget x (now (tally .exit)) (below (recorderOf (now (r .entry))) left (vertexOf (recorderOf (now (r .entry))) (now (v .entry)) time) (tallyOf (recorderOf (now (r .entry))) (now (tally .entry)))) ⌝ }
 {
     if left == 0 {
         keep_starts(v, tally);
         return true;
     }
-    choices(r, v, tally, budget, left, time, load)
+    choices(r, v, tally, budget, left, time)
 }
 
 // Each unplaced job in turn.
-fn choices(
-    r: &Flat,
-    v: &Cells,
-    tally: &mut Tally,
-    budget: u32,
-    left: usize,
-    time: u32,
-    load: u32,
-) -> bool
-    requires { ⌜ Valid (recorderOf (now r)) × ((length (now v) ≡ 64) × (Stored (recorderOf (now r)) (now v) time left load × Within (recorderOf (now r)) budget (now tally))) ⌝ }
+fn choices(r: &Flat, v: &Cells, tally: &mut Tally, budget: u32, left: usize, time: u32) -> bool
+    requires { ⌜ Valid (recorderOf (now r)) × (Loaded (recorderOf (now r)) (now v) × (Spared (recorderOf (now r)) (now v) time left × Within (recorderOf (now r)) budget (now tally))) ⌝ }
     ensures { λ x. ⌜ Came (recorderOf (now (r .entry))) budget x (now (tally .exit)) (Visiting.choices (recorderOf (now (r .entry))) (visitTillFound (recorderOf (now (r .entry))) (left - 1)) (vertexOf (recorderOf (now (r .entry))) (now (v .entry)) time) (tallyOf (recorderOf (now (r .entry))) (now (tally .entry)))) ⌝ }
 {
     let n = job_count(r);
@@ -100,7 +83,7 @@ fn choices(
     let mut j: usize = 0;
     while j < n {
         if v[40 + j] == 1 {
-            if tries(r, v, tally, budget, left, time, load, dues, JobNumber(j)) {
+            if tries(r, v, tally, budget, left, time, dues, JobNumber(j)) {
                 return true;
             }
         }
@@ -117,38 +100,24 @@ fn tries(
     budget: u32,
     left: usize,
     time: u32,
-    load: u32,
     dues: Dues,
     j: JobNumber,
 ) -> bool
-    requires { ⌜ Valid (recorderOf (now r)) × ((length (now v) ≡ 64) × (Stored (recorderOf (now r)) (now v) time left load × ((j .0 < jobs (recorderOf (now r))) × ((flagged (placedOf (now v)) (j .0) ≡ false) × ((due (recorderOf (now r)) (set (placedOf (now v)) (j .0) true) ≡ dueFor dues (j .0)) × Within (recorderOf (now r)) budget (now tally)))))) ⌝ }
+    requires { ⌜ Valid (recorderOf (now r)) × (Loaded (recorderOf (now r)) (now v) × (Spared (recorderOf (now r)) (now v) time left × ((j .0 < jobs (recorderOf (now r))) × ((flagged (placedOf (now v)) (j .0) ≡ false) × ((due (recorderOf (now r)) (set (placedOf (now v)) (j .0) true) ≡ dueFor dues (j .0)) × Within (recorderOf (now r)) budget (now tally)))))) ⌝ }
     ensures { λ x. ⌜ Came (recorderOf (now (r .entry))) budget x (now (tally .exit)) (through (λ s. visitTillFound (recorderOf (now (r .entry))) (left - 1) (child (recorderOf (now (r .entry))) (vertexOf (recorderOf (now (r .entry))) (now (v .entry)) time) (j .0) s)) (starts (recorderOf (now (r .entry))) time (j .0)) (tallyOf (recorderOf (now (r .entry))) (now (tally .entry)))) ⌝ }
 {
     let c = wide(run_of(r, j.0));
     let d = wide(deadline_of(r, j.0));
-    let rest = load - c;
+    let rest = v[64] - c;
     let limit = limit_of(dues, wide(horizon_of(r)), rest, j);
     let mut s = later(time, wide(release_of(r, j.0)));
     while s + c <= d {
-        if visit(r, v, tally, budget, left - 1, rest, limit, j, s) {
+        if visit(r, v, tally, budget, left - 1, limit, j, s) {
             return true;
         }
         s += 1;
     }
     false
-}
-
-// No job placed yet.
-fn none_placed() -> Cells
-    ensures { λ x. ⌜ x ≡ noneCells (replicate 64 0) ⌝ }
-{
-    let mut v = [0u32; 64];
-    let mut j = 0;
-    while j < 16 {
-        v[40 + j] = 1;
-        j += 1;
-    }
-    v
 }
 
 // The root and all below it.
@@ -160,11 +129,10 @@ pub fn root_visit(r: &Flat, tally: &mut Tally, budget: u32) -> bool
         return true;
     }
     count_one(tally);
-    let load = load_of(r);
-    if wide(horizon_of(r)) < load {
+    let v = root_of(r);
+    if wide(horizon_of(r)) < v[64] {
         return false;
     }
-    let v = none_placed();
     let left = job_count(r);
-    enter(r, &v, tally, budget, left, 0, load)
+    enter(r, &v, tally, budget, left, 0)
 }

@@ -5,7 +5,9 @@ pub mod Cutting
 pub mod Soonest
 pub mod Offering
 pub mod Reading
+pub mod Marking
 pub mod Charging
 pub mod Placed
 pub mod Flooring
 pub mod Rooting
+pub mod Reaching

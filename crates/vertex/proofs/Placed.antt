@@ -3,11 +3,13 @@
 use mathlib.Core.Path.{_≡_, refl, sym, ap, _∙_, subst}
 use mathlib.Core.Bool.{Bool, true, false, cond}
 use mathlib.Core.List.{List}
-use Prim.Native.Nat.{ℕ, _+_, _-_, _*_, _≤_, _<_}
+use Prim.Native.Nat.{ℕ, zero, suc, _+_, _-_, _*_, _≤_, _<_}
 use native.Mathlib.Omega.{arith}
+use native.Mathlib.Numerals.{add-one}
 use lib.ListN.{getD, set, length, length-set}
-use lib.Seq.{set-getD}
-use Rattle.base.specs.Loops.{each}
+use lib.Seq.{set-getD, getD-set-other}
+use Rattle.base.specs.Loops.{each, under}
+use Rattle.base.proofs.Cases.{test-cases}
 use Rattle.base.proofs.Turns.{each-more}
 use Rattle.base.proofs.Stores.{stored-at, stored-kept}
 use Rattle.device.specs.declared.Device.{Device}
@@ -15,15 +17,16 @@ use Rattle.schedule.specs.declared.Recorder.{Recorder}
 use Rattle.schedule.specs.Quantities.{Valid, run, uses, device}
 use Rattle.schedule.specs.Visiting.{ticks}
 use Rattle.vertex.specs.Vertices.{Vertex, ahead, unused, leadOf, paidStep, firstStep, endStep, storing, placeAt, Settled}
-use Rattle.vertex.specs.Layout.{row, placedOf, vertexOf, put, marked}
+use Rattle.vertex.specs.Layout.{row, placedOf, vertexOf, put, marked, charged, childCells}
 use Rattle.vertex.specs.Sums.{Holds, Fitting}
 use Rattle.vertex.proofs.Adding.{rest-less}
 use Rattle.vertex.proofs.Charging.{placed-settled}
-use Rattle.vertex.proofs.Reading.{row-at, row-long, row-other, row-store, end-cell, end-store, placed-long, placed-other, placed-after, placed-store}
+use Rattle.vertex.proofs.Marking.{run-in, marked-long, marked-row, marked-firsts, marked-starts, marked-placed, marked-loaded}
+use Rattle.vertex.proofs.Reading.{row-at, row-long, row-other, row-store, end-cell, end-store, placed-long, placed-other, placed-after}
 
 -- ---- one device
 
-module _ (round : Bool) (d : Device) (k s c : ℕ) (h : k < 8) (l : List ℕ) (m : length l ≡ 64) where
+module _ (round : Bool) (d : Device) (k s c : ℕ) (h : k < 8) (l : List ℕ) (m : length l ≡ 65) where
   abbrev new : Bool
   new = unused round (getD l k 0)
 
@@ -39,16 +42,16 @@ module _ (round : Bool) (d : Device) (k s c : ℕ) (h : k < 8) (l : List ℕ) (m
   abbrev three : List ℕ
   three = set two (16 + k) (getD l (16 + k) 0 - c)
 
-  one-long : length one ≡ 64
+  one-long : length one ≡ 65
   one-long = rw length-set m
 
-  two-long : length two ≡ 64
+  two-long : length two ≡ 65
   two-long = rw length-set one-long
 
-  three-long : length three ≡ 64
+  three-long : length three ≡ 65
   three-long = rw length-set two-long
 
-  put-long : length (put round d k s c l) ≡ 64
+  put-long : length (put round d k s c l) ≡ 65
   unfolding put
   put-long = rw length-set three-long
 
@@ -88,14 +91,17 @@ module _ (round : Bool) (d : Device) (k s c : ℕ) (h : k < 8) (l : List ℕ) (m
       ∙ ap (λ (r : List ℕ). set r k (cond new s (getD l (56 + k) 0)))
       (row-other 56 8 two (16 + k) _ (λ i b e. omega (arith, b, e)) ∙ row-other 56 8 one k (s + c) (λ i b e. omega (arith, b, e)) ∙ row-other 56 8 l (8 + k) _ (λ i b e. omega (arith, b, e)))
 
+  put-load : getD (put round d k s c l) 64 0 ≡ getD l 64 0
+  unfolding put
+  put-load =
+      getD-set-other three (56 + k) 64 _ 0 (λ (e : 64 ≡ 56 + k). omega (arith, e)) ∙ getD-set-other two (16 + k) 64 _ 0 (λ (e : 64 ≡ 16 + k). omega (arith, e))
+      ∙ getD-set-other one k 64 (s + c) 0 (λ (e : 64 ≡ k). omega (arith, e)) ∙ getD-set-other l (8 + k) 64 _ 0 (λ (e : 64 ≡ 8 + k). omega (arith, e))
+
   put-placed : placedOf (put round d k s c l) ≡ placedOf l
   unfolding put
   put-placed =
       placed-after three (56 + k) _ (omega arith)
       ∙ placed-other two (16 + k) _ (omega arith) ∙ placed-other one k (s + c) (omega arith) ∙ placed-other l (8 + k) _ (omega arith)
-
-pub put-as : (b b′ : Bool) (d : Device) (k s c c′ : ℕ) (l a : List ℕ) → b ≡ b′ → c ≡ c′ → a ≡ put b d k s c l → a ≡ put b′ d k s c′ l
-put-as b b′ d k s c c′ l a e f h = h ∙ ap (λ (x : Bool). put x d k s c l) e ∙ ap (λ (x : ℕ). put b′ d k s x l) f
 
 -- ---- the devices in turn
 
@@ -113,18 +119,19 @@ module _ (R : Recorder) (j s : ℕ) (w : List ℕ) where
   coming k = getD (row 16 8 w) k 0 - ticks R k j
 
   -- l is w after the first k devices.
-  pub record Put (k : ℕ) (l : List ℕ) : Type 0 where
-    pub long : length l ≡ 64
+  record Put (k : ℕ) (l : List ℕ) : Type 0 where
+    pub long : length l ≡ 65
     pub ends : row 0 8 l ≡ each (storing ending) k (row 0 8 w)
     pub paid : row 8 8 l ≡ each (storing paying) k (row 8 8 w)
     pub firsts : row 56 8 l ≡ each (storing beginning) k (row 56 8 w)
     pub ticks : row 16 8 l ≡ each (storing coming) k (row 16 8 w)
     pub starts : row 24 16 l ≡ row 24 16 w
     pub placed : placedOf l ≡ placedOf w
+    pub load : getD l 64 0 ≡ getD w 64 0
 
-  pub put-none : length w ≡ 64 → Put 0 w
+  put-none : length w ≡ 65 → Put 0 w
   unfolding each
-  put-none h = record { long = h; ends = refl; paid = refl; firsts = refl; ticks = refl; starts = refl; placed = refl }
+  put-none h = record { long = h; ends = refl; paid = refl; firsts = refl; ticks = refl; starts = refl; placed = refl; load = refl }
 
   module _ (k : ℕ) (l : List ℕ) (h : k < 8) (p : Put k l) where
     -- Its numbers of device k are still w's.
@@ -143,7 +150,7 @@ module _ (R : Recorder) (j s : ℕ) (w : List ℕ) where
     more-of : (f : ℕ → ℕ) (o : ℕ) (a : List ℕ) → row o 8 l ≡ each (storing f) k (row o 8 w) → a ≡ set (row o 8 l) k (f k) → a ≡ each (storing f) (k + 1) (row o 8 w)
     more-of f o a e g = g ∙ ap (λ (r : List ℕ). set r k (f k)) e ∙ sym (each-more (storing f) k (row o 8 w))
 
-    pub put-used : uses R k j ≡ true → Put (k + 1) (put (R .round) (device R k) k s (run R j) l)
+    put-used : uses R k j ≡ true → Put (k + 1) (put (R .round) (device R k) k s (run R j) l)
     unfolding endStep paidStep firstStep
     put-used u =
         record {
@@ -154,12 +161,13 @@ module _ (R : Recorder) (j s : ℕ) (w : List ℕ) where
           ticks = more-of coming 16 _ (p .ticks) (put-ticks (R .round) (device R k) k s (run R j) h l (p .long) ∙ simp (u, tick-kept));
           starts = put-starts (R .round) (device R k) k s (run R j) h l (p .long) ∙ p .starts;
           placed = put-placed (R .round) (device R k) k s (run R j) h l (p .long) ∙ p .placed;
+          load = put-load (R .round) (device R k) k s (run R j) h l (p .long) ∙ p .load;
         }
 
     same-as : (o : ℕ) (x : ℕ) → x ≡ getD (row o 8 l) k 0 → row o 8 l ≡ set (row o 8 l) k x
     same-as o x e = sym (set-getD (row o 8 l) k 0) ∙ ap (set (row o 8 l) k) (sym e)
 
-    pub put-unused : uses R k j ≡ false → Put (k + 1) l
+    put-unused : uses R k j ≡ false → Put (k + 1) l
     unfolding endStep paidStep firstStep
     put-unused u =
         record {
@@ -170,7 +178,17 @@ module _ (R : Recorder) (j s : ℕ) (w : List ℕ) where
           ticks = more-of coming 16 _ (p .ticks) (same-as 16 (coming k) (simp u (omega (arith, tick-kept, row-at 16 8 l k h))));
           starts = p .starts;
           placed = p .placed;
+          load = p .load;
         }
+
+    put-turn : Put (k + 1) (charged R j s k l)
+    put-turn =
+        test-cases (λ (b : Bool). Put (k + 1) (under b (put (R .round) (device R k) k s (run R j)) l)) (uses R k j) (λ q. put-used q) (λ q. put-unused q)
+
+  put-by : length w ≡ 65 → (k : ℕ) → k ≤ 8 → Put k (each (charged R j s) k w)
+  unfolding each
+  put-by h zero b = put-none h
+  put-by h (suc k) b = rw (← add-one k) (put-turn k (each (charged R j s) k w) (omega arith) (put-by h k (omega arith)))
 
 -- ---- the whole child
 
@@ -179,34 +197,22 @@ module _ (R : Recorder) (ok : Valid R) (l : List ℕ) (j s : ℕ) (held : Holds 
   few-job = omega (arith, fit .known, ok .few-jobs)
 
   abbrev base : List ℕ
-  base = marked j s l
+  base = marked j s (run R j) l
 
-  pub base-long : length base ≡ 64
-  unfolding marked
-  base-long = rw (length-set, length-set) (held .long)
-
-  started-long : length (set l (24 + j) s) ≡ 64
-  started-long = rw length-set (held .long)
+  base-long : length base ≡ 65
+  base-long = marked-long l (held .loaded .long) j s (run R j) few-job
 
   base-row : (o : ℕ) → o ≤ 16 → row o 8 base ≡ row o 8 l
-  unfolding marked
-  base-row o b =
-      let f = few-job in
-      row-other o 8 (set l (24 + j) s) (40 + j) 0 (λ i c e. omega (arith, b, c, e)) ∙ row-other o 8 l (24 + j) s (λ i c e. omega (arith, b, c, e))
+  base-row o b = marked-row l (held .loaded .long) j s (run R j) few-job o 8 (omega (arith, b))
 
   base-firsts : row 56 8 base ≡ row 56 8 l
-  unfolding marked
-  base-firsts =
-      let f = few-job in
-      row-other 56 8 (set l (24 + j) s) (40 + j) 0 (λ i c e. omega (arith, c, e)) ∙ row-other 56 8 l (24 + j) s (λ i c e. omega (arith, c, e))
+  base-firsts = marked-firsts l (held .loaded .long) j s (run R j) few-job
 
   base-starts : row 24 16 base ≡ set (row 24 16 l) j s
-  unfolding marked
-  base-starts = row-other 24 16 (set l (24 + j) s) (40 + j) 0 (λ i c e. omega (arith, c, e)) ∙ row-store 24 16 l j s few-job (omega (arith, held .long, few-job))
+  base-starts = marked-starts l (held .loaded .long) j s (run R j) few-job 16 few-job (omega arith)
 
   base-placed : placedOf base ≡ set (placedOf l) j true
-  unfolding marked
-  base-placed = placed-store (set l (24 + j) s) j few-job started-long ∙ ap (λ (r : List Bool). set r j true) (placed-other l (24 + j) s (omega (arith, few-job)))
+  base-placed = marked-placed l (held .loaded .long) j s (run R j) few-job
 
   -- The ticks to come: with the job's own, and without.
   tick-is : (k : ℕ) → k < R .devices .count → getD (row 16 8 base) k 0 ≡ ahead R (set (placedOf l) j true) k + ticks R k j
@@ -214,19 +220,26 @@ module _ (R : Recorder) (ok : Valid R) (l : List ℕ) (j s : ℕ) (held : Holds 
       ap (λ (r : List ℕ). getD r k 0) (base-row 16 (omega arith)) ∙ row-at 16 8 l k (omega (arith, b, ok .few-devices)) ∙ held .ticks k b
       ∙ rest-less R (placedOf l) j (omega (arith, placed-long l, few-job)) (fit .free) (fit .known) (ticks R k)
 
-  module _ (k : ℕ) (w : List ℕ) (b : k < R .devices .count) (p : Put R j s base k w) where
+  -- What marking it asks.
+  pub may-mark : (j < 16) × (run R j ≤ getD l 64 0)
+  may-mark = (few-job, run-in R ok l (held .loaded) j (fit .known) (fit .free))
+
+  module _ (k : ℕ) (b : k < R .devices .count) (w : List ℕ) (ew : w ≡ each (charged R j s) k base) where
+    so-far : Put R j s base k w
+    so-far = rw ew (put-by R j s base base-long k (omega (arith, b, ok .few-devices)))
+
     few-device : k < 8
     few-device = omega (arith, b, ok .few-devices)
 
     end-was : getD w k 0 ≡ getD (row 0 8 l) k 0
-    end-was = end-kept R j s base k w few-device p ∙ ap (λ (r : List ℕ). getD r k 0) (base-row 0 (omega arith))
+    end-was = end-kept R j s base k w few-device so-far ∙ ap (λ (r : List ℕ). getD r k 0) (base-row 0 (omega arith))
 
     paid-was : getD w (8 + k) 0 ≡ getD (row 8 8 l) k 0
-    paid-was = paid-kept R j s base k w few-device p ∙ ap (λ (r : List ℕ). getD r k 0) (base-row 8 (omega arith))
+    paid-was = paid-kept R j s base k w few-device so-far ∙ ap (λ (r : List ℕ). getD r k 0) (base-row 8 (omega arith))
 
     tick-was : uses R k j ≡ true → run R j ≤ getD w (16 + k) 0
     tick-was u =
-        let e : getD w (16 + k) 0 ≡ ahead R (set (placedOf l) j true) k + run R j = tick-kept R j s base k w few-device p ∙ tick-is k b ∙ ap (λ (y : Bool). ahead R (set (placedOf l) j true) k + cond y (run R j) 0) u in
+        let e : getD w (16 + k) 0 ≡ ahead R (set (placedOf l) j true) k + run R j = tick-kept R j s base k w few-device so-far ∙ tick-is k b ∙ ap (λ (y : Bool). ahead R (set (placedOf l) j true) k + cond y (run R j) 0) u in
         omega (arith, e)
 
     -- What charging device k asks.
@@ -235,7 +248,11 @@ module _ (R : Recorder) (ok : Valid R) (l : List ℕ) (j s : ℕ) (held : Holds 
     may-charge u =
         (rw (paid-was, end-was) (held .settled .cheap k b), (rw end-was (held .settled .ended k b), (omega (arith, fit .fits), tick-was u)))
 
-  module _ (w : List ℕ) (p : Put R j s base (R .devices .count) w) where
+  module _ (w : List ℕ) (ew : w ≡ childCells R j s l) where
+    p : Put R j s base (R .devices .count) w
+    unfolding childCells
+    p = rw ew (put-by R j s base base-long (R .devices .count) (ok .few-devices))
+
     placed-now : placedOf w ≡ set (placedOf l) j true
     placed-now = p .placed ∙ base-placed
 
@@ -275,7 +292,7 @@ module _ (R : Recorder) (ok : Valid R) (l : List ℕ) (j s : ℕ) (held : Holds 
     unfolding vertexOf
     child-held =
         record {
-          long = p .long;
+          loaded = record { long = p .long; load = rw (p .load, p .placed) (marked-loaded R ok l (held .loaded) j (fit .known) (fit .free) s .load) };
           settled = subst (Settled R) (sym child-made) (placed-settled R ok (vertexOf l s) (row-long 0 8 l) (row-long 8 8 l) (row-long 56 8 l) j s (held .settled) (omega arith) (omega (arith, fit .fits)));
           ticks = ticks-right;
         }

@@ -42,7 +42,7 @@ row-store o n l k x h m =
 pub end-cell : (l : List ℕ) (k : ℕ) → k < 8 → getD (row 0 8 l) k 0 ≡ getD l k 0
 end-cell l k h = row-at 0 8 l k h ∙ ap (λ (i : ℕ). getD l i 0) (zero-add k)
 
-pub end-store : (l : List ℕ) (k x : ℕ) → k < 8 → length l ≡ 64 → row 0 8 (set l k x) ≡ set (row 0 8 l) k x
+pub end-store : (l : List ℕ) (k x : ℕ) → k < 8 → length l ≡ 65 → row 0 8 (set l k x) ≡ set (row 0 8 l) k x
 end-store l k x h m = ap (λ (i : ℕ). row 0 8 (set l i x)) (sym (zero-add k)) ∙ row-store 0 8 l k x h (omega arith)
 
 -- The flags.
@@ -69,7 +69,7 @@ pub placed-after : (l : List ℕ) (i x : ℕ) → 56 ≤ i → placedOf (set l i
 unfolding placedOf
 placed-after l i x h = upTo-same _ _ 16 (λ k m. ap (λ (y : ℕ). not (eqb y 1)) (getD-set-other l i (40 + k) x 0 (λ (e : 40 + k ≡ i). omega (arith, e))))
 
-pub placed-store : (l : List ℕ) (j : ℕ) → j < 16 → length l ≡ 64 → placedOf (set l (40 + j) 0) ≡ set (placedOf l) j true
+pub placed-store : (l : List ℕ) (j : ℕ) → j < 16 → length l ≡ 65 → placedOf (set l (40 + j) 0) ≡ set (placedOf l) j true
 unfolding placedOf
 placed-store l j h m =
     upTo-whole _ (set (placedOf l) j true) false 16 (rw length-set (length-upTo _ 16))

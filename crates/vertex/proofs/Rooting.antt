@@ -7,6 +7,7 @@ use Prim.Native.Nat.{ℕ, zero, suc, _+_, _≤_, _<_}
 use native.Mathlib.Omega.{arith}
 use lib.Dec.{ltb}
 use lib.ListN.{getD, set, length, replicate, length-set}
+use lib.Seq.{getD-set-other}
 use borrow.Author.Tests.{lt-ltb, le-ltb}
 use Rattle.base.specs.Lists.{upTo}
 use Rattle.base.specs.Loops.{each}
@@ -17,14 +18,14 @@ use Rattle.schedule.specs.Quantities.{Valid, jobs, run}
 use Rattle.schedule.specs.Visiting.{ticks}
 use Rattle.vertex.specs.Vertices.{load, ahead, late, cutA, storing, root, Settled}
 use Rattle.vertex.specs.Layout.{row, placedOf, vertexOf, rootCells}
-use Rattle.vertex.specs.Sums.{latest, Holds, Stored}
+use Rattle.vertex.specs.Sums.{latest, Holds, Spared}
 use Rattle.vertex.proofs.Adding.{rest-all, unplaced-all}
 use Rattle.vertex.proofs.Charging.{root-settled}
 use Rattle.vertex.proofs.Limits.{cut-latest}
 use Rattle.vertex.proofs.Reading.{row-at, row-other, row-store, placed-other}
 
-abbrev fresh : List ℕ
-fresh = each (λ j. λ l. set l (40 + j) 1) 16 (replicate 64 0)
+abbrev fresh : ℕ → List ℕ
+fresh x = each (λ j. λ l. set l (40 + j) 1) 16 (set (replicate 65 0) 64 x)
 
 module _ (R : Recorder) where
   abbrev coming : ℕ → ℕ
@@ -32,17 +33,18 @@ module _ (R : Recorder) where
 
   -- The numbers once the first k devices have their ticks.
   record Rooted (k : ℕ) (l : List ℕ) : Type 0 where
-    pub long : length l ≡ 64
+    pub long : length l ≡ 65
     pub ends : row 0 8 l ≡ replicate 8 0
     pub paid : row 8 8 l ≡ replicate 8 0
     pub firsts : row 56 8 l ≡ replicate 8 0
     pub ticks : row 16 8 l ≡ each (storing coming) k (replicate 8 0)
     pub starts : row 24 16 l ≡ replicate 16 0
     pub placed : placedOf l ≡ replicate 16 false
+    pub load : getD l 64 0 ≡ sum (jobs R) (run R)
 
-  rooted-none : Rooted 0 fresh
+  rooted-none : Rooted 0 (fresh (sum (jobs R) (run R)))
   unfolding each row placedOf upTo
-  rooted-none = record { long = refl; ends = refl; paid = refl; firsts = refl; ticks = refl; starts = refl; placed = refl }
+  rooted-none = record { long = refl; ends = refl; paid = refl; firsts = refl; ticks = refl; starts = refl; placed = refl; load = refl }
 
   rooted-more : (k : ℕ) (l : List ℕ) → k < 8 → Rooted k l → Rooted (suc k) (set l (16 + k) (coming k))
   unfolding each
@@ -55,9 +57,10 @@ module _ (R : Recorder) where
         ticks = row-store 16 8 l k (coming k) b (omega (arith, p .long)) ∙ ap (λ (r : List ℕ). set r k (coming k)) (p .ticks);
         starts = row-other 24 16 l (16 + k) (coming k) (λ i c e. omega (arith, c, e)) ∙ p .starts;
         placed = placed-other l (16 + k) (coming k) (omega arith) ∙ p .placed;
+        load = getD-set-other l (16 + k) 64 (coming k) 0 (λ (e : 64 ≡ 16 + k). omega (arith, b, e)) ∙ p .load;
       }
 
-  rooted-by : (k : ℕ) → k ≤ 8 → Rooted k (each (λ i. λ l. set l (16 + i) (coming i)) k fresh)
+  rooted-by : (k : ℕ) → k ≤ 8 → Rooted k (each (λ i. λ l. set l (16 + i) (coming i)) k (fresh (sum (jobs R) (run R))))
   unfolding each
   rooted-by zero b = rooted-none
   rooted-by (suc k) b = rooted-more k _ (omega arith) (rooted-by k (omega arith))
@@ -67,6 +70,12 @@ module _ (R : Recorder) where
     unfolding rootCells
     rooted = rooted-by (R .devices .count) (ok .few-devices)
 
+    pub root-placed : placedOf (rootCells R) ≡ replicate 16 false
+    root-placed = rooted .placed
+
+    pub root-starts : row 24 16 (rootCells R) ≡ replicate 16 0
+    root-starts = rooted .starts
+
     pub root-is : vertexOf (rootCells R) 0 ≡ root
     unfolding vertexOf
     root-is = rw (rooted .ends, rooted .paid, rooted .firsts, rooted .starts, rooted .placed)
@@ -74,7 +83,7 @@ module _ (R : Recorder) where
     pub root-holds : Holds R (rootCells R) 0
     root-holds =
         record {
-          long = rooted .long;
+          loaded = record { long = rooted .long; load = rw (rooted .placed) (rooted .load ∙ sym (rest-all R (run R))) };
           settled = subst (Settled R) (sym root-is) (root-settled R);
           ticks =
               λ k b. sym (row-at 16 8 (rootCells R) k (omega (arith, ok .few-devices))) ∙ ap (λ (r : List ℕ). getD r k 0) (rooted .ticks)
@@ -82,13 +91,11 @@ module _ (R : Recorder) where
               ∙ ap (λ (m : List Bool). ahead R m k) (sym (rooted .placed));
         }
 
-    pub root-stored : (x : ℕ) → x ≡ sum (jobs R) (run R) → x ≤ R .horizon → Stored R (rootCells R) 0 (jobs R) x
-    root-stored x e h =
-        record {
-          left = rw (rooted .placed) (sym (unplaced-all R));
-          sum = rw (rooted .placed) (e ∙ sym (rest-all R (run R)));
-          fits = omega arith;
-        }
+    pub root-load : getD (rootCells R) 64 0 ≡ sum (jobs R) (run R)
+    root-load = rooted .load
+
+    pub root-spared : getD (rootCells R) 64 0 ≤ R .horizon → Spared R (rootCells R) 0 (jobs R)
+    root-spared h = record { left = rw (rooted .placed) (sym (unplaced-all R)); fits = omega (arith, h, root-holds .loaded .load) }
 
 -- Cut A at the root, where x is the running time of all jobs.
 module _ (R : Recorder) (ok : Valid R) (x : ℕ) (ex : x ≡ sum (jobs R) (run R)) where

@@ -1,3 +1,4 @@
 pub mod Vertices
 pub mod Layout
 pub mod Sums
+pub mod Reachable

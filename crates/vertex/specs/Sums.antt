@@ -46,11 +46,15 @@ latest R m = min (R .horizon - load R m) (due R m)
 
 -- ---- the jobs
 
--- A vertex at the time t that cut A has not dropped: n jobs are unplaced, and x is the sum of their running times.
-pub record Stored (R : Recorder) (l : List ℕ) (t n x : ℕ) : Type 0 where
+-- The numbers hold the running times of the unplaced jobs.
+pub record Loaded (R : Recorder) (l : List ℕ) : Type 0 where
+  pub long : length l ≡ 65
+  pub load : getD l 64 0 ≡ load R (placedOf l)
+
+-- A vertex at the time t that cut A has not dropped: n jobs are unplaced, and there is room for them.
+pub record Spared (R : Recorder) (l : List ℕ) (t n : ℕ) : Type 0 where
   pub left : n ≡ unplaced R (placedOf l)
-  pub sum : x ≡ load R (placedOf l)
-  pub fits : t + x ≤ R .horizon
+  pub fits : t + load R (placedOf l) ≤ R .horizon
 
 -- Job j is unplaced, and a child of the vertex that places it at s has room for the other jobs.
 pub record Fitting (R : Recorder) (l : List ℕ) (j s : ℕ) : Type 0 where
@@ -58,20 +62,20 @@ pub record Fitting (R : Recorder) (l : List ℕ) (j s : ℕ) : Type 0 where
   pub free : flagged (placedOf l) j ≡ false
   pub fits : s + run R j + load R (set (placedOf l) j true) ≤ R .horizon
 
--- A child that places job j at s, before cut A: n jobs are unplaced then, x is the sum of their running times, and y the latest time of such a child.
-pub record Offered (R : Recorder) (l : List ℕ) (n x y j s : ℕ) : Type 0 where
+-- A child that places job j at s, before cut A: n jobs are unplaced then, for which the horizon has room, and y is the latest time of such a child.
+pub record Offered (R : Recorder) (l : List ℕ) (n y j s : ℕ) : Type 0 where
   pub known : j < jobs R
   pub free : flagged (placedOf l) j ≡ false
   pub within : s + run R j ≤ R .horizon
   pub left : n ≡ unplaced R (set (placedOf l) j true)
-  pub sum : x ≡ load R (set (placedOf l) j true)
-  pub small : x ≤ R .horizon
+  pub small : load R (set (placedOf l) j true) ≤ R .horizon
   pub limit : y ≡ latest R (set (placedOf l) j true)
 
 -- ---- the devices
 
--- The numbers hold a vertex as it stands at the time t, and each device's ticks to come are those of the unplaced jobs.
+-- The numbers hold a vertex as it stands at the time t, and both sums over its unplaced jobs: their running times, and for each device the ticks for which they will
+-- use it.
 pub record Holds (R : Recorder) (l : List ℕ) (t : ℕ) : Type 0 where
-  pub long : length l ≡ 64
+  pub loaded : Loaded R l
   pub settled : Settled R (vertexOf l t)
   pub ticks : (k : ℕ) → k < R .devices .count → getD l (16 + k) 0 ≡ ahead R (placedOf l) k

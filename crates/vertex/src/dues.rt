@@ -11,8 +11,7 @@ ghost use mathlib.Core.Path.{_≡_};
 ghost use mathlib.Core.Bool.{true};
 ghost use Prim.Native.Nat.{ℕ, _<_, _≤_};
 ghost use lib.ListN.{set};
-ghost use Rattle.base.specs.Sums.{sum};
-ghost use Rattle.schedule.specs.Quantities.{Valid, jobs, run};
+ghost use Rattle.schedule.specs.Quantities.{Valid};
 ghost use Rattle.flat.specs.Flat.{recorderOf};
 ghost use Rattle.vertex.specs.Layout.{placedOf};
 ghost use Rattle.vertex.specs.Sums.{due, dueWith, dueFor, limitFor};
@@ -77,19 +76,4 @@ pub fn limit_of(d: Dues, h: u32, rest: u32, j: JobNumber) -> u32
     } else {
         sooner(h - rest, d.first)
     }
-}
-
-// The running time of all jobs.
-pub fn load_of(r: &Flat) -> u32
-    requires { ⌜ jobs (recorderOf (now r)) ≤ 16 ⌝ }
-    ensures { λ x. ⌜ x ≡ sum (jobs (recorderOf (now (r .entry)))) (run (recorderOf (now (r .entry)))) ⌝ }
-{
-    let n = job_count(r);
-    let mut load: u32 = 0;
-    let mut j = 0;
-    while j < n {
-        load += wide(run_of(r, j));
-        j += 1;
-    }
-    load
 }

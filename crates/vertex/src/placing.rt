@@ -1,4 +1,4 @@
-// A job placed: its ticks go from those to come to those that its devices have paid for. And the root, where no job is placed.
+// A job placed: its ticks leave those of the unplaced jobs, and go from those to come to those that its devices have paid for. And the root, where no job is placed.
 use crate::Cells;
 use crate::leads::is_unused;
 use crate::leads::lead_of;
@@ -21,17 +21,18 @@ ghost use Rattle.schedule.specs.Quantities.{Valid, device, jobs, run};
 ghost use Rattle.schedule.specs.Visiting.{ticks};
 ghost use Rattle.flat.specs.Flat.{recorderOf};
 ghost use Rattle.flat.specs.Costs.{Ready};
-ghost use Rattle.vertex.specs.Vertices.{placeAt};
-ghost use Rattle.vertex.specs.Layout.{vertexOf, put, marked, rootCells};
+ghost use Rattle.vertex.specs.Layout.{put, marked, childCells, rootCells};
 ghost use Rattle.vertex.specs.Sums.{Holds, Fitting};
 
-// The start and the flag of job j.
-pub fn mark(w: &mut Cells, j: JobNumber, s: u32)
-    requires { ⌜ j .0 < 16 ⌝ }
-    ensures { λ _. ⌜ now (w .exit) ≡ marked (j .0) s (now (w .entry)) ⌝ }
+// The start and the flag of job j, which runs for c ticks: these are no longer among those of the unplaced jobs.
+pub fn mark(w: &mut Cells, j: JobNumber, s: u32, c: u32)
+    requires { ⌜ (j .0 < 16) × (c ≤ getD (now w) 64 0) ⌝ }
+    ensures { λ _. ⌜ now (w .exit) ≡ marked (j .0) s c (now (w .entry)) ⌝ }
 {
+    let load = w[64];
     w[24 + j.0] = s;
     w[40 + j.0] = 0;
+    w[64] = load - c;
 }
 
 // The start of a device's first use, where the use at s is another or the first.
@@ -62,13 +63,12 @@ fn charge(r: &Flat, costs: &Costs, w: &mut Cells, round: bool, k: usize, s: u32,
 // Places job j at s.
 pub fn place(r: &Flat, costs: &Costs, w: &mut Cells, j: JobNumber, s: u32)
     requires { ⌜ Ready (recorderOf (now r)) (now costs) × (Holds (recorderOf (now r)) (now w) s × Fitting (recorderOf (now r)) (now w) (j .0) s) ⌝ }
-    ensures made { λ _. ⌜ vertexOf (now (w .exit)) (s + run (recorderOf (now (r .entry))) (j .0)) ≡ placeAt (recorderOf (now (r .entry))) (vertexOf (now (w .entry)) s) (j .0) s ⌝ }
-    ensures held { λ _. ⌜ Holds (recorderOf (now (r .entry))) (now (w .exit)) (s + run (recorderOf (now (r .entry))) (j .0)) ⌝ }
+    ensures { λ _. ⌜ now (w .exit) ≡ childCells (recorderOf (now (r .entry))) (j .0) s (now (w .entry)) ⌝ }
 {
     let c = wide(run_of(r, j.0));
     let round = is_round(r);
     let m = device_count(r);
-    mark(w, j, s);
+    mark(w, j, s, c);
     let mut k = 0;
     while k < m {
         if is_used(r, k, j.0) {
@@ -100,13 +100,29 @@ fn all_ticks_of(r: &Flat, k: usize) -> u32
     sum
 }
 
+// The running times of all jobs.
+fn load_of(r: &Flat) -> u32
+    requires { ⌜ jobs (recorderOf (now r)) ≤ 16 ⌝ }
+    ensures { λ x. ⌜ x ≡ sum (jobs (recorderOf (now (r .entry)))) (run (recorderOf (now (r .entry)))) ⌝ }
+{
+    let n = job_count(r);
+    let mut load: u32 = 0;
+    let mut j = 0;
+    while j < n {
+        load += wide(run_of(r, j));
+        j += 1;
+    }
+    load
+}
+
 // No job placed yet.
 pub fn root_of(r: &Flat) -> Cells
     requires { ⌜ Valid (recorderOf (now r)) ⌝ }
     ensures { λ x. ⌜ x ≡ rootCells (recorderOf (now (r .entry))) ⌝ }
 {
     let m = device_count(r);
-    let mut v = [0u32; 64];
+    let mut v = [0u32; 65];
+    v[64] = load_of(r);
     let mut j = 0;
     while j < 16 {
         v[40 + j] = 1;

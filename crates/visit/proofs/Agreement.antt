@@ -11,12 +11,13 @@ use lib.Dec.{ltb, eqb}
 use lib.ListN.{getD, length, set, take, replicate, length-set, length-replicate, replicate-append-replicate}
 use lib.Seq.{set-append-left, take-at}
 use borrow.Author.Tests.{eqb-true}
-use Rattle.base.specs.Lists.{padded}
+use Rattle.base.specs.Lists.{In, padded}
 use Rattle.base.specs.Loops.{each, through, under}
 use Rattle.base.specs.Sums.{total}
 use Rattle.base.proofs.Additions.{sum-same}
 use Rattle.base.proofs.Arrays.{getD-padded}
 use Rattle.base.proofs.Cases.{test-cases}
+use Rattle.base.proofs.Numbers.{length-remove}
 use Rattle.device.specs.Row.{deep, gapCost}
 use Rattle.schedule.specs.declared.Recorder.{Recorder}
 use Rattle.schedule.specs.Quantities.{Valid, device, jobs, release, run, deadline, uses}
@@ -30,10 +31,14 @@ use Rattle.schedule.proofs.Gaps.{paidFrom, last-snoc}
 use Rattle.schedule.proofs.Rounds as rounds
 use Rattle.schedule.proofs.Rounds.{idle, paidWhole, gap-free, since-place, paid-place, plan-complete}
 use Rattle.schedule.proofs.Floors.{floor-is}
-use Rattle.vertex.specs.Layout.{vertexOf}
-use Rattle.vertex.specs.Sums.{Holds, Stored}
+use Rattle.vertex.specs.Layout.{vertexOf, rootCells, childCells}
+use Rattle.vertex.specs.Sums.{Holds}
+use Rattle.vertex.specs.Reachable.{Reachable, from-root, by-placing}
 use Rattle.vertex.proofs.Charging.{end-now, paid-now, first-now, ends-long, paid-long, firsts-long, placed-settled, root-settled}
 use Rattle.vertex.proofs.Cutting.{cut-visiting}
+use Rattle.vertex.proofs.Placed.{child-made}
+use Rattle.vertex.proofs.Reaching.{reached-holds, tried-holds}
+use Rattle.vertex.proofs.Rooting.{root-is}
 use Rattle.visit.proofs.Order.{job-placed, job-open}
 use Rattle.vertex.proofs.Flags.{among, none-flagged, flag-more, over-flags, over-span}
 
@@ -60,16 +65,6 @@ SameBest R b (some s) = (b .found ≡ true) × (b .energy ≡ doc.planEnergy R s
 record SameTally (R : Recorder) (t : Tally) (st : doc.Visited) : Type 0 where
   pub count : t .count ≡ st .count
   pub best : SameBest R (t .best) (st .best)
-
--- ---- the stored sums
-
--- Where the lent numbers hold the vertex w, the sums stored with them are w's: the running times of the unplaced jobs (rule 43), and for each device the ticks for
--- which they will use it (rule 46).
-pub stored-sums :
-    (R : Recorder) (l : List ℕ) (t n x : ℕ) (w : doc.Vertex) → Same R (vertexOf l t) w → Holds R l t → Stored R l t n x
-    → (x ≡ total (run R) (w .unplaced)) × ((k : ℕ) → k < R .devices .count → getD l (16 + k) 0 ≡ total (doc.ticks R k) (w .unplaced))
-unfolding vertexOf
-stored-sums R l t n x w same holds stored = (rw (same .unplaced) (stored .sum), λ k b. rw (same .unplaced) (holds .ticks k b))
 
 -- ---- one vertex
 
@@ -158,6 +153,10 @@ module _ (R : Recorder) where
   best-some b (some s) h q =
       let own : take (jobs R) (b .starts) ≡ s = ap (take (jobs R)) (h .2) ∙ take-at s (replicate (16 - length s) 0) (jobs R) (h .3) in
       (ap some (sym own), h .1 ∙ ap (doc.planEnergy R) (sym own))
+
+-- A vertex is reached with as many jobs as are unplaced.
+resized : (R : Recorder) (m : ℕ) (w : doc.Vertex) → Reached R m w → Reached R (length (w .unplaced)) w
+resized R m w h = subst (λ (n : ℕ). Reached R n w) (sym (h .size)) h
 
 -- ---- a child
 
@@ -366,6 +365,43 @@ root-same R valid =
       firsts = λ k l. getD-padded 8 0 [] k ∙ sym (root-since R k);
       paid = λ k l. getD-padded 8 0 [] k ∙ sym (root-paid R k);
     }
+
+-- ---- the stored sums
+
+-- The lent numbers l hold a vertex of the visiting order at the time t, and the sums stored in them are that vertex's: the running times of its unplaced jobs
+-- (rule 43), and for each device the ticks for which they will use it (rule 46).
+pub record Stands (R : Recorder) (l : List ℕ) (t : ℕ) : Type 0 where
+  pub vertex : doc.Vertex
+  pub same : Same R (vertexOf l t) vertex
+  pub reached : Reached R (length (vertex .unplaced)) vertex
+  pub load : getD l 64 0 ≡ total (run R) (vertex .unplaced)
+  pub ticks : (k : ℕ) → k < R .devices .count → getD l (16 + k) 0 ≡ total (doc.ticks R k) (vertex .unplaced)
+
+module _ (R : Recorder) (valid : Valid R) where
+  stands : (l : List ℕ) (t : ℕ) → Holds R l t → (w : doc.Vertex) → Same R (vertexOf l t) w → Reached R (length (w .unplaced)) w → Stands R l t
+  unfolding vertexOf
+  stands l t holds w same reached =
+      record { vertex = w; same = same; reached = reached; load = rw (same .unplaced) (holds .loaded .load); ticks = λ k b. rw (same .unplaced) (holds .ticks k b) }
+
+  -- So it is at every vertex that the search comes to.
+  pub stored-sums : (l : List ℕ) (t : ℕ) → Reachable R l t → Stands R l t
+  unfolding vertexOf
+  stored-sums l t from-root =
+      stands (rootCells R) 0 (reached-holds R valid (rootCells R) 0 from-root) (doc.root R) (rw (root-is R valid) (root-same R valid))
+      (resized R (jobs R) (doc.root R) (root-reached R valid))
+  stored-sums l t (by-placing {l = a} {t = u} {j = j} {s = s} h from due fit) =
+      let on = stored-sums a u h in
+      let w = on .vertex in
+      let free : flagged (vertexOf a u .placed) j ≡ false = fit .free in
+      let member : In j (w .unplaced) = rw (on .same .unplaced) (among (vertexOf a u .placed) (jobs R) j (fit .known) free) in
+      let m = length (w .unplaced) - 1 in
+      let more : Reached R (suc m) w = subst (λ (n : ℕ). Reached R n w) (omega (arith, length-remove j (w .unplaced) member)) (on .reached) in
+      let after : doc.earliest R (w .time) j ≤ s = subst (λ (x : ℕ). doc.earliest R x j ≤ s) (on .same .time) from in
+      stands (childCells R j s a) (s + run R j) (reached-holds R valid (childCells R j s a) (s + run R j) (by-placing h from due fit)) (doc.child R w j s)
+      (subst (λ (v : Vertex). Same R v (doc.child R w j s))
+      (sym (child-made R valid a j s (tried-holds R valid a j s (record { time = u; reached = h; from = from; due = due }) fit) fit (childCells R j s a) refl))
+      (child-same R valid (suc m) (vertexOf a u) w (on .same) more j s (fit .known) free (omega arith) due))
+      (resized R m (doc.child R w j s) (child-reached R valid m w more j s member (after, due)))
 
 module _ (R : Recorder) (valid : Valid R) where
   all-same : SameTally R (searched R) (doc.visited R)

@@ -12,10 +12,13 @@ use Rattle.base.specs.Loops.{each}
 use Rattle.schedule.specs.declared.Recorder.{Recorder}
 use Rattle.schedule.specs.Quantities.{Valid, jobs, run, deadline, release}
 use Rattle.vertex.specs.Vertices.{Vertex, flagged, cutA, closed, floor, placeAt}
-use Rattle.vertex.specs.Layout.{placedOf, vertexOf}
-use Rattle.vertex.specs.Sums.{Holds, Stored, Offered}
+use Rattle.vertex.specs.Layout.{placedOf, vertexOf, childCells}
+use Rattle.vertex.specs.Sums.{Holds, Spared, Fitting, Offered}
+use Rattle.vertex.specs.Reachable.{Reachable, Tried}
 use Rattle.vertex.proofs.Flooring.{floor-below}
-use Rattle.vertex.proofs.Offering.{cut-is, child-stored}
+use Rattle.vertex.proofs.Placed.{child-made}
+use Rattle.vertex.proofs.Reaching.{holds-later, tried-holds, tried-reached}
+use Rattle.vertex.proofs.Offering.{cut-is, fitting, child-spared}
 use Rattle.visit.specs.Steps.{Tally, Run, offer, cutB, counting, span, tryStart, tryJob, visitOf, capped}
 use Rattle.visit.specs.Lent.{tallyOf, ran, below}
 use Rattle.visit.proofs.Budget.{Grows, capped-within, capped-over, stops-here, goes-on, goes-within, ends}
@@ -64,23 +67,6 @@ vertex-placed : (l : List ℕ) (t : ℕ) → placedOf l ≡ vertexOf l t .placed
 unfolding vertexOf
 vertex-placed l t = refl
 
--- It stands still till its next job starts.
-pub holds-later : (R : Recorder) (l : List ℕ) (t s : ℕ) → Holds R l t → t ≤ s → s ≤ R .horizon → Holds R l s
-unfolding vertexOf
-holds-later R l t s h a b =
-    record {
-      long = h .long;
-      settled = record {
-        within = b;
-        ended = λ k i. omega (arith, h .settled .ended k i);
-        cheap = h .settled .cheap;
-        begun = h .settled .begun;
-        front = h .settled .front;
-        later = h .settled .later;
-      };
-      ticks = h .ticks;
-    }
-
 -- A complete one stands still up to the horizon.
 pub holds-on : (R : Recorder) (l : List ℕ) (t : ℕ) → Holds R l t → Holds R l (R .horizon)
 unfolding vertexOf
@@ -100,7 +86,7 @@ start-is R l t n j s k b x m a e h =
 
 -- ---- a child that is offered
 
-module _ (R : Recorder) (ok : Valid R) (l : List ℕ) (n x y j s : ℕ) (o : Offered R l n x y j s) where
+module _ (R : Recorder) (ok : Valid R) (l : List ℕ) (n y j s : ℕ) (o : Offered R l n y j s) where
   abbrev it : Vertex
   it = placeAt R (vertexOf l s) j s
 
@@ -110,7 +96,7 @@ module _ (R : Recorder) (ok : Valid R) (l : List ℕ) (n x y j s : ℕ) (o : Off
 
   cut-tested : (time : ℕ) → time ≡ s + run R j → (q : Bool) → ltb y time ≡ q → cutA R (it .time) (it .placed) ≡ q
   unfolding vertexOf
-  cut-tested time et q e = cut-is R ok l n x y j s o ∙ ap (ltb y) (sym et) ∙ e
+  cut-tested time et q e = cut-is R ok l n y j s o ∙ ap (ltb y) (sym et) ∙ e
 
   module _ (b : ℕ) (t : Tally) (time : ℕ) (et : time ≡ s + run R j) where
     -- The budget is used up.
@@ -148,10 +134,24 @@ module _ (R : Recorder) (ok : Valid R) (l : List ℕ) (n x y j s : ℕ) (o : Off
             er ∙ ap (λ (z : ℕ). capped b (below R n (vertexOf w z) (tallyOf m))) et ∙ ap (λ (z : Vertex). capped b (below R n z (tallyOf m))) ew
             ∙ ap (λ (z : Tally). capped b (below R n it z)) counted ∙ ap (capped b) (sym (entered-below R it t uncut (tested ∙ q) n))
 
-  -- Made, it holds its own sums.
-  pub enters-stored : (time : ℕ) → time ≡ s + run R j → time ≤ y → (w : List ℕ) → vertexOf w (s + run R j) ≡ it → Stored R w time n x
-  enters-stored time et h w ew =
-      child-stored R ok l n x y j s o time et h w (vertex-placed w (s + run R j) ∙ ap (λ (v : Vertex). v .placed) ew ∙ it-placed)
+  -- What placing it asks, where cut A spares it.
+  module _ (tried : Tried R l j s) where
+    pub may-place : s + run R j ≤ y → Holds R l s × Fitting R l j s
+    may-place h = let fit = fitting R ok l n y j s o h in (tried-holds R ok l j s tried fit, fit)
+
+    -- Made, it is the child.
+    module _ (time : ℕ) (et : time ≡ s + run R j) (h : time ≤ y) (w : List ℕ) (ew : w ≡ childCells R j s l) where
+      abbrev may : Holds R l s × Fitting R l j s
+      may = may-place (omega (arith, et))
+
+      pub enters-made : vertexOf w (s + run R j) ≡ it
+      enters-made = child-made R ok l j s (may .0) (may .1) w ew
+
+      pub enters-reached : Reachable R w time
+      enters-reached = tried-reached R ok l j s tried (may .1) w ew time et
+
+      pub enters-spared : Spared R w time n
+      enters-spared = child-spared R ok l n y j s o time et h w (vertex-placed w (s + run R j) ∙ ap (λ (v : Vertex). v .placed) enters-made ∙ it-placed)
 
 pub count-is : (m : List ℕ) → getD m 0 0 ≡ tallyOf m .count
 unfolding tallyOf

@@ -17,7 +17,6 @@ use vertex::Cells;
 use vertex::dues::Dues;
 use vertex::dues::dues_of;
 use vertex::dues::limit_of;
-use vertex::dues::load_of;
 use vertex::floors::energy_of;
 use vertex::placing::place;
 use vertex::placing::root_of;
@@ -31,7 +30,8 @@ ghost use Rattle.flat.specs.Flat.{recorderOf};
 ghost use Rattle.flat.specs.Costs.{Ready};
 ghost use Rattle.vertex.specs.Vertices.{flagged, placeAt};
 ghost use Rattle.vertex.specs.Layout.{placedOf, vertexOf};
-ghost use Rattle.vertex.specs.Sums.{due, dueFor, Holds, Stored, Offered};
+ghost use Rattle.vertex.specs.Sums.{due, dueFor, Spared, Offered};
+ghost use Rattle.vertex.specs.Reachable.{Reachable, Tried};
 ghost use Rattle.visit.specs.Steps.{bare, tryStart, tryJob, span, visitOf, capped, searched, copyStart, answerOf, writtenOf};
 ghost use Rattle.visit.specs.Lent.{tallyOf, ran, below, Within};
 
@@ -49,7 +49,7 @@ pub struct Found {
     pub count: u32,
 }
 
-// The child of v that places job j at s, and all below it; left and load are the child's. Answers whether the budget is used up.
+// The child of v that places job j at s, and all below it; left is the child's. Answers whether the budget is used up.
 fn visit(
     r: &Flat,
     costs: &Costs,
@@ -57,12 +57,11 @@ fn visit(
     tally: &mut Tally,
     budget: u32,
     left: usize,
-    load: u32,
     limit: u32,
     j: JobNumber,
     s: u32,
 ) -> bool
-    requires { ⌜ Ready (recorderOf (now r)) (now costs) × (Holds (recorderOf (now r)) (now v) s × (Offered (recorderOf (now r)) (now v) left load limit (j .0) s × Within budget (now tally))) ⌝ }
+    requires { ⌜ Ready (recorderOf (now r)) (now costs) × (Tried (recorderOf (now r)) (now v) (j .0) s × (Offered (recorderOf (now r)) (now v) left limit (j .0) s × Within budget (now tally))) ⌝ }
     ensures { λ x. ⌜ (ran budget x (now (tally .exit)) ≡ capped budget (visitOf (recorderOf (now (r .entry))) left (placeAt (recorderOf (now (r .entry))) (vertexOf (now (v .entry)) s) (j .0) s) (tallyOf (now (tally .entry))))) × (length (now (tally .exit)) ≡ 19) ⌝ }
 {
     if tally[0] == budget {
@@ -78,7 +77,7 @@ fn visit(
     }
     let mut w = *v;
     place(r, costs, &mut w, j, s);
-    enter(r, costs, &w, tally, budget, left, time, load)
+    enter(r, costs, &w, tally, budget, left, time)
 }
 
 // A vertex that no cut has dropped: it is complete, or its children are examined.
@@ -90,9 +89,8 @@ fn enter(
     budget: u32,
     left: usize,
     time: u32,
-    load: u32,
 ) -> bool
-    requires { ⌜ Ready (recorderOf (now r)) (now costs) × (Holds (recorderOf (now r)) (now v) time × (Stored (recorderOf (now r)) (now v) time left load × Within budget (now tally))) ⌝ }
+    requires { ⌜ Ready (recorderOf (now r)) (now costs) × (Reachable (recorderOf (now r)) (now v) time × (Spared (recorderOf (now r)) (now v) time left × Within budget (now tally))) ⌝ }
     ensures { λ x. ⌜ (ran budget x (now (tally .exit)) ≡ capped budget (below (recorderOf (now (r .entry))) left (vertexOf (now (v .entry)) time) (tallyOf (now (tally .entry))))) × (length (now (tally .exit)) ≡ 19) ⌝ }
 {
     if left == 0 {
@@ -100,7 +98,7 @@ fn enter(
         offer_best(v, tally, e);
         return false;
     }
-    choices(r, costs, v, tally, budget, left, time, load)
+    choices(r, costs, v, tally, budget, left, time)
 }
 
 // Each unplaced job in turn.
@@ -112,9 +110,8 @@ fn choices(
     budget: u32,
     left: usize,
     time: u32,
-    load: u32,
 ) -> bool
-    requires { ⌜ Ready (recorderOf (now r)) (now costs) × (Holds (recorderOf (now r)) (now v) time × (Stored (recorderOf (now r)) (now v) time left load × Within budget (now tally))) ⌝ }
+    requires { ⌜ Ready (recorderOf (now r)) (now costs) × (Reachable (recorderOf (now r)) (now v) time × (Spared (recorderOf (now r)) (now v) time left × Within budget (now tally))) ⌝ }
     ensures { λ x. ⌜ (ran budget x (now (tally .exit)) ≡ capped budget (each (tryJob (recorderOf (now (r .entry))) (visitOf (recorderOf (now (r .entry))) (left - 1)) (vertexOf (now (v .entry)) time)) (jobs (recorderOf (now (r .entry)))) (tallyOf (now (tally .entry))))) × (length (now (tally .exit)) ≡ 19) ⌝ }
 {
     let n = job_count(r);
@@ -122,18 +119,7 @@ fn choices(
     let mut j: usize = 0;
     while j < n {
         if v[40 + j] == 1 {
-            if tries(
-                r,
-                costs,
-                v,
-                tally,
-                budget,
-                left,
-                time,
-                load,
-                dues,
-                JobNumber(j),
-            ) {
+            if tries(r, costs, v, tally, budget, left, time, dues, JobNumber(j)) {
                 return true;
             }
         }
@@ -151,20 +137,19 @@ fn tries(
     budget: u32,
     left: usize,
     time: u32,
-    load: u32,
     dues: Dues,
     j: JobNumber,
 ) -> bool
-    requires { ⌜ Ready (recorderOf (now r)) (now costs) × (Holds (recorderOf (now r)) (now v) time × (Stored (recorderOf (now r)) (now v) time left load × ((j .0 < jobs (recorderOf (now r))) × ((flagged (placedOf (now v)) (j .0) ≡ false) × ((due (recorderOf (now r)) (set (placedOf (now v)) (j .0) true) ≡ dueFor dues (j .0)) × Within budget (now tally)))))) ⌝ }
+    requires { ⌜ Ready (recorderOf (now r)) (now costs) × (Reachable (recorderOf (now r)) (now v) time × (Spared (recorderOf (now r)) (now v) time left × ((j .0 < jobs (recorderOf (now r))) × ((flagged (placedOf (now v)) (j .0) ≡ false) × ((due (recorderOf (now r)) (set (placedOf (now v)) (j .0) true) ≡ dueFor dues (j .0)) × Within budget (now tally)))))) ⌝ }
     ensures { λ x. ⌜ (ran budget x (now (tally .exit)) ≡ capped budget (each (tryStart (recorderOf (now (r .entry))) (visitOf (recorderOf (now (r .entry))) (left - 1)) (vertexOf (now (v .entry)) time) (j .0)) (span (recorderOf (now (r .entry))) (vertexOf (now (v .entry)) time) (j .0)) (tallyOf (now (tally .entry))))) × (length (now (tally .exit)) ≡ 19) ⌝ }
 {
     let c = wide(run_of(r, j.0));
     let d = wide(deadline_of(r, j.0));
-    let rest = load - c;
+    let rest = v[64] - c;
     let limit = limit_of(dues, wide(horizon_of(r)), rest, j);
     let mut s = later(time, wide(release_of(r, j.0)));
     while s + c <= d {
-        if visit(r, costs, v, tally, budget, left - 1, rest, limit, j, s) {
+        if visit(r, costs, v, tally, budget, left - 1, limit, j, s) {
             return true;
         }
         s += 1;
@@ -181,13 +166,12 @@ fn root_visit(r: &Flat, costs: &Costs, tally: &mut Tally, budget: u32) -> bool
         return true;
     }
     count_one(tally);
-    let load = load_of(r);
-    if wide(horizon_of(r)) < load {
+    let v = root_of(r);
+    if wide(horizon_of(r)) < v[64] {
         return false;
     }
-    let v = root_of(r);
     let left = job_count(r);
-    enter(r, costs, &v, tally, budget, left, 0, load)
+    enter(r, costs, &v, tally, budget, left, 0)
 }
 
 // Writes the first n starts of the best into the lent list.

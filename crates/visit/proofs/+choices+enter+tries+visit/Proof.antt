@@ -8,16 +8,16 @@ use native.Mathlib.Omega.{arith}
 use borrow.Author.Needs.{needs}
 use Rattle.base.specs.Loops.{each}
 use Rattle.base.proofs.Turns.{each-start, each-step, each-done}
-use Rattle.schedule.specs.Quantities.{run}
 use Rattle.flat.specs.Flat.{recorderOf}
 use Rattle.vertex.specs.Layout.{vertexOf}
-use Rattle.vertex.specs.Sums.{Holds}
-use Rattle.vertex.proofs.Offering.{few, fitting, some-left, run-in, child-offered}
+use Rattle.vertex.proofs.Marking.{run-in}
+use Rattle.vertex.proofs.Offering.{few, some-left, child-offered}
+use Rattle.vertex.proofs.Reaching.{reached-holds}
 use Rattle.vertex.proofs.Reading.{free-at, taken-at}
 use Rattle.visit.specs.Steps.{Tally, tryStart, tryJob, visitOf}
 use Rattle.visit.specs.Lent.{tallyOf, Within}
 use Rattle.visit.proofs.Order.{jobs-grow, starts-grow}
-use Rattle.visit.proofs.Going.{count-is, turn-stops, turn-goes, turn-within, turns-end, holds-later, holds-on, start-is, visit-over, visit-late, visit-beaten, visit-enters, enters-stored, enter-complete, enter-on, job-tried, job-passed, start-at, start-next, start-more, start-less, span-within, span-over}
+use Rattle.visit.proofs.Going.{count-is, turn-stops, turn-goes, turn-within, turns-end, holds-on, start-is, visit-over, visit-late, visit-beaten, visit-enters, may-place, enters-made, enters-reached, enters-spared, enter-complete, enter-on, job-tried, job-passed, start-at, start-next, start-more, start-less, span-within, span-over}
 use borrow.Fn.Kinds.{In}
 use borrow.Fn.PlainCycle.{Measures, is, falls, and}
 use Rattle.visit.proofs.choices.Reads as choices
@@ -100,10 +100,10 @@ visit-calls t = (count-one-reads.Asked, count-one-reads.Learnt, run-of-reads.Ask
 -- ---- choices
 
 abbrev choices-Inv-loop : choices-lts.InvT-loop
-choices-Inv-loop r costs v tally₀ budget left time load n dues j₀ tally j = (j ≤ n) × (n ≤ 16) × (tallyOf tally ≡ each (tryJob (recorderOf r) (visitOf (recorderOf r) (left - 1)) (vertexOf v time)) j (tallyOf tally₀)) × Within budget tally
+choices-Inv-loop r costs v tally₀ budget left time n dues j₀ tally j = (j ≤ n) × (n ≤ 16) × (tallyOf tally ≡ each (tryJob (recorderOf r) (visitOf (recorderOf r) (left - 1)) (vertexOf v time)) j (tallyOf tally₀)) × Within budget tally
 
 abbrev choices-μ-loop : choices-lts.MeasureT-loop
-choices-μ-loop r costs v tally₀ budget left time load n dues j₀ tally j = n - j
+choices-μ-loop r costs v tally₀ budget left time n dues j₀ tally j = n - j
 
 choices-job-count-requires : (t : ℕ) → choices-lts.Need-job-count-requires (choices-calls t) (choices-at t) choices.Post choices-Inv-loop choices-μ-loop
 choices-job-count-requires t c κs = search needs
@@ -155,7 +155,7 @@ choices-returns-2 t c = (turns-end _ _ _ _ _ _ (c .before .loop .inv .2) (omega 
 -- ---- enter
 
 enter-energy-of-requires : (t : ℕ) → enter-lts.Need-energy-of-requires (enter-calls t) (enter-at t) enter.Post
-enter-energy-of-requires t c κs = (c .before .pre .1 .0, holds-on _ _ _ (c .before .pre .1 .1 .0))
+enter-energy-of-requires t c κs = (c .before .pre .1 .0, holds-on _ _ _ (reached-holds _ (c .before .pre .1 .0 .valid) _ _ (c .before .pre .1 .1 .0)))
 
 enter-offer-best-requires : (t : ℕ) → enter-lts.Need-offer-best-requires (enter-calls t) (enter-at t) enter.Post
 enter-offer-best-requires t c κs = c .before .before .before .pre .1 .1 .1 .1 .long
@@ -172,10 +172,10 @@ enter-returns-2 t c = (enter-on _ _ _ _ (c .before .before .if1 .left) _ _ _ (c 
 -- ---- tries
 
 abbrev tries-Inv-loop : tries-lts.InvT-loop
-tries-Inv-loop r costs v tally₀ budget left time load j c d rest limit s₀ tally s = (s₀ ≤ s) × (tallyOf tally ≡ each (tryStart (recorderOf r) (visitOf (recorderOf r) (left - 1)) (vertexOf v time) (j .0)) (s - s₀) (tallyOf tally₀)) × Within budget tally × (s - s₀ ≤ (d + 1) - (c + s₀))
+tries-Inv-loop r costs v tally₀ budget left time j c d rest limit s₀ tally s = (s₀ ≤ s) × (tallyOf tally ≡ each (tryStart (recorderOf r) (visitOf (recorderOf r) (left - 1)) (vertexOf v time) (j .0)) (s - s₀) (tallyOf tally₀)) × Within budget tally × (s - s₀ ≤ (d + 1) - (c + s₀))
 
 abbrev tries-μ-loop : tries-lts.MeasureT-loop
-tries-μ-loop r costs v tally₀ budget left time load j c d rest limit s₀ tally s = (d + 1) - s
+tries-μ-loop r costs v tally₀ budget left time j c d rest limit s₀ tally s = (d + 1) - s
 
 tries-run-of-requires : (t : ℕ) → tries-lts.Need-run-of-requires (tries-calls t) (tries-at t) tries.Post tries-Inv-loop tries-μ-loop
 tries-run-of-requires t c κs = omega (arith, c .pre .1 .1 .1 .1 .0, c .pre .1 .0 .valid .few-jobs)
@@ -189,10 +189,13 @@ tries-deadline-of-requires t c κs = omega (arith, c .before .before .pre .1 .1 
 tries-wide-requires-2 : (t : ℕ) → tries-lts.Need-wide-requires-2 (tries-calls t) (tries-at t) tries.Post tries-Inv-loop tries-μ-loop
 tries-wide-requires-2 t c κs = search needs
 
+tries-element-copy-out-rest : (t : ℕ) → tries-lts.Need-element-copy-out-rest (tries-calls t) (tries-at t) tries.Post tries-Inv-loop tries-μ-loop
+tries-element-copy-out-rest t c = search needs
+
 tries-sub-rest : (t : ℕ) → tries-lts.Need-sub-rest (tries-calls t) (tries-at t) tries.Post tries-Inv-loop tries-μ-loop
 tries-sub-rest t c =
-    let start = c .before .before .before .before in
-    omega (arith, run-in _ (start .pre .1 .0 .valid) _ _ _ _ (start .pre .1 .1 .1 .0) _ (start .pre .1 .1 .1 .1 .0) (start .pre .1 .1 .1 .1 .1 .0), (c .before .before .wide .ensures .0 ∙ c .before .before .before .run-of .ensures))
+    let start = c .before .before .before .before .before in
+    omega (arith, run-in _ (start .pre .1 .0 .valid) _ (reached-holds _ (start .pre .1 .0 .valid) _ _ (start .pre .1 .1 .0) .loaded) _ (start .pre .1 .1 .1 .1 .0) (start .pre .1 .1 .1 .1 .1 .0), (c .before .before .before .wide .ensures .0 ∙ c .before .before .before .before .run-of .ensures))
 
 tries-horizon-of-requires : (t : ℕ) → tries-lts.Need-horizon-of-requires (tries-calls t) (tries-at t) tries.Post tries-Inv-loop tries-μ-loop
 tries-horizon-of-requires t c κs = search needs
@@ -201,10 +204,12 @@ tries-wide-requires-3 : (t : ℕ) → tries-lts.Need-wide-requires-3 (tries-call
 tries-wide-requires-3 t c κs = search needs
 
 tries-limit-of-requires : (t : ℕ) → tries-lts.Need-limit-of-requires (tries-calls t) (tries-at t) tries.Post tries-Inv-loop tries-μ-loop
-tries-limit-of-requires t c κs = omega (arith, c .before .before .before .before .before .before .pre .1 .1 .1 .0 .fits, (c .wide3 .ensures .0 ∙ c .before .horizon-of .ensures))
+tries-limit-of-requires t c κs =
+    let start = c .before .before .before .before .before .before .before in
+    omega (arith, start .pre .1 .1 .1 .0 .fits, reached-holds _ (start .pre .1 .0 .valid) _ _ (start .pre .1 .1 .0) .loaded .load, (c .wide3 .ensures .0 ∙ c .before .horizon-of .ensures))
 
 tries-release-of-requires : (t : ℕ) → tries-lts.Need-release-of-requires (tries-calls t) (tries-at t) tries.Post tries-Inv-loop tries-μ-loop
-tries-release-of-requires t c κs = omega (arith, c .before .before .before .before .before .before .before .pre .1 .1 .1 .1 .0, c .before .before .before .before .before .before .before .pre .1 .0 .valid .few-jobs)
+tries-release-of-requires t c κs = omega (arith, c .before .before .before .before .before .before .before .before .pre .1 .1 .1 .1 .0, c .before .before .before .before .before .before .before .before .pre .1 .0 .valid .few-jobs)
 
 tries-wide-requires-4 : (t : ℕ) → tries-lts.Need-wide-requires-4 (tries-calls t) (tries-at t) tries.Post tries-Inv-loop tries-μ-loop
 tries-wide-requires-4 t c κs = search needs
@@ -213,31 +218,32 @@ tries-later-requires : (t : ℕ) → tries-lts.Need-later-requires (tries-calls 
 tries-later-requires t c κs = search needs
 
 tries-loop-holds : (t : ℕ) → tries-lts.Need-loop-holds (tries-calls t) (tries-at t) tries.Post tries-Inv-loop tries-μ-loop
-tries-loop-holds t c = (omega arith, each-start _ _ _ (omega arith), c .before .before .before .before .before .before .before .before .before .before .pre .1 .1 .1 .1 .1 .1 .1, omega arith)
+tries-loop-holds t c = (omega arith, each-start _ _ _ (omega arith), c .before .before .before .before .before .before .before .before .before .before .before .pre .1 .1 .1 .1 .1 .1 .1, omega arith)
 
 tries-add-loop : (t : ℕ) → tries-lts.Need-add-loop (tries-calls t) (tries-at t) tries.Post tries-Inv-loop tries-μ-loop
-tries-add-loop t c = omega (arith, c .before .before .before .before .before .before .before .before .before .wide .ensures .1, c .before .before .before .before .before .before .before .wide2 .ensures .1, c .before .before .wide4 .ensures .1, c .before .later .ensures, c .before .before .before .before .before .before .before .before .before .before .before .pre .1 .1 .1 .0 .fits, c .before .before .before .before .before .before .before .before .before .before .before .pre .1 .0 .valid .few-ticks)
+tries-add-loop t c = omega (arith, c .before .before .before .before .before .before .before .before .before .before .wide .ensures .1, c .before .before .before .before .before .before .before .before .wide2 .ensures .1, c .before .before .wide4 .ensures .1, c .before .later .ensures, c .before .before .before .before .before .before .before .before .before .before .before .before .pre .1 .1 .1 .0 .fits, c .before .before .before .before .before .before .before .before .before .before .before .before .pre .1 .0 .valid .few-ticks)
 
 tries-sub-visit : (t : ℕ) → tries-lts.Need-sub-visit (tries-calls t) (tries-at t) tries.Post tries-Inv-loop tries-μ-loop
 tries-sub-visit t c =
-    let start = c .before .before .before .before .before .before .before .before .before .before .before .before .before in
-    omega (arith, some-left _ (start .pre .1 .0 .valid) _ _ _ _ (start .pre .1 .1 .1 .0) _ (start .pre .1 .1 .1 .1 .0) (start .pre .1 .1 .1 .1 .1 .0))
+    let start = c .before .before .before .before .before .before .before .before .before .before .before .before .before .before in
+    omega (arith, some-left _ (start .pre .1 .0 .valid) _ _ _ (start .pre .1 .1 .1 .0) _ (start .pre .1 .1 .1 .1 .0) (start .pre .1 .1 .1 .1 .1 .0))
 
 tries-visit-requires : (t : ℕ) → tries-lts.Need-visit-requires (tries-calls t) (tries-at t) tries.Post tries-Inv-loop tries-μ-loop
 tries-visit-requires t c κs =
-    let start = c .before .before .before .before .before .before .before .before .before .before .before .before .before in
+    let start = c .before .before .before .before .before .before .before .before .before .before .before .before .before .before in
     let l = c .before .before .loop in
-    let some = some-left _ (start .pre .1 .0 .valid) _ _ _ _ (start .pre .1 .1 .1 .0) _ (start .pre .1 .1 .1 .1 .0) (start .pre .1 .1 .1 .1 .1 .0) in
-    let due-by = c .before .before .before .before .before .before .before .before .before .wide2 .ensures .0 ∙ c .before .before .before .before .before .before .before .before .before .before .deadline-of .ensures in
-    let ends = start .pre .1 .0 .valid .ends _ (start .pre .1 .1 .1 .1 .0) in
-    (omega arith, (start .pre .1 .0, (holds-later _ _ _ _ (start .pre .1 .1 .0) (omega (arith, c .before .before .before .later .ensures, l .inv .0)) (omega (arith, c .before .loop-test .taken)), (child-offered _ (start .pre .1 .0 .valid) _ _ _ _ (start .pre .1 .1 .1 .0) _ (start .pre .1 .1 .1 .1 .0) (start .pre .1 .1 .1 .1 .1 .0) _ (start .pre .1 .1 .1 .1 .1 .1 .0) _ _ _ _ _ (c .before .before .before .before .before .before .before .before .before .before .before .wide .ensures .0 ∙ c .before .before .before .before .before .before .before .before .before .before .before .before .run-of .ensures) refl (c .before .before .before .before .before .before .before .wide3 .ensures .0 ∙ c .before .before .before .before .before .before .before .before .horizon-of .ensures) (c .before .before .before .before .before .before .limit-of .ensures) (omega (arith, c .before .loop-test .taken)), l .inv .2))))
+    let some = some-left _ (start .pre .1 .0 .valid) _ _ _ (start .pre .1 .1 .1 .0) _ (start .pre .1 .1 .1 .1 .0) (start .pre .1 .1 .1 .1 .1 .0) in
+    let due-by = c .before .before .before .before .before .before .before .before .before .before .wide2 .ensures .0 ∙ c .before .before .before .before .before .before .before .before .before .before .before .deadline-of .ensures in
+    let runs = c .before .before .before .before .before .before .before .before .before .before .before .before .wide .ensures .0 ∙ c .before .before .before .before .before .before .before .before .before .before .before .before .before .run-of .ensures in
+    let from = c .before .before .before .later .ensures ∙ ap (max (start .args .time)) (c .before .before .before .before .wide4 .ensures .0 ∙ c .before .before .before .before .before .release-of .ensures) in
+    (omega arith, (start .pre .1 .0, (record { time = start .args .time; reached = start .pre .1 .1 .0; from = omega (arith, from, l .inv .0); due = omega (arith, c .before .loop-test .taken, runs, due-by) }, (child-offered _ (start .pre .1 .0 .valid) _ _ _ (start .pre .1 .1 .1 .0) _ (start .pre .1 .1 .1 .1 .0) (start .pre .1 .1 .1 .1 .1 .0) (reached-holds _ (start .pre .1 .0 .valid) _ _ (start .pre .1 .1 .0) .loaded) _ (start .pre .1 .1 .1 .1 .1 .1 .0) _ _ _ _ _ (c .before .before .before .before .before .before .before .before .before .before .before .before .wide .ensures .0 ∙ c .before .before .before .before .before .before .before .before .before .before .before .before .before .run-of .ensures) refl (c .before .before .before .before .before .before .before .wide3 .ensures .0 ∙ c .before .before .before .before .before .before .before .before .horizon-of .ensures) (c .before .before .before .before .before .before .limit-of .ensures) (omega (arith, c .before .loop-test .taken)), l .inv .2))))
 
 tries-returns : (t : ℕ) → tries-lts.Need-returns (tries-calls t) (tries-at t) tries.Post tries-Inv-loop tries-μ-loop
 tries-returns t c =
-    let start = c .before .before .before .before .before .before .before .before .before .before .before .before .before .before .before in
+    let start = c .before .before .before .before .before .before .before .before .before .before .before .before .before .before .before .before in
     let l = c .before .before .before .before .loop in
     let from = c .before .before .before .before .before .later .ensures ∙ ap (max _) (c .before .before .before .before .before .before .wide4 .ensures .0 ∙ c .before .before .before .before .before .before .before .release-of .ensures) in
-    (turn-stops _ _ _ _ _ _ _ (l .inv .1) (start-is _ _ _ _ _ _ _ _ _ _ _ (start-at _ _ 0 0 (l .inv .0) _ from) (c .before .visit .ensures .0)) (starts-grow _ _ _ _) (c .if1 .taken) _ (span-within (recorderOf (start .args .r .now)) (start .args .v .now) (start .args .time) (start .args .j .0) _ _ _ _ from (c .before .before .before .before .before .before .before .before .before .before .before .before .before .wide .ensures .0 ∙ c .before .before .before .before .before .before .before .before .before .before .before .before .before .before .run-of .ensures) (c .before .before .before .before .before .before .before .before .before .before .before .wide2 .ensures .0 ∙ c .before .before .before .before .before .before .before .before .before .before .before .before .deadline-of .ensures) (l .inv .0) (c .before .before .before .loop-test .taken)) _, c .before .visit .ensures .1)
+    (turn-stops _ _ _ _ _ _ _ (l .inv .1) (start-is _ _ _ _ _ _ _ _ _ _ _ (start-at _ _ 0 0 (l .inv .0) _ from) (c .before .visit .ensures .0)) (starts-grow _ _ _ _) (c .if1 .taken) _ (span-within (recorderOf (start .args .r .now)) (start .args .v .now) (start .args .time) (start .args .j .0) _ _ _ _ from (c .before .before .before .before .before .before .before .before .before .before .before .before .before .before .wide .ensures .0 ∙ c .before .before .before .before .before .before .before .before .before .before .before .before .before .before .before .run-of .ensures) (c .before .before .before .before .before .before .before .before .before .before .before .before .wide2 .ensures .0 ∙ c .before .before .before .before .before .before .before .before .before .before .before .before .before .deadline-of .ensures) (l .inv .0) (c .before .before .before .loop-test .taken)) _, c .before .visit .ensures .1)
 
 tries-add-s : (t : ℕ) → tries-lts.Need-add-s (tries-calls t) (tries-at t) tries.Post tries-Inv-loop tries-μ-loop
 tries-add-s t c = omega arith
@@ -254,10 +260,10 @@ tries-loop-again t c =
 
 tries-returns-2 : (t : ℕ) → tries-lts.Need-returns-2 (tries-calls t) (tries-at t) tries.Post tries-Inv-loop tries-μ-loop
 tries-returns-2 t c =
-    let start = c .before .before .before .before .before .before .before .before .before .before .before .before in
+    let start = c .before .before .before .before .before .before .before .before .before .before .before .before .before in
     let l = c .before .loop in
     let from = c .before .before .later .ensures ∙ ap (max _) (c .before .before .before .wide4 .ensures .0 ∙ c .before .before .before .before .release-of .ensures) in
-    (turns-end _ _ _ _ _ _ (l .inv .1) (span-over (recorderOf (start .args .r .now)) (start .args .v .now) (start .args .time) (start .args .j .0) _ _ _ _ from (c .before .before .before .before .before .before .before .before .before .before .wide .ensures .0 ∙ c .before .before .before .before .before .before .before .before .before .before .before .run-of .ensures) (c .before .before .before .before .before .before .before .before .wide2 .ensures .0 ∙ c .before .before .before .before .before .before .before .before .before .deadline-of .ensures) (l .inv .0) (l .inv .3) (c .loop-test .left)) (l .inv .2 .count), l .inv .2 .long)
+    (turns-end _ _ _ _ _ _ (l .inv .1) (span-over (recorderOf (start .args .r .now)) (start .args .v .now) (start .args .time) (start .args .j .0) _ _ _ _ from (c .before .before .before .before .before .before .before .before .before .before .before .wide .ensures .0 ∙ c .before .before .before .before .before .before .before .before .before .before .before .before .run-of .ensures) (c .before .before .before .before .before .before .before .before .before .wide2 .ensures .0 ∙ c .before .before .before .before .before .before .before .before .before .before .deadline-of .ensures) (l .inv .0) (l .inv .3) (c .loop-test .left)) (l .inv .2 .count), l .inv .2 .long)
 
 -- ---- visit
 
@@ -267,7 +273,7 @@ visit-element-copy-out-if1 t c = search needs
 visit-returns : (t : ℕ) → visit-lts.Need-returns (visit-calls t) (visit-at t) visit.Post
 visit-returns t c =
     let start = c .before .before in
-    (visit-over _ (start .pre .1 .0 .valid) _ _ _ _ _ _ (start .pre .1 .1 .1 .0) _ _ _ refl (sym (count-is _) ∙ c .if1 .taken) _, start .pre .1 .1 .1 .1 .long)
+    (visit-over _ (start .pre .1 .0 .valid) _ _ _ _ _ (start .pre .1 .1 .1 .0) _ _ _ refl (sym (count-is _) ∙ c .if1 .taken) _, start .pre .1 .1 .1 .1 .long)
 
 visit-count-one-requires : (t : ℕ) → visit-lts.Need-count-one-requires (visit-calls t) (visit-at t) visit.Post
 visit-count-one-requires t c κs =
@@ -277,7 +283,7 @@ visit-count-one-requires t c κs =
 visit-run-of-requires : (t : ℕ) → visit-lts.Need-run-of-requires (visit-calls t) (visit-at t) visit.Post
 visit-run-of-requires t c κs =
     let start = c .before .before .before .before in
-    few _ (start .pre .1 .0 .valid) _ _ _ _ _ _ (start .pre .1 .1 .1 .0)
+    few _ (start .pre .1 .0 .valid) _ _ _ _ _ (start .pre .1 .1 .1 .0)
 
 visit-wide-requires : (t : ℕ) → visit-lts.Need-wide-requires (visit-calls t) (visit-at t) visit.Post
 visit-wide-requires t c κs = search needs
@@ -292,41 +298,43 @@ visit-returns-2 t c =
     let start = c .before .before .before .before .before .before .before in
     let et = ap (λ (z : ℕ). start .args .s + z) (c .before .wide .ensures .0 ∙ c .before .before .run-of .ensures) in
     let room : tallyOf (start .args .tally .now) .count < start .args .budget = omega (arith, count-is (start .args .tally .now), start .pre .1 .1 .1 .1 .count, c .before .before .before .before .before .if1 .left) in
-    (visit-late _ (start .pre .1 .0 .valid) _ _ _ _ _ _ (start .pre .1 .1 .1 .0) _ _ _ et _ (c .before .before .before .count-one .ensures .0) room (c .if2 .taken), c .before .before .before .count-one .ensures .1)
+    (visit-late _ (start .pre .1 .0 .valid) _ _ _ _ _ (start .pre .1 .1 .1 .0) _ _ _ et _ (c .before .before .before .count-one .ensures .0) room (c .if2 .taken), c .before .before .before .count-one .ensures .1)
 
 visit-is-beaten-requires : (t : ℕ) → visit-lts.Need-is-beaten-requires (visit-calls t) (visit-at t) visit.Post
 visit-is-beaten-requires t c κs =
     let start = c .before .before .before .before .before .before .before .before in
     let et = ap (λ (z : ℕ). start .args .s + z) (c .before .before .wide .ensures .0 ∙ c .before .before .before .run-of .ensures) in
-    (start .pre .1 .0, (start .pre .1 .1 .0, fitting _ (start .pre .1 .0 .valid) _ _ _ _ _ _ (start .pre .1 .1 .1 .0) (omega (arith, c .before .if2 .left, et))))
+    (start .pre .1 .0, may-place _ (start .pre .1 .0 .valid) _ _ _ _ _ (start .pre .1 .1 .1 .0) (start .pre .1 .1 .0) (omega (arith, c .before .if2 .left, et)))
 
 visit-returns-3 : (t : ℕ) → visit-lts.Need-returns-3 (visit-calls t) (visit-at t) visit.Post
 visit-returns-3 t c =
     let start = c .before .before .before .before .before .before .before .before .before .before in
     let et = ap (λ (z : ℕ). start .args .s + z) (c .before .before .before .before .wide .ensures .0 ∙ c .before .before .before .before .before .run-of .ensures) in
     let room : tallyOf (start .args .tally .now) .count < start .args .budget = omega (arith, count-is (start .args .tally .now), start .pre .1 .1 .1 .1 .count, c .before .before .before .before .before .before .before .before .if1 .left) in
-    (visit-beaten _ (start .pre .1 .0 .valid) _ _ _ _ _ _ (start .pre .1 .1 .1 .0) _ _ _ et _ (c .before .before .before .before .before .before .count-one .ensures .0) room (c .before .before .before .if2 .left) _ (c .before .is-beaten .ensures) (c .if3 .taken), c .before .before .before .before .before .before .count-one .ensures .1)
+    (visit-beaten _ (start .pre .1 .0 .valid) _ _ _ _ _ (start .pre .1 .1 .1 .0) _ _ _ et _ (c .before .before .before .before .before .before .count-one .ensures .0) room (c .before .before .before .if2 .left) _ (c .before .is-beaten .ensures) (c .if3 .taken), c .before .before .before .before .before .before .count-one .ensures .1)
 
 visit-place-requires : (t : ℕ) → visit-lts.Need-place-requires (visit-calls t) (visit-at t) visit.Post
 visit-place-requires t c κs =
     let start = c .before .before .before .before .before .before .before .before .before .before .before .before in
     let et = ap (λ (z : ℕ). start .args .s + z) (c .before .before .before .before .before .before .wide .ensures .0 ∙ c .before .before .before .before .before .before .before .run-of .ensures) in
-    (start .pre .1 .0, (start .pre .1 .1 .0, fitting _ (start .pre .1 .0 .valid) _ _ _ _ _ _ (start .pre .1 .1 .1 .0) (omega (arith, c .before .before .before .before .before .if2 .left, et))))
+    (start .pre .1 .0, may-place _ (start .pre .1 .0 .valid) _ _ _ _ _ (start .pre .1 .1 .1 .0) (start .pre .1 .1 .0) (omega (arith, c .before .before .before .before .before .if2 .left, et)))
 
 visit-enter-requires : (t : ℕ) → visit-lts.Need-enter-requires (visit-calls t) (visit-at t) visit.Post
 visit-enter-requires t c κs =
     let start = c .before .before .before .before .before .before .before .before .before .before .before .before .before .before .before in
     let et = ap (λ (z : ℕ). start .args .s + z) (c .before .before .before .before .before .before .before .before .before .wide .ensures .0 ∙ c .before .before .before .before .before .before .before .before .before .before .run-of .ensures) in
     let made = c .before .before .place .ensures in
+    let spared = c .before .before .before .before .before .before .before .before .if2 .left in
     let counted = c .before .before .before .before .before .before .before .before .before .before .before .count-one .ensures in
-    (omega arith, (start .pre .1 .0, (subst (Holds _ _) (sym et) (made .1), (enters-stored _ (start .pre .1 .0 .valid) _ _ _ _ _ _ (start .pre .1 .1 .1 .0) _ et (c .before .before .before .before .before .before .before .before .if2 .left) _ (made .0), record { long = counted .1; count = omega (arith, ap (λ (z : Tally). z .count) (counted .0), count-is (start .args .tally .now), start .pre .1 .1 .1 .1 .count, c .before .before .before .before .before .before .before .before .before .before .before .before .before .if1 .left) }))))
+    (omega arith, (start .pre .1 .0, (enters-reached _ (start .pre .1 .0 .valid) _ _ _ _ _ (start .pre .1 .1 .1 .0) (start .pre .1 .1 .0) _ et spared _ made, (enters-spared _ (start .pre .1 .0 .valid) _ _ _ _ _ (start .pre .1 .1 .1 .0) (start .pre .1 .1 .0) _ et spared _ made, record { long = counted .1; count = omega (arith, ap (λ (z : Tally). z .count) (counted .0), count-is (start .args .tally .now), start .pre .1 .1 .1 .1 .count, c .before .before .before .before .before .before .before .before .before .before .before .before .before .if1 .left) }))))
 
 visit-returns-4 : (t : ℕ) → visit-lts.Need-returns-4 (visit-calls t) (visit-at t) visit.Post
 visit-returns-4 t c =
     let start = c .before .before .before .before .before .before .before .before .before .before .before .before .before .before .before .before in
     let et = ap (λ (z : ℕ). start .args .s + z) (c .before .before .before .before .before .before .before .before .before .before .wide .ensures .0 ∙ c .before .before .before .before .before .before .before .before .before .before .before .run-of .ensures) in
     let room : tallyOf (start .args .tally .now) .count < start .args .budget = omega (arith, count-is (start .args .tally .now), start .pre .1 .1 .1 .1 .count, c .before .before .before .before .before .before .before .before .before .before .before .before .before .before .if1 .left) in
-    (visit-enters _ (start .pre .1 .0 .valid) _ _ _ _ _ _ (start .pre .1 .1 .1 .0) _ _ _ et _ (c .before .before .before .before .before .before .before .before .before .before .before .before .count-one .ensures .0) room (c .before .before .before .before .before .before .before .before .before .if2 .left) _ (c .before .before .before .before .before .before .before .is-beaten .ensures) (c .before .before .before .before .before .before .if3 .left) _ (c .before .before .before .place .ensures .0) _ (c .enter .ensures .0), c .enter .ensures .1)
+    let spared = c .before .before .before .before .before .before .before .before .before .if2 .left in
+    (visit-enters _ (start .pre .1 .0 .valid) _ _ _ _ _ (start .pre .1 .1 .1 .0) _ _ _ et _ (c .before .before .before .before .before .before .before .before .before .before .before .before .count-one .ensures .0) room spared _ (c .before .before .before .before .before .before .before .is-beaten .ensures) (c .before .before .before .before .before .before .if3 .left) _ (enters-made _ (start .pre .1 .0 .valid) _ _ _ _ _ (start .pre .1 .1 .1 .0) (start .pre .1 .1 .0) _ et spared _ (c .before .before .before .place .ensures)) _ (c .enter .ensures .0), c .enter .ensures .1)
 
 pub +choices+enter+tries+visit-spec : {M : Type 1} → statement M
 +choices+enter+tries+visit-spec = close μ-choices μ-enter μ-tries μ-visit
@@ -364,6 +372,7 @@ pub +choices+enter+tries+visit-spec : {M : Type 1} → statement M
     (tries-wide-requires t)
     (tries-deadline-of-requires t)
     (tries-wide-requires-2 t)
+    (tries-element-copy-out-rest t)
     (tries-sub-rest t)
     (tries-horizon-of-requires t)
     (tries-wide-requires-3 t)

@@ -1,10 +1,12 @@
 -- `visit::root_visit` meets its contract.
 -- Assumes nothing.
-use mathlib.Core.Path.{refl, ap, _∙_}
+use mathlib.Core.Path.{ap, _∙_}
 use Prim.Native.Nat.{_≤_}
 use native.Mathlib.Omega.{arith}
+use lib.ListN.{getD}
 use Rattle.flat.specs.Flat.{recorderOf}
-use Rattle.vertex.proofs.Rooting.{root-holds, root-stored}
+use Rattle.vertex.proofs.Rooting.{root-spared}
+use Rattle.vertex.specs.Reachable.{from-root}
 use Rattle.visit.specs.Steps.{Tally}
 use Rattle.visit.proofs.Rooted.{root-over, root-cut, root-enters}
 use borrow.Author.Needs.{needs}
@@ -12,13 +14,13 @@ use Rattle.visit.proofs.root_visit.Statement.{statement}
 use Rattle.visit.proofs.root_visit.Tie as tie
 
 returns : tie.Need-returns
-returns c = root-over _ (c .before .pre .0 .valid) _ refl _ (c .if1 .taken) _
+returns c = root-over _ (c .before .pre .0 .valid) _ (c .if1 .taken) _
 
 count-one-requires : tie.Need-count-one-requires
 count-one-requires c κs = (c .before .before .pre .1 .0, omega (arith, ap (λ (t : Tally). t .count) (c .before .before .pre .1 .1)))
 
-load-of-requires : tie.Need-load-of-requires
-load-of-requires c κs = omega (arith, c .before .before .before .pre .0 .valid .few-jobs)
+root-of-requires : tie.Need-root-of-requires
+root-of-requires c κs = c .before .before .before .pre .0 .valid
 
 horizon-of-requires : tie.Need-horizon-of-requires
 horizon-of-requires c κs = search needs
@@ -26,29 +28,30 @@ horizon-of-requires c κs = search needs
 wide-requires : tie.Need-wide-requires
 wide-requires c κs = search needs
 
+array-read-if2 : tie.Need-array-read-if2
+array-read-if2 c = search needs
+
 returns-2 : tie.Need-returns-2
 returns-2 c =
     let start = c .before .before .before .before .before .before .before in
-    root-cut _ (start .pre .0 .valid) _ (c .before .before .before .load-of .ensures) _ (c .before .before .before .before .before .before .if1 .left) _ _ (start .pre .1 .1) (c .before .before .before .before .count-one .ensures .0) (omega (arith, c .if2 .taken, (c .before .wide .ensures .0 ∙ c .before .before .horizon-of .ensures)))
-
-root-of-requires : tie.Need-root-of-requires
-root-of-requires c κs = c .before .before .before .before .before .before .before .pre .0 .valid
+    root-cut _ (start .pre .0 .valid) _ (c .before .before .before .before .before .before .if1 .left) _ _ (start .pre .1 .1) (c .before .before .before .before .count-one .ensures .0) _ (c .before .before .before .root-of .ensures) (omega (arith, c .if2 .taken, (c .before .wide .ensures .0 ∙ c .before .before .horizon-of .ensures)))
 
 job-count-requires : tie.Need-job-count-requires
 job-count-requires c κs = search needs
 
 enter-requires : tie.Need-enter-requires
 enter-requires c κs =
-    let start = c .before .before .before .before .before .before .before .before .before .before .before in
-    let valid = start .pre .0 .valid in
-    let small : c .before .before .before .before .before .before .before .load-of .result ≤ recorderOf (start .args .r .now) .horizon = omega (arith, c .before .before .before .before .if2 .left, (c .before .before .before .before .before .wide .ensures .0 ∙ c .before .before .before .before .before .before .horizon-of .ensures)) in
-    let counted = c .before .before .before .before .before .before .before .before .count-one .ensures in
-    (start .pre .0, (rw (c .before .before .before .root-of .ensures) (root-holds _ valid), (rw (c .before .before .before .root-of .ensures, c .before .before .job-count .ensures) (root-stored _ valid _ (c .before .before .before .before .before .before .before .load-of .ensures) small), record { long = counted .1; count = omega (arith, ap (λ (t : Tally). t .count) (counted .0), ap (λ (t : Tally). t .count) (start .pre .1 .1), c .before .before .before .before .before .before .before .before .before .before .if1 .left) })))
+    let start = c .before .before .before .before .before .before .before .before .before .before in
+    let R = recorderOf (start .args .r .now) in
+    let root = c .before .before .before .before .before .before .root-of .ensures in
+    let small : getD (c .before .before .before .before .before .before .root-of .result) 64 0 ≤ R .horizon = omega (arith, c .before .before .before .if2 .left, (c .before .before .before .before .wide .ensures .0 ∙ c .before .before .before .before .before .horizon-of .ensures)) in
+    let counted = c .before .before .before .before .before .before .before .count-one .ensures in
+    (start .pre .0, (rw root from-root, (rw (root, c .before .before .job-count .ensures) (root-spared R (start .pre .0 .valid) (rw root at small)), record { long = counted .1; count = omega (arith, ap (λ (t : Tally). t .count) (counted .0), ap (λ (t : Tally). t .count) (start .pre .1 .1), c .before .before .before .before .before .before .before .before .before .if1 .left) })))
 
 returns-3 : tie.Need-returns-3
 returns-3 c =
-    let start = c .before .before .before .before .before .before .before .before .before .before .before .before in
-    root-enters _ (start .pre .0 .valid) _ (c .before .before .before .before .before .before .before .before .load-of .ensures) _ (c .before .before .before .before .before .before .before .before .before .before .before .if1 .left) _ _ (start .pre .1 .1) (c .before .before .before .before .before .before .before .before .before .count-one .ensures .0) (omega (arith, c .before .before .before .before .before .if2 .left, (c .before .before .before .before .before .before .wide .ensures .0 ∙ c .before .before .before .before .before .before .before .horizon-of .ensures))) _ (c .before .before .before .before .root-of .ensures) _ (c .before .before .before .job-count .ensures) _ (c .enter .ensures .0)
+    let start = c .before .before .before .before .before .before .before .before .before .before .before in
+    root-enters _ (start .pre .0 .valid) _ (c .before .before .before .before .before .before .before .before .before .before .if1 .left) _ _ (start .pre .1 .1) (c .before .before .before .before .before .before .before .before .count-one .ensures .0) _ (c .before .before .before .before .before .before .before .root-of .ensures) (omega (arith, c .before .before .before .before .if2 .left, (c .before .before .before .before .before .wide .ensures .0 ∙ c .before .before .before .before .before .before .horizon-of .ensures))) _ (c .before .before .before .job-count .ensures) _ (c .enter .ensures .0)
 
 pub root-visit-spec : {M : Type 1} → statement M
 root-visit-spec =
@@ -56,11 +59,11 @@ root-visit-spec =
     (tie.spec
     returns
     count-one-requires
-    load-of-requires
+    root-of-requires
     horizon-of-requires
     wide-requires
+    array-read-if2
     returns-2
-    root-of-requires
     job-count-requires
     enter-requires
     returns-3)

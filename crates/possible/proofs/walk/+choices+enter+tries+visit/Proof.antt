@@ -13,14 +13,15 @@ use Rattle.schedule.specs.declared.Recorder.{Recorder}
 use mathlib.Core.List.{List}
 use Rattle.flat.specs.Flat.{recorderOf}
 use Rattle.vertex.specs.Layout.{placedOf}
-use Rattle.vertex.proofs.Offering.{few, some-left, run-in, child-offered}
+use Rattle.vertex.proofs.Marking.{run-in}
+use Rattle.vertex.proofs.Offering.{few, some-left, child-offered}
 use Rattle.vertex.proofs.Reading.{free-at, taken-at}
 use Rattle.visit.proofs.Going.{start-at, start-next, start-more, start-less}
 use Rattle.possible.specs.TillFound.{visitTillFound}
 use Rattle.possible.specs.Steps.{vertexOf, tryStart, tryJob, tallyOf, Within}
 use Rattle.possible.proofs.Budget.{turn-stops, turn-goes, turn-covered, turn-none, turns-end}
 use Rattle.possible.proofs.Tallies.{count-is, counted-is, counted-long, counted-within, kept-long}
-use Rattle.possible.proofs.Walking.{choices-each, jobs-steady, starts-steady, job-passed, job-came, starts-turns, child-at, visit-over, visit-cut, visit-spared, is-cut, is-spared, is-alike, is-stored, is-long, enter-complete, enter-on, span-within, span-over}
+use Rattle.possible.proofs.Walking.{choices-each, jobs-steady, starts-steady, job-passed, job-came, starts-turns, child-at, visit-over, visit-cut, visit-spared, is-cut, is-spared, may-mark, is-loaded, is-alike, is-entered, enter-complete, enter-on, span-within, span-over}
 use borrow.Fn.Kinds.{In}
 use borrow.Fn.PlainCycle.{Measures, is, falls, and}
 use Rattle.possible.proofs.walk.choices.Reads as choices
@@ -101,10 +102,10 @@ visit-calls t = (count-one-reads.Asked, count-one-reads.Learnt, run-of-reads.Ask
 -- ---- choices
 
 abbrev choices-Inv-loop : choices-lts.InvT-loop
-choices-Inv-loop r v tally₀ budget left time load n dues j₀ tally j = (j ≤ n) × (n ≤ 16) × (tallyOf (recorderOf r) tally ≡ each (tryJob (recorderOf r) (visitTillFound (recorderOf r) (left - 1)) (vertexOf (recorderOf r) v time) (placedOf v)) j (tallyOf (recorderOf r) tally₀)) × Within (recorderOf r) budget tally
+choices-Inv-loop r v tally₀ budget left time n dues j₀ tally j = (j ≤ n) × (n ≤ 16) × (tallyOf (recorderOf r) tally ≡ each (tryJob (recorderOf r) (visitTillFound (recorderOf r) (left - 1)) (vertexOf (recorderOf r) v time) (placedOf v)) j (tallyOf (recorderOf r) tally₀)) × Within (recorderOf r) budget tally
 
 abbrev choices-μ-loop : choices-lts.MeasureT-loop
-choices-μ-loop r v tally₀ budget left time load n dues j₀ tally j = n - j
+choices-μ-loop r v tally₀ budget left time n dues j₀ tally j = n - j
 
 choices-job-count-requires : (t : ℕ) → choices-lts.Need-job-count-requires (choices-calls t) (choices-at t) choices.Post choices-Inv-loop choices-μ-loop
 choices-job-count-requires t c κs = search needs
@@ -175,10 +176,10 @@ enter-returns-2 t c = (enter-on _ _ _ _ _ (c .before .before .if1 .left) _ (c .c
 -- ---- tries
 
 abbrev tries-Inv-loop : tries-lts.InvT-loop
-tries-Inv-loop r v tally₀ budget left time load j c d rest limit s₀ tally s = (s₀ ≤ s) × (tallyOf (recorderOf r) tally ≡ each (tryStart (recorderOf r) (visitTillFound (recorderOf r) (left - 1)) (vertexOf (recorderOf r) v time) (j .0)) (s - s₀) (tallyOf (recorderOf r) tally₀)) × Within (recorderOf r) budget tally × (s - s₀ ≤ (d + 1) - (c + s₀))
+tries-Inv-loop r v tally₀ budget left time j c d rest limit s₀ tally s = (s₀ ≤ s) × (tallyOf (recorderOf r) tally ≡ each (tryStart (recorderOf r) (visitTillFound (recorderOf r) (left - 1)) (vertexOf (recorderOf r) v time) (j .0)) (s - s₀) (tallyOf (recorderOf r) tally₀)) × Within (recorderOf r) budget tally × (s - s₀ ≤ (d + 1) - (c + s₀))
 
 abbrev tries-μ-loop : tries-lts.MeasureT-loop
-tries-μ-loop r v tally₀ budget left time load j c d rest limit s₀ tally s = (d + 1) - s
+tries-μ-loop r v tally₀ budget left time j c d rest limit s₀ tally s = (d + 1) - s
 
 tries-run-of-requires : (t : ℕ) → tries-lts.Need-run-of-requires (tries-calls t) (tries-at t) tries.Post tries-Inv-loop tries-μ-loop
 tries-run-of-requires t c κs = omega (arith, c .pre .1 .1 .1 .1 .0, c .pre .1 .0 .few-jobs)
@@ -192,10 +193,13 @@ tries-deadline-of-requires t c κs = omega (arith, c .before .before .pre .1 .1 
 tries-wide-requires-2 : (t : ℕ) → tries-lts.Need-wide-requires-2 (tries-calls t) (tries-at t) tries.Post tries-Inv-loop tries-μ-loop
 tries-wide-requires-2 t c κs = search needs
 
+tries-element-copy-out-rest : (t : ℕ) → tries-lts.Need-element-copy-out-rest (tries-calls t) (tries-at t) tries.Post tries-Inv-loop tries-μ-loop
+tries-element-copy-out-rest t c = search needs
+
 tries-sub-rest : (t : ℕ) → tries-lts.Need-sub-rest (tries-calls t) (tries-at t) tries.Post tries-Inv-loop tries-μ-loop
 tries-sub-rest t c =
-    let start = c .before .before .before .before in
-    omega (arith, run-in _ (start .pre .1 .0) _ _ _ _ (start .pre .1 .1 .1 .0) _ (start .pre .1 .1 .1 .1 .0) (start .pre .1 .1 .1 .1 .1 .0), (c .before .before .wide .ensures .0 ∙ c .before .before .before .run-of .ensures))
+    let start = c .before .before .before .before .before in
+    omega (arith, run-in _ (start .pre .1 .0) _ (start .pre .1 .1 .0) _ (start .pre .1 .1 .1 .1 .0) (start .pre .1 .1 .1 .1 .1 .0), (c .before .before .before .wide .ensures .0 ∙ c .before .before .before .before .run-of .ensures))
 
 tries-horizon-of-requires : (t : ℕ) → tries-lts.Need-horizon-of-requires (tries-calls t) (tries-at t) tries.Post tries-Inv-loop tries-μ-loop
 tries-horizon-of-requires t c κs = search needs
@@ -204,10 +208,12 @@ tries-wide-requires-3 : (t : ℕ) → tries-lts.Need-wide-requires-3 (tries-call
 tries-wide-requires-3 t c κs = search needs
 
 tries-limit-of-requires : (t : ℕ) → tries-lts.Need-limit-of-requires (tries-calls t) (tries-at t) tries.Post tries-Inv-loop tries-μ-loop
-tries-limit-of-requires t c κs = omega (arith, c .before .before .before .before .before .before .pre .1 .1 .1 .0 .fits, (c .wide3 .ensures .0 ∙ c .before .horizon-of .ensures))
+tries-limit-of-requires t c κs =
+    let start = c .before .before .before .before .before .before .before in
+    omega (arith, start .pre .1 .1 .1 .0 .fits, start .pre .1 .1 .0 .load, (c .wide3 .ensures .0 ∙ c .before .horizon-of .ensures))
 
 tries-release-of-requires : (t : ℕ) → tries-lts.Need-release-of-requires (tries-calls t) (tries-at t) tries.Post tries-Inv-loop tries-μ-loop
-tries-release-of-requires t c κs = omega (arith, c .before .before .before .before .before .before .before .pre .1 .1 .1 .1 .0, c .before .before .before .before .before .before .before .pre .1 .0 .few-jobs)
+tries-release-of-requires t c κs = omega (arith, c .before .before .before .before .before .before .before .before .pre .1 .1 .1 .1 .0, c .before .before .before .before .before .before .before .before .pre .1 .0 .few-jobs)
 
 tries-wide-requires-4 : (t : ℕ) → tries-lts.Need-wide-requires-4 (tries-calls t) (tries-at t) tries.Post tries-Inv-loop tries-μ-loop
 tries-wide-requires-4 t c κs = search needs
@@ -216,29 +222,29 @@ tries-later-requires : (t : ℕ) → tries-lts.Need-later-requires (tries-calls 
 tries-later-requires t c κs = search needs
 
 tries-loop-holds : (t : ℕ) → tries-lts.Need-loop-holds (tries-calls t) (tries-at t) tries.Post tries-Inv-loop tries-μ-loop
-tries-loop-holds t c = (omega arith, each-start _ _ _ (omega arith), c .before .before .before .before .before .before .before .before .before .before .pre .1 .1 .1 .1 .1 .1 .1, omega arith)
+tries-loop-holds t c = (omega arith, each-start _ _ _ (omega arith), c .before .before .before .before .before .before .before .before .before .before .before .pre .1 .1 .1 .1 .1 .1 .1, omega arith)
 
 tries-add-loop : (t : ℕ) → tries-lts.Need-add-loop (tries-calls t) (tries-at t) tries.Post tries-Inv-loop tries-μ-loop
-tries-add-loop t c = omega (arith, c .before .before .before .before .before .before .before .before .before .wide .ensures .1, c .before .before .before .before .before .before .before .wide2 .ensures .1, c .before .before .wide4 .ensures .1, c .before .later .ensures, c .before .before .before .before .before .before .before .before .before .before .before .pre .1 .1 .1 .0 .fits, c .before .before .before .before .before .before .before .before .before .before .before .pre .1 .0 .few-ticks)
+tries-add-loop t c = omega (arith, c .before .before .before .before .before .before .before .before .before .before .wide .ensures .1, c .before .before .before .before .before .before .before .before .wide2 .ensures .1, c .before .before .wide4 .ensures .1, c .before .later .ensures, c .before .before .before .before .before .before .before .before .before .before .before .before .pre .1 .1 .1 .0 .fits, c .before .before .before .before .before .before .before .before .before .before .before .before .pre .1 .0 .few-ticks)
 
 tries-sub-visit : (t : ℕ) → tries-lts.Need-sub-visit (tries-calls t) (tries-at t) tries.Post tries-Inv-loop tries-μ-loop
 tries-sub-visit t c =
-    let start = c .before .before .before .before .before .before .before .before .before .before .before .before .before in
-    omega (arith, some-left _ (start .pre .1 .0) _ _ _ _ (start .pre .1 .1 .1 .0) _ (start .pre .1 .1 .1 .1 .0) (start .pre .1 .1 .1 .1 .1 .0))
+    let start = c .before .before .before .before .before .before .before .before .before .before .before .before .before .before in
+    omega (arith, some-left _ (start .pre .1 .0) _ _ _ (start .pre .1 .1 .1 .0) _ (start .pre .1 .1 .1 .1 .0) (start .pre .1 .1 .1 .1 .1 .0))
 
 tries-visit-requires : (t : ℕ) → tries-lts.Need-visit-requires (tries-calls t) (tries-at t) tries.Post tries-Inv-loop tries-μ-loop
 tries-visit-requires t c κs =
-    let start = c .before .before .before .before .before .before .before .before .before .before .before .before .before in
+    let start = c .before .before .before .before .before .before .before .before .before .before .before .before .before .before in
     let l = c .before .before .loop in
-    let some = some-left _ (start .pre .1 .0) _ _ _ _ (start .pre .1 .1 .1 .0) _ (start .pre .1 .1 .1 .1 .0) (start .pre .1 .1 .1 .1 .1 .0) in
-    (omega arith, (start .pre .1 .0, (start .pre .1 .1 .0, (child-offered _ (start .pre .1 .0) _ _ _ _ (start .pre .1 .1 .1 .0) _ (start .pre .1 .1 .1 .1 .0) (start .pre .1 .1 .1 .1 .1 .0) _ (start .pre .1 .1 .1 .1 .1 .1 .0) _ _ _ _ _ (c .before .before .before .before .before .before .before .before .before .before .before .wide .ensures .0 ∙ c .before .before .before .before .before .before .before .before .before .before .before .before .run-of .ensures) refl (c .before .before .before .before .before .before .before .wide3 .ensures .0 ∙ c .before .before .before .before .before .before .before .before .horizon-of .ensures) (c .before .before .before .before .before .before .limit-of .ensures) (omega (arith, c .before .loop-test .taken)), l .inv .2))))
+    let some = some-left _ (start .pre .1 .0) _ _ _ (start .pre .1 .1 .1 .0) _ (start .pre .1 .1 .1 .1 .0) (start .pre .1 .1 .1 .1 .1 .0) in
+    (omega arith, (start .pre .1 .0, (start .pre .1 .1 .0, (child-offered _ (start .pre .1 .0) _ _ _ (start .pre .1 .1 .1 .0) _ (start .pre .1 .1 .1 .1 .0) (start .pre .1 .1 .1 .1 .1 .0) (start .pre .1 .1 .0) _ (start .pre .1 .1 .1 .1 .1 .1 .0) _ _ _ _ _ (c .before .before .before .before .before .before .before .before .before .before .before .before .wide .ensures .0 ∙ c .before .before .before .before .before .before .before .before .before .before .before .before .before .run-of .ensures) refl (c .before .before .before .before .before .before .before .wide3 .ensures .0 ∙ c .before .before .before .before .before .before .before .before .horizon-of .ensures) (c .before .before .before .before .before .before .limit-of .ensures) (omega (arith, c .before .loop-test .taken)), l .inv .2))))
 
 tries-returns : (t : ℕ) → tries-lts.Need-returns (tries-calls t) (tries-at t) tries.Post tries-Inv-loop tries-μ-loop
 tries-returns t c =
-    let start = c .before .before .before .before .before .before .before .before .before .before .before .before .before .before .before in
+    let start = c .before .before .before .before .before .before .before .before .before .before .before .before .before .before .before .before in
     let l = c .before .before .before .before .loop in
     let from = c .before .before .before .before .before .later .ensures ∙ ap (max (start .args .time)) (c .before .before .before .before .before .before .wide4 .ensures .0 ∙ c .before .before .before .before .before .before .before .release-of .ensures) in
-    (turn-stops _ _ _ _ _ _ _ (l .inv .1) (child-at _ _ _ _ _ _ _ _ _ _ (start-at _ _ 0 0 (l .inv .0) _ from) (c .before .visit .ensures .0)) (starts-steady _ _ _ _) (c .if1 .taken) _ (span-within (recorderOf (start .args .r .now)) (start .args .time) (start .args .j .0) _ _ _ _ from (c .before .before .before .before .before .before .before .before .before .before .before .before .before .wide .ensures .0 ∙ c .before .before .before .before .before .before .before .before .before .before .before .before .before .before .run-of .ensures) (c .before .before .before .before .before .before .before .before .before .before .before .wide2 .ensures .0 ∙ c .before .before .before .before .before .before .before .before .before .before .before .before .deadline-of .ensures) (l .inv .0) (c .before .before .before .loop-test .taken)) _ (starts-turns _ _ _ _ _ _), c .before .visit .ensures .1)
+    (turn-stops _ _ _ _ _ _ _ (l .inv .1) (child-at _ _ _ _ _ _ _ _ _ _ (start-at _ _ 0 0 (l .inv .0) _ from) (c .before .visit .ensures .0)) (starts-steady _ _ _ _) (c .if1 .taken) _ (span-within (recorderOf (start .args .r .now)) (start .args .time) (start .args .j .0) _ _ _ _ from (c .before .before .before .before .before .before .before .before .before .before .before .before .before .before .wide .ensures .0 ∙ c .before .before .before .before .before .before .before .before .before .before .before .before .before .before .before .run-of .ensures) (c .before .before .before .before .before .before .before .before .before .before .before .before .wide2 .ensures .0 ∙ c .before .before .before .before .before .before .before .before .before .before .before .before .before .deadline-of .ensures) (l .inv .0) (c .before .before .before .loop-test .taken)) _ (starts-turns _ _ _ _ _ _), c .before .visit .ensures .1)
 
 tries-add-s : (t : ℕ) → tries-lts.Need-add-s (tries-calls t) (tries-at t) tries.Post tries-Inv-loop tries-μ-loop
 tries-add-s t c = omega arith
@@ -248,7 +254,7 @@ tries-loop-less t c = start-less _ _ _ (c .before .before .before .loop-test .ta
 
 tries-loop-again : (t : ℕ) → tries-lts.Need-loop-again (tries-calls t) (tries-at t) tries.Post tries-Inv-loop tries-μ-loop
 tries-loop-again t c =
-    let start = c .before .before .before .before .before .before .before .before .before .before .before .before .before .before .before in
+    let start = c .before .before .before .before .before .before .before .before .before .before .before .before .before .before .before .before in
     let l = c .before .before .before .before .loop in
     let from = c .before .before .before .before .before .later .ensures ∙ ap (max (start .args .time)) (c .before .before .before .before .before .before .wide4 .ensures .0 ∙ c .before .before .before .before .before .before .before .release-of .ensures) in
     let turn = child-at _ _ _ _ _ _ _ _ _ _ (start-at _ _ 0 0 (l .inv .0) _ from) (c .before .visit .ensures .0) in
@@ -256,10 +262,10 @@ tries-loop-again t c =
 
 tries-returns-2 : (t : ℕ) → tries-lts.Need-returns-2 (tries-calls t) (tries-at t) tries.Post tries-Inv-loop tries-μ-loop
 tries-returns-2 t c =
-    let start = c .before .before .before .before .before .before .before .before .before .before .before .before in
+    let start = c .before .before .before .before .before .before .before .before .before .before .before .before .before in
     let l = c .before .loop in
     let from = c .before .before .later .ensures ∙ ap (max (start .args .time)) (c .before .before .before .wide4 .ensures .0 ∙ c .before .before .before .before .release-of .ensures) in
-    (turns-end _ _ _ _ _ _ (l .inv .1) (span-over (recorderOf (start .args .r .now)) (start .args .time) (start .args .j .0) _ _ _ _ from (c .before .before .before .before .before .before .before .before .before .before .wide .ensures .0 ∙ c .before .before .before .before .before .before .before .before .before .before .before .run-of .ensures) (c .before .before .before .before .before .before .before .before .wide2 .ensures .0 ∙ c .before .before .before .before .before .before .before .before .before .deadline-of .ensures) (l .inv .0) (l .inv .3) (c .loop-test .left)) (l .inv .2 .count) (l .inv .2 .none) _ (starts-turns _ _ _ _ _ _), l .inv .2 .long)
+    (turns-end _ _ _ _ _ _ (l .inv .1) (span-over (recorderOf (start .args .r .now)) (start .args .time) (start .args .j .0) _ _ _ _ from (c .before .before .before .before .before .before .before .before .before .before .before .wide .ensures .0 ∙ c .before .before .before .before .before .before .before .before .before .before .before .before .run-of .ensures) (c .before .before .before .before .before .before .before .before .before .wide2 .ensures .0 ∙ c .before .before .before .before .before .before .before .before .before .before .deadline-of .ensures) (l .inv .0) (l .inv .3) (c .loop-test .left)) (l .inv .2 .count) (l .inv .2 .none) _ (starts-turns _ _ _ _ _ _), l .inv .2 .long)
 
 -- ---- visit
 
@@ -289,7 +295,7 @@ visit-run-of-requires t c κs =
     let start = c .before .before .before .before in
     let within = start .pre .1 .1 .1 .1 in
     let offered = start .pre .1 .1 .1 .0 in
-    few _ (start .pre .1 .0) _ _ _ _ _ _ offered
+    few _ (start .pre .1 .0) _ _ _ _ _ offered
 
 visit-wide-requires : (t : ℕ) → visit-lts.Need-wide-requires (visit-calls t) (visit-at t) visit.Post
 visit-wide-requires t c κs = search needs
@@ -309,35 +315,35 @@ visit-returns-2 t c =
     let et = ap (λ (z : ℕ). start .args .s + z) (c .before .wide .ensures .0 ∙ c .before .before .run-of .ensures) in
     let room = below-budget _ _ _ within (c .before .before .before .before .before .if1 .left) in
     let counted = c .before .before .before .count-one .ensures in
-    (visit-cut _ _ _ _ _ _ (counted-is _ _ _ counted (within .long)) (within .none) (omega (arith, room, count-is (recorderOf (start .args .r .now)) (start .args .tally .now))) (is-cut _ (start .pre .1 .0) _ _ _ _ _ _ offered _ et (c .if2 .taken)), counted-long (recorderOf (start .args .r .now)) (start .args .tally .now) _ counted (within .long))
+    (visit-cut _ _ _ _ _ _ (counted-is _ _ _ counted (within .long)) (within .none) (omega (arith, room, count-is (recorderOf (start .args .r .now)) (start .args .tally .now))) (is-cut _ (start .pre .1 .0) _ _ _ _ _ offered _ et (c .if2 .taken)), counted-long (recorderOf (start .args .r .now)) (start .args .tally .now) _ counted (within .long))
 
 visit-mark-requires : (t : ℕ) → visit-lts.Need-mark-requires (visit-calls t) (visit-at t) visit.Post
 visit-mark-requires t c κs =
     let start = c .before .before .before .before .before .before .before .before .before in
-    let within = start .pre .1 .1 .1 .1 in
-    let offered = start .pre .1 .1 .1 .0 in
-    few _ (start .pre .1 .0) _ _ _ _ _ _ offered
+    may-mark _ (start .pre .1 .0) _ _ _ _ _ (start .pre .1 .1 .1 .0) (start .pre .1 .1 .0) _ (c .before .before .before .wide .ensures .0 ∙ c .before .before .before .before .run-of .ensures)
 
 visit-enter-requires : (t : ℕ) → visit-lts.Need-enter-requires (visit-calls t) (visit-at t) visit.Post
 visit-enter-requires t c κs =
     let start = c .before .before .before .before .before .before .before .before .before .before .before .before in
     let within = start .pre .1 .1 .1 .1 in
     let offered = start .pre .1 .1 .1 .0 in
-    let et = ap (λ (z : ℕ). start .args .s + z) (c .before .before .before .before .before .before .wide .ensures .0 ∙ c .before .before .before .before .before .before .before .run-of .ensures) in
+    let runs = c .before .before .before .before .before .before .wide .ensures .0 ∙ c .before .before .before .before .before .before .before .run-of .ensures in
+    let et = ap (λ (z : ℕ). start .args .s + z) runs in
     let room = below-budget _ _ _ within (c .before .before .before .before .before .before .before .before .before .before .if1 .left) in
     let made = c .before .before .mark .ensures in
     let spared = c .before .before .before .before .before .if2 .left in
-    (omega arith, (start .pre .1 .0, (is-long _ (start .pre .1 .0) _ _ _ _ _ _ offered (start .pre .1 .1 .0) _ et _ made, (is-stored _ (start .pre .1 .0) _ _ _ _ _ _ offered (start .pre .1 .1 .0) _ et _ made spared, counted-within _ _ _ (c .before .before .before .before .before .before .before .before .count-one .ensures) (within .long) _ room (within .none)))))
+    (omega arith, (start .pre .1 .0, (is-loaded _ (start .pre .1 .0) _ _ _ _ _ offered (start .pre .1 .1 .0) _ runs _ made, (is-entered _ (start .pre .1 .0) _ _ _ _ _ offered (start .pre .1 .1 .0) _ runs _ made _ et spared, counted-within _ _ _ (c .before .before .before .before .before .before .before .before .count-one .ensures) (within .long) _ room (within .none)))))
 
 visit-returns-3 : (t : ℕ) → visit-lts.Need-returns-3 (visit-calls t) (visit-at t) visit.Post
 visit-returns-3 t c =
     let start = c .before .before .before .before .before .before .before .before .before .before .before .before .before in
     let within = start .pre .1 .1 .1 .1 in
     let offered = start .pre .1 .1 .1 .0 in
-    let et = ap (λ (z : ℕ). start .args .s + z) (c .before .before .before .before .before .before .before .wide .ensures .0 ∙ c .before .before .before .before .before .before .before .before .run-of .ensures) in
+    let runs = c .before .before .before .before .before .before .before .wide .ensures .0 ∙ c .before .before .before .before .before .before .before .before .run-of .ensures in
+    let et = ap (λ (z : ℕ). start .args .s + z) runs in
     let made = c .before .before .before .mark .ensures in
     let spared = c .before .before .before .before .before .before .if2 .left in
-    (visit-spared _ _ _ (is-alike _ (start .pre .1 .0) _ _ _ _ _ _ offered (start .pre .1 .1 .0) _ et _ made) _ _ _ _ (counted-is _ _ _ (c .before .before .before .before .before .before .before .before .before .count-one .ensures) (within .long)) (within .none) (is-spared _ (start .pre .1 .0) _ _ _ _ _ _ offered _ et spared) _ (c .enter .ensures .0), c .enter .ensures .1)
+    (visit-spared _ _ _ (is-alike _ (start .pre .1 .0) _ _ _ _ _ offered (start .pre .1 .1 .0) _ runs _ made _ et) _ _ _ _ (counted-is _ _ _ (c .before .before .before .before .before .before .before .before .before .count-one .ensures) (within .long)) (within .none) (is-spared _ (start .pre .1 .0) _ _ _ _ _ offered _ et spared) _ (c .enter .ensures .0), c .enter .ensures .1)
 
 pub +choices+enter+tries+visit-spec : {M : Type 1} → statement M
 +choices+enter+tries+visit-spec = close μ-choices μ-enter μ-tries μ-visit
@@ -374,6 +380,7 @@ pub +choices+enter+tries+visit-spec : {M : Type 1} → statement M
     (tries-wide-requires t)
     (tries-deadline-of-requires t)
     (tries-wide-requires-2 t)
+    (tries-element-copy-out-rest t)
     (tries-sub-rest t)
     (tries-horizon-of-requires t)
     (tries-wide-requires-3 t)

@@ -3,9 +3,11 @@
 use mathlib.Core.Path.{_∙_}
 use Prim.Native.Nat.{_≤_}
 use native.Mathlib.Omega.{arith}
+use lib.ListN.{getD}
 use Rattle.flat.specs.Flat.{recorderOf}
 use Rattle.possible.proofs.Tallies.{counted-is, counted-long, counted-within}
-use Rattle.possible.proofs.Ending.{empty-long, empty-count, empty-none, root-over, root-cut, root-enters, fresh-long, fresh-stored}
+use Rattle.vertex.proofs.Rooting.{root-holds, root-spared}
+use Rattle.possible.proofs.Ending.{empty-long, empty-count, empty-none, root-over, root-cut, root-enters}
 use borrow.Author.Needs.{needs}
 use Rattle.possible.proofs.walk.root_visit.Statement.{statement}
 use Rattle.possible.proofs.walk.root_visit.Tie as tie
@@ -16,8 +18,8 @@ returns c = (root-over _ _ (c .before .pre .1) _ (c .if1 .taken), empty-long (re
 count-one-requires : tie.Need-count-one-requires
 count-one-requires c κs = omega (arith, empty-count (recorderOf (c .before .before .args .r .now)) _ (c .before .before .pre .1))
 
-load-of-requires : tie.Need-load-of-requires
-load-of-requires c κs = search needs
+root-of-requires : tie.Need-root-of-requires
+root-of-requires c κs = c .before .before .before .pre .0
 
 horizon-of-requires : tie.Need-horizon-of-requires
 horizon-of-requires c κs = search needs
@@ -25,35 +27,35 @@ horizon-of-requires c κs = search needs
 wide-requires : tie.Need-wide-requires
 wide-requires c κs = search needs
 
+array-read-if2 : tie.Need-array-read-if2
+array-read-if2 c = search needs
+
 returns-2 : tie.Need-returns-2
 returns-2 c =
     let start = c .before .before .before .before .before .before .before in
     let R = recorderOf (start .args .r .now) in
     let empty = start .pre .1 in
     let counted = c .before .before .before .before .count-one .ensures in
-    (root-cut R _ empty (start .pre .0) _ (c .before .before .before .load-of .ensures) _ (counted-is R _ _ counted (empty-long R _ empty)) _ (c .before .before .before .before .before .before .if1 .left) (omega (arith, c .if2 .taken, (c .before .wide .ensures .0 ∙ c .before .before .horizon-of .ensures))), counted-long R (start .args .tally .now) _ counted (empty-long R _ empty))
-
-none-placed-requires : tie.Need-none-placed-requires
-none-placed-requires c κs = search needs
+    (root-cut R _ empty (start .pre .0) _ (counted-is R _ _ counted (empty-long R _ empty)) _ (c .before .before .before .before .before .before .if1 .left) _ (c .before .before .before .root-of .ensures) (omega (arith, c .if2 .taken, (c .before .wide .ensures .0 ∙ c .before .before .horizon-of .ensures))), counted-long R (start .args .tally .now) _ counted (empty-long R _ empty))
 
 job-count-requires : tie.Need-job-count-requires
 job-count-requires c κs = search needs
 
 enter-requires : tie.Need-enter-requires
 enter-requires c κs =
-    let start = c .before .before .before .before .before .before .before .before .before .before .before in
+    let start = c .before .before .before .before .before .before .before .before .before .before in
     let R = recorderOf (start .args .r .now) in
     let empty = start .pre .1 in
-    let fresh = c .before .before .before .none-placed .ensures in
-    let small : c .before .before .before .before .before .before .before .load-of .result ≤ R .horizon = omega (arith, c .before .before .before .before .if2 .left, (c .before .before .before .before .before .wide .ensures .0 ∙ c .before .before .before .before .before .before .horizon-of .ensures)) in
-    (start .pre .0, (fresh-long R (start .pre .0) _ fresh, (fresh-stored R (start .pre .0) _ fresh _ (c .before .before .before .before .before .before .before .load-of .ensures) small _ (c .before .before .job-count .ensures), counted-within R _ _ (c .before .before .before .before .before .before .before .before .count-one .ensures) (empty-long R _ empty) _ (omega (arith, empty-count R _ empty, c .before .before .before .before .before .before .before .before .before .before .if1 .left)) (empty-none R _ empty))))
+    let root = c .before .before .before .before .before .before .root-of .ensures in
+    let small : getD (c .before .before .before .before .before .before .root-of .result) 64 0 ≤ R .horizon = omega (arith, c .before .before .before .if2 .left, (c .before .before .before .before .wide .ensures .0 ∙ c .before .before .before .before .before .horizon-of .ensures)) in
+    (start .pre .0, (rw root (root-holds R (start .pre .0) .loaded), (rw (root, c .before .before .job-count .ensures) (root-spared R (start .pre .0) (rw root at small)), counted-within R _ _ (c .before .before .before .before .before .before .before .count-one .ensures) (empty-long R _ empty) _ (omega (arith, empty-count R _ empty, c .before .before .before .before .before .before .before .before .before .if1 .left)) (empty-none R _ empty))))
 
 returns-3 : tie.Need-returns-3
 returns-3 c =
-    let start = c .before .before .before .before .before .before .before .before .before .before .before .before in
+    let start = c .before .before .before .before .before .before .before .before .before .before .before in
     let R = recorderOf (start .args .r .now) in
     let empty = start .pre .1 in
-    (root-enters R _ empty (start .pre .0) _ (c .before .before .before .before .before .before .before .before .load-of .ensures) _ (counted-is R _ _ (c .before .before .before .before .before .before .before .before .before .count-one .ensures) (empty-long R _ empty)) _ (c .before .before .before .before .before .before .before .before .before .before .before .if1 .left) (omega (arith, c .before .before .before .before .before .if2 .left, (c .before .before .before .before .before .before .wide .ensures .0 ∙ c .before .before .before .before .before .before .before .horizon-of .ensures))) _ (c .before .before .before .before .none-placed .ensures) _ (c .before .before .before .job-count .ensures) _ (c .enter .ensures .0), c .enter .ensures .1)
+    (root-enters R _ empty (start .pre .0) _ (counted-is R _ _ (c .before .before .before .before .before .before .before .before .count-one .ensures) (empty-long R _ empty)) _ (c .before .before .before .before .before .before .before .before .before .before .if1 .left) _ (c .before .before .before .before .before .before .before .root-of .ensures) (omega (arith, c .before .before .before .before .if2 .left, (c .before .before .before .before .before .wide .ensures .0 ∙ c .before .before .before .before .before .before .horizon-of .ensures))) _ (c .before .before .before .job-count .ensures) _ (c .enter .ensures .0), c .enter .ensures .1)
 
 pub root-visit-spec : {M : Type 1} → statement M
 root-visit-spec =
@@ -61,11 +63,11 @@ root-visit-spec =
     (tie.spec
     returns
     count-one-requires
-    load-of-requires
+    root-of-requires
     horizon-of-requires
     wide-requires
+    array-read-if2
     returns-2
-    none-placed-requires
     job-count-requires
     enter-requires
     returns-3)

@@ -6,6 +6,9 @@ use Rattle.vertex.specs.Layout.{marked}
 use Rattle.vertex.proofs.placing.mark.Statement.{statement}
 use Rattle.vertex.proofs.placing.mark.Tie as tie
 
+element-copy-out-load : tie.Need-element-copy-out-load
+element-copy-out-load c = search needs
+
 add-w : tie.Need-add-w
 add-w c = search needs
 
@@ -24,9 +27,16 @@ mul-w-2 c = search needs
 element-write-w-2 : tie.Need-element-write-w-2
 element-write-w-2 c = search needs
 
+sub-w : tie.Need-sub-w
+sub-w c = search needs
+
+element-write-w-3 : tie.Need-element-write-w-3
+element-write-w-3 c = search needs
+
 returns : tie.Need-returns
 unfolding marked
 returns c = refl
 
 pub mark-spec : {M : Type 1} → statement M
-mark-spec = tie.close (tie.spec add-w mul-w element-write-w add-w-2 mul-w-2 element-write-w-2 returns)
+mark-spec =
+    tie.close (tie.spec element-copy-out-load add-w mul-w element-write-w add-w-2 mul-w-2 element-write-w-2 sub-w element-write-w-3 returns)

@@ -1,19 +1,20 @@
 -- `vertex::placing::place` meets its contract. The loop's invariant: the first k devices are charged.
 -- Assumes nothing.
-use mathlib.Core.Path.{_≡_, sym, _∙_, subst}
+use mathlib.Core.Path.{_≡_, refl, sym, ap, _∙_}
 use mathlib.Core.Logic.{⊎-elim}
-use mathlib.Core.List.{List}
 use Prim.Native.Nat.{ℕ, _≤_, _<_, _-_}
 use native.Mathlib.Omega.{arith}
 use borrow.Author.Needs.{needs}
+use Rattle.base.specs.Loops.{each}
+use Rattle.base.proofs.Turns.{each-start, each-step, each-done}
 use Rattle.flat.specs.Flat.{recorderOf}
-use Rattle.vertex.specs.Layout.{marked}
-use Rattle.vertex.proofs.Placed.{Put, put-none, put-used, put-unused, put-as, few-job, base-long, may-charge, child-made, child-held}
+use Rattle.vertex.specs.Layout.{marked, charged, childCells}
+use Rattle.vertex.proofs.Placed.{few-job, may-mark, may-charge}
 use Rattle.vertex.proofs.placing.place.Statement.{statement}
 use Rattle.vertex.proofs.placing.place.Tie as tie
 
 abbrev Inv-loop : tie.InvT-loop
-Inv-loop r costs w₀ j s c round m k₀ w k = (k ≤ m) × (m ≤ 8) × Put (recorderOf r) (j .0) s w₀ k w
+Inv-loop r costs w₀ j s c round m k₀ w k = (k ≤ m) × (w ≡ each (charged (recorderOf r) (j .0) s) k w₀)
 
 abbrev μ-loop : tie.MeasureT-loop
 μ-loop r costs w₀ j s c round m k₀ w k = m - k
@@ -31,12 +32,12 @@ device-count-requires : tie.Need-device-count-requires Inv-loop μ-loop
 device-count-requires c κs = search needs
 
 mark-requires : tie.Need-mark-requires Inv-loop μ-loop
-mark-requires c κs = let s = c .before .before .before .before .before in few-job _ (s .pre .0 .valid) _ _ _ (s .pre .1 .0) (s .pre .1 .1)
+mark-requires c κs =
+    let s = c .before .before .before .before .before in
+    rw (c .before .before .before .wide .ensures .0, c .before .before .before .before .run-of .ensures) (may-mark _ (s .pre .0 .valid) _ _ _ (s .pre .1 .0) (s .pre .1 .1))
 
 loop-holds : tie.Need-loop-holds Inv-loop μ-loop
-loop-holds c =
-    let s = c .before .before .before .before .before .before in
-    (omega arith, omega (arith, c .before .before .device-count .ensures, s .pre .0 .valid .few-devices), put-none _ _ _ _ (rw (c .mark .ensures) (base-long _ (s .pre .0 .valid) _ _ _ (s .pre .1 .0) (s .pre .1 .1))))
+loop-holds c = (omega arith, each-start _ _ _ refl)
 
 is-used-requires : tie.Need-is-used-requires Inv-loop μ-loop
 is-used-requires c κs = let s = c .before .before .before .before .before .before .before .before in (omega arith, few-job _ (s .pre .0 .valid) _ _ _ (s .pre .1 .0) (s .pre .1 .1))
@@ -46,10 +47,11 @@ charge-requires c κs =
     let start = c .before .before .before .before .before .before .before .before .before .before .before in
     let R = recorderOf (start .args .r .now) in
     let l = c .before .before .before .before .loop in
-    let made : Put R (start .args .j .0) (start .args .s) (marked (start .args .j .0) (start .args .s) (start .args .w .now)) (l .k) (l .w) = subst (λ (b : List ℕ). Put R (start .args .j .0) (start .args .s) b (l .k) (l .w)) (c .before .before .before .before .before .mark .ensures) (l .inv .2) in
     let few : l .k < R .devices .count = omega (arith, c .before .before .before .loop-test .taken, c .before .before .before .before .before .before .before .device-count .ensures) in
-    rw (c .before .before .before .before .before .before .before .before .before .wide .ensures .0, c .before .before .before .before .before .before .before .before .before .before .run-of .ensures)
-    (start .pre .0, (few, may-charge R (start .pre .0 .valid) _ _ _ (start .pre .1 .0) (start .pre .1 .1) _ _ few made (sym (c .before .before .is-used .ensures) ∙ c .before .if1 .taken)))
+    let ticks = c .before .before .before .before .before .before .before .before .before .wide .ensures .0 ∙ c .before .before .before .before .before .before .before .before .before .before .run-of .ensures in
+    let made = l .inv .1 ∙ ap (each (charged R (start .args .j .0) (start .args .s)) (l .k)) (c .before .before .before .before .before .mark .ensures ∙ ap (λ (x : ℕ). marked (start .args .j .0) (start .args .s) x (start .args .w .now)) ticks) in
+    rw ticks
+    (start .pre .0, (few, may-charge R (start .pre .0 .valid) _ _ _ (start .pre .1 .0) (start .pre .1 .1) _ few _ made (sym (c .before .before .is-used .ensures) ∙ c .before .if1 .taken)))
 
 add-k : tie.Need-add-k Inv-loop μ-loop
 add-k c = omega arith
@@ -63,18 +65,19 @@ loop-again c =
     let round = c .before .before .before .before .before .before .before .is-round .ensures in
     let ticks = c .before .before .before .before .before .before .before .before .wide .ensures .0 ∙ c .before .before .before .before .before .before .before .before .before .run-of .ensures in
     ⊎-elim
-    (λ x. (omega arith, l .inv .1, subst (Put _ _ _ _ _) (sym (x .3 ∙ put-as _ _ _ _ _ _ _ _ _ round ticks (x .2 .ensures))) (put-used _ _ _ _ _ _ (omega arith) (l .inv .2) (sym (c .before .is-used .ensures) ∙ x .0 .taken))))
-    (λ x. (omega arith, l .inv .1, subst (Put _ _ _ _ _) (sym (x .1)) (put-unused _ _ _ _ _ _ (omega arith) (l .inv .2) (sym (c .before .is-used .ensures) ∙ x .0 .left))))
+    (λ x. (omega arith, each-step _ _ _ _ _ (l .inv .1) (rw (x .3, x .2 .ensures, round, ticks, sym (c .before .is-used .ensures) ∙ x .0 .taken))))
+    (λ x. (omega arith, each-step _ _ _ _ _ (l .inv .1) (rw (x .1, sym (c .before .is-used .ensures) ∙ x .0 .left))))
     (c .if1 .came)
 
 returns : tie.Need-returns Inv-loop μ-loop
+unfolding childCells
 returns c =
     let start = c .before .before .before .before .before .before .before .before in
     let R = recorderOf (start .args .r .now) in
     let l = c .before .loop in
-    let all : l .k ≡ R .devices .count = omega (arith, c .before .before .before .before .device-count .ensures) in
-    let made : Put R (start .args .j .0) (start .args .s) (marked (start .args .j .0) (start .args .s) (start .args .w .now)) (R .devices .count) (l .w) = subst (λ (n : ℕ). Put R (start .args .j .0) (start .args .s) (marked (start .args .j .0) (start .args .s) (start .args .w .now)) n (l .w)) all (subst (λ (b : List ℕ). Put R (start .args .j .0) (start .args .s) b (l .k) (l .w)) (c .before .before .mark .ensures) (l .inv .2)) in
-    (child-made R (start .pre .0 .valid) _ _ _ (start .pre .1 .0) (start .pre .1 .1) _ made, child-held R (start .pre .0 .valid) _ _ _ (start .pre .1 .0) (start .pre .1 .1) _ made)
+    let ticks = c .before .before .before .before .before .before .wide .ensures .0 ∙ c .before .before .before .before .before .before .before .run-of .ensures in
+    each-done _ _ _ _ _ (l .inv .1) (omega (arith, c .before .before .before .before .device-count .ensures))
+    ∙ ap (each (charged R (start .args .j .0) (start .args .s)) (R .devices .count)) (c .before .before .mark .ensures ∙ ap (λ (x : ℕ). marked (start .args .j .0) (start .args .s) x (start .args .w .now)) ticks)
 
 pub place-spec : {M : Type 1} → statement M
 place-spec =

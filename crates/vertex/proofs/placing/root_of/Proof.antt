@@ -4,7 +4,7 @@ use mathlib.Core.Path.{_≡_, refl, ap, _∙_}
 use Prim.Native.Nat.{ℕ, _≤_, _-_, _+_}
 use native.Mathlib.Omega.{arith}
 use borrow.Author.Needs.{needs}
-use lib.ListN.{set}
+use lib.ListN.{set, replicate}
 use Rattle.base.proofs.Turns.{each-start, each-step, each-done}
 use Rattle.base.specs.Loops.{each}
 use Rattle.base.specs.Sums.{sum}
@@ -30,6 +30,12 @@ abbrev μ-loop2 : tie.MeasureT-loop2
 device-count-requires : tie.Need-device-count-requires Inv-loop μ-loop Inv-loop2 μ-loop2
 device-count-requires c κs = search needs
 
+load-of-requires : tie.Need-load-of-requires Inv-loop μ-loop Inv-loop2 μ-loop2
+load-of-requires c κs = c .before .pre .few-jobs
+
+array-write-v : tie.Need-array-write-v Inv-loop μ-loop Inv-loop2 μ-loop2
+array-write-v c = omega arith
+
 loop-holds : tie.Need-loop-holds Inv-loop μ-loop Inv-loop2 μ-loop2
 loop-holds c = (omega arith, each-start _ _ _ refl)
 
@@ -39,8 +45,8 @@ add-v c = omega arith
 mul-v : tie.Need-mul-v Inv-loop μ-loop Inv-loop2 μ-loop2
 mul-v c = omega arith
 
-array-write-v : tie.Need-array-write-v Inv-loop μ-loop Inv-loop2 μ-loop2
-array-write-v c = omega arith
+array-write-v-2 : tie.Need-array-write-v-2 Inv-loop μ-loop Inv-loop2 μ-loop2
+array-write-v-2 c = omega arith
 
 add-j : tie.Need-add-j Inv-loop μ-loop Inv-loop2 μ-loop2
 add-j c = omega arith
@@ -52,10 +58,10 @@ loop-again : tie.Need-loop-again Inv-loop μ-loop Inv-loop2 μ-loop2
 loop-again c = (omega arith, each-step _ _ _ _ _ (c .before .loop .inv .1) refl)
 
 loop2-holds : tie.Need-loop2-holds Inv-loop μ-loop Inv-loop2 μ-loop2
-loop2-holds c = (omega arith, omega (arith, c .before .before .device-count .ensures, c .before .before .before .pre .few-devices), each-start _ _ _ refl)
+loop2-holds c = (omega arith, omega (arith, c .before .before .before .device-count .ensures, c .before .before .before .before .pre .few-devices), each-start _ _ _ refl)
 
 all-ticks-of-requires : tie.Need-all-ticks-of-requires Inv-loop μ-loop Inv-loop2 μ-loop2
-all-ticks-of-requires c κs = (c .before .before .before .before .before .pre .few-jobs, omega arith)
+all-ticks-of-requires c κs = (c .before .before .before .before .before .before .pre .few-jobs, omega arith)
 
 add-v-2 : tie.Need-add-v-2 Inv-loop μ-loop Inv-loop2 μ-loop2
 add-v-2 c = omega arith
@@ -63,8 +69,8 @@ add-v-2 c = omega arith
 mul-v-2 : tie.Need-mul-v-2 Inv-loop μ-loop Inv-loop2 μ-loop2
 mul-v-2 c = omega arith
 
-array-write-v-2 : tie.Need-array-write-v-2 Inv-loop μ-loop Inv-loop2 μ-loop2
-array-write-v-2 c = omega arith
+array-write-v-3 : tie.Need-array-write-v-3 Inv-loop μ-loop Inv-loop2 μ-loop2
+array-write-v-3 c = omega arith
 
 add-k : tie.Need-add-k Inv-loop μ-loop Inv-loop2 μ-loop2
 add-k c = omega arith
@@ -77,7 +83,9 @@ loop2-again c = (omega arith, c .before .before .loop2 .inv .1, each-step _ _ _ 
 
 returns : tie.Need-returns Inv-loop μ-loop Inv-loop2 μ-loop2
 unfolding rootCells
-returns c = each-done _ _ _ _ _ (c .before .loop2 .inv .2) (omega (arith, c .before .before .before .before .device-count .ensures)) ∙ ap (each _ _) (each-done _ _ _ _ _ (c .before .before .before .loop .inv .1) (omega arith))
+returns c =
+    each-done _ _ _ _ _ (c .before .loop2 .inv .2) (omega (arith, c .before .before .before .before .before .device-count .ensures))
+    ∙ ap (each _ _) (each-done _ _ _ _ _ (c .before .before .before .loop .inv .1) (omega arith) ∙ ap (λ (x : ℕ). each (λ i. λ l. set l (40 + i) 1) 16 (set (replicate 65 0) 64 x)) (c .before .before .before .before .load-of .ensures))
 
 pub root-of-spec : {M : Type 1} → statement M
 root-of-spec =
@@ -88,10 +96,12 @@ root-of-spec =
     Inv-loop2
     μ-loop2
     device-count-requires
+    load-of-requires
+    array-write-v
     loop-holds
     add-v
     mul-v
-    array-write-v
+    array-write-v-2
     add-j
     loop-less
     loop-again
@@ -99,7 +109,7 @@ root-of-spec =
     all-ticks-of-requires
     add-v-2
     mul-v-2
-    array-write-v-2
+    array-write-v-3
     add-k
     loop2-less
     loop2-again

@@ -1,4 +1,4 @@
--- `vertex::dues::load_of` meets its contract.
+-- `vertex::placing::load_of` meets its contract.
 -- Assumes nothing.
 use mathlib.Core.Path.{_≡_, refl, _∙_}
 use Prim.Native.Nat.{_≤_, _-_, _*_}
@@ -8,8 +8,8 @@ use Rattle.base.specs.Sums.{sum}
 use Rattle.base.proofs.Additions.{sum-more}
 use Rattle.schedule.specs.Quantities.{run}
 use Rattle.flat.specs.Flat.{recorderOf}
-use Rattle.vertex.proofs.dues.load_of.Statement.{statement}
-use Rattle.vertex.proofs.dues.load_of.Tie as tie
+use Rattle.vertex.proofs.placing.load_of.Statement.{statement}
+use Rattle.vertex.proofs.placing.load_of.Tie as tie
 
 abbrev Inv-loop : tie.InvT-loop
 Inv-loop r n load₀ j₀ load j = (j ≤ n) × (n ≤ 16) × (load ≡ sum j (run (recorderOf r))) × (load ≤ 65535 * j)
