@@ -5,7 +5,7 @@ use mathlib.Core.Path.{_≡_, refl, sym, ap, _∙_}
 use mathlib.Core.Bool.{Bool, true, false, cond}
 use mathlib.Core.Option.{Option, none, some}
 use mathlib.Core.List.{List, [], _∷_, _++_, append-nil}
-use Prim.Native.Nat.{ℕ, zero, suc, _+_, _≤_, _<_}
+use Prim.Native.Nat.{ℕ, zero, suc, _+_, _-_, _≤_, _<_}
 use native.Mathlib.Omega.{arith}
 use lib.ListN.{getD, set, length, replicate, length-replicate, getD-replicate, drop-of-length-le}
 use Rattle.base.specs.Lists.{upTo, padded, remove}
@@ -19,10 +19,10 @@ use Rattle.schedule.specs.Listing.{place, start}
 use Rattle.schedule.specs.Visiting.{Vertex, Visited, Walk, counted, written, root, child, startsOf, starts, choices, cutA}
 use Rattle.schedule.proofs.Tree.{starts-child}
 use Rattle.vertex.specs.Vertices.{flagged, unflagged}
-use Rattle.vertex.specs.Layout.{row, placedOf, marked}
+use Rattle.vertex.specs.Layout.{placedOf, startsIn, marked}
 use Rattle.vertex.proofs.Flags.{flag-more, none-flagged}
 use Rattle.vertex.proofs.Marking.{marked-placed, marked-starts}
-use Rattle.vertex.proofs.Reading.{row-at, placed-long}
+use Rattle.vertex.proofs.Reading.{placed-long, start-at}
 use Rattle.possible.specs.TillFound.{unlessFound, found, enter, visitTillFound}
 use Rattle.possible.specs.Steps.{vertexOf}
 
@@ -94,19 +94,19 @@ module _ (R : Recorder) where
       ∙ ap (λ (x : List ℕ). set x k (start s k)) (starts-places s k)
 
   module _ (few : jobs R ≤ 16) where
-    pub starts-are : (l : List ℕ) (t : ℕ) → startsOf R (vertexOf R l t) ≡ row 24 (jobs R) l
-    unfolding vertexOf row
+    pub starts-are : (l : List ℕ) (t : ℕ) → startsOf R (vertexOf R l t) ≡ startsIn (jobs R) l
+    unfolding vertexOf startsIn
     starts-are l t =
         let n = jobs R in
-        let held = row 24 16 l in
+        let held = startsIn 16 l in
         starts-places held n
         ∙ stored-is (start held) n (replicate n 0) (omega (arith, length-replicate {A = ℕ} n 0))
         ∙ ap (λ (r : List ℕ). upTo (start held) n ++ r) (drop-of-length-le (replicate n 0) {i = n} (omega (arith, length-replicate {A = ℕ} n 0)))
         ∙ append-nil (upTo (start held) n)
-        ∙ upTo-same (start held) (λ j. getD l (24 + j) 0) n (λ j h. row-at 24 16 l j (omega arith))
+        ∙ upTo-same (start held) (λ j. getD l (24 + j) 0 - 1) n (λ j h. start-at 16 l j (omega arith))
 
     -- A job marked in them.
-    module _ (l : List ℕ) (long : length l ≡ 65) (j s c : ℕ) (known : j < jobs R) where
+    module _ (l : List ℕ) (long : length l ≡ 49) (j s c : ℕ) (known : j < jobs R) where
       pub placed-marked : placedOf (marked j s c l) ≡ set (placedOf l) j true
       placed-marked = marked-placed l long j s c (omega arith)
 
@@ -124,12 +124,12 @@ module _ (R : Recorder) where
           }
 
     -- No job placed.
-    module _ (l : List ℕ) (none : placedOf l ≡ replicate 16 false) (zeros : row 24 16 l ≡ replicate 16 0) where
-      fresh-starts : row 24 (jobs R) l ≡ replicate (jobs R) 0
-      unfolding row
+    module _ (l : List ℕ) (none : placedOf l ≡ replicate 16 false) (zeros : startsIn 16 l ≡ replicate 16 0) where
+      fresh-starts : startsIn (jobs R) l ≡ replicate (jobs R) 0
+      unfolding startsIn
       fresh-starts =
-          upTo-whole (λ i. getD l (24 + i) 0) (replicate (jobs R) 0) 0 (jobs R) (length-replicate (jobs R) 0)
-          (λ i h. sym (row-at 24 16 l i (omega arith)) ∙ ap (λ (r : List ℕ). getD r i 0) zeros ∙ getD-replicate 16 i 0 0 (omega arith) ∙ sym (getD-replicate (jobs R) i 0 0 h))
+          upTo-whole (λ i. getD l (24 + i) 0 - 1) (replicate (jobs R) 0) 0 (jobs R) (length-replicate (jobs R) 0)
+          (λ i h. sym (start-at 16 l i (omega arith)) ∙ ap (λ (r : List ℕ). getD r i 0) zeros ∙ getD-replicate 16 i 0 0 (omega arith) ∙ sym (getD-replicate (jobs R) i 0 0 h))
 
       pub fresh-alike : Alike (vertexOf R l 0) (root R)
       unfolding vertexOf padded written

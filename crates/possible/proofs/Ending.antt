@@ -56,7 +56,7 @@ module _ (R : Recorder) (t : List ℕ) (empty : t ≡ replicate 18 0) where
 
   -- u is the tally with the root counted, and v are its numbers.
   module _ (ok : Valid R) (u : Visited) (eu : u ≡ counted (tallyOf R t)) (b : ℕ) (positive : b ≡ 0 → ⊥) (v : List ℕ) (ev : v ≡ rootCells R) where
-    load-is : getD v 64 0 ≡ sum (jobs R) (run R)
+    load-is : getD v 48 0 ≡ sum (jobs R) (run R)
     load-is = rw ev (root-load R ok)
 
     counted-root : u ≡ counted nothing
@@ -66,16 +66,16 @@ module _ (R : Recorder) (t : List ℕ) (empty : t ≡ replicate 18 0) where
     unfolding padded
     cut-root = cut-visiting R (replicate 16 false) (root R) (sym (none-flagged (replicate 16 false) (getD-padded 16 false []) (jobs R)))
 
-    pub root-cut : R .horizon < getD v 64 0 → record { stopped = false; tally = u } ≡ capped b (visitedTillFound R)
+    pub root-cut : R .horizon < getD v 48 0 → record { stopped = false; tally = u } ≡ capped b (visitedTillFound R)
     unfolding visitedTillFound
-    root-cut h = visit-cut R (root R) (jobs R) b nothing u counted-root refl (omega (arith, positive)) (sym cut-root ∙ root-late R ok (getD v 64 0) load-is h)
+    root-cut h = visit-cut R (root R) (jobs R) b nothing u counted-root refl (omega (arith, positive)) (sym cut-root ∙ root-late R ok (getD v 48 0) load-is h)
 
     pub root-enters :
-        getD v 64 0 ≤ R .horizon → (n : ℕ) → n ≡ jobs R → (r : Run) → r ≡ capped b (below R n (vertexOf R v 0) u) → r ≡ capped b (visitedTillFound R)
+        getD v 48 0 ≤ R .horizon → (n : ℕ) → n ≡ jobs R → (r : Run) → r ≡ capped b (below R n (vertexOf R v 0) u) → r ≡ capped b (visitedTillFound R)
     unfolding visitedTillFound
     root-enters h n en r er =
         visit-spared R (root R) (vertexOf R v 0) (rw ev (fresh-alike R (ok .few-jobs) (rootCells R) (root-placed R ok) (root-starts R ok))) (jobs R) b nothing u counted-root refl
-        (sym cut-root ∙ root-uncut R ok (getD v 64 0) load-is h) r (rw en at er)
+        (sym cut-root ∙ root-uncut R ok (getD v 48 0) load-is h) r (rw en at er)
 
 -- ---- the answer
 

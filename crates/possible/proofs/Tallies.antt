@@ -4,7 +4,7 @@ use mathlib.Core.Path.{_≡_, refl, sym, ap, _∙_}
 use mathlib.Core.Bool.{cond}
 use mathlib.Core.Option.{none, some}
 use mathlib.Core.List.{List}
-use Prim.Native.Nat.{ℕ, zero, suc, _+_, _≤_, _<_}
+use Prim.Native.Nat.{ℕ, zero, suc, _+_, _-_, _≤_, _<_}
 use native.Mathlib.Decide.{ℕ-discrete}
 use native.Mathlib.Numerals.{add-one}
 use native.Mathlib.Omega.{arith}
@@ -17,7 +17,7 @@ use Rattle.base.proofs.Arrays.{upTo-same}
 use Rattle.schedule.specs.declared.Recorder.{Recorder}
 use Rattle.schedule.specs.Quantities.{jobs}
 use Rattle.schedule.specs.Visiting.{Visited, counted}
-use Rattle.vertex.specs.Layout.{row}
+use Rattle.vertex.specs.Layout.{startsIn}
 use Rattle.possible.specs.Steps.{foundIn, tallyOf, kept, Within}
 
 pub count-is : (R : Recorder) (l : List ℕ) → tallyOf R l .count ≡ getD l 0 0
@@ -65,15 +65,18 @@ module _ (R : Recorder) (l m : List ℕ) (e : m ≡ set l 0 (getD l 0 0 + 1)) (l
 -- ---- a schedule kept
 
 module _ (l t : List ℕ) (eighteen : length t ≡ 18) where
+  abbrev held : ℕ → ℕ
+  held i = getD l (24 + i) 0 - 1
+
   -- The first k starts are copied.
   record Copied (k : ℕ) (m : List ℕ) : Type 0 where
     pub long : length m ≡ 18
     pub count : getD m 0 0 ≡ getD t 0 0
     pub found : getD m 1 0 ≡ 1
-    pub starts : (i : ℕ) → i < k → getD m (2 + i) 0 ≡ getD l (24 + i) 0
+    pub starts : (i : ℕ) → i < k → getD m (2 + i) 0 ≡ held i
 
   abbrev copy : ℕ → List ℕ → List ℕ
-  copy k m = set m (2 + k) (getD l (24 + k) 0)
+  copy k m = set m (2 + k) (held k)
 
   copied-none : Copied 0 (set t 1 1)
   copied-none =
@@ -88,12 +91,12 @@ module _ (l t : List ℕ) (eighteen : length t ≡ 18) where
   copied-more k m b p =
       record {
         long = rw length-set (p .long);
-        count = getD-set-other m (2 + k) 0 (getD l (24 + k) 0) 0 (λ (q : 0 ≡ 2 + k). omega (arith, q)) ∙ p .count;
-        found = getD-set-other m (2 + k) 1 (getD l (24 + k) 0) 0 (λ (q : 1 ≡ 2 + k). omega (arith, q)) ∙ p .found;
+        count = getD-set-other m (2 + k) 0 (held k) 0 (λ (q : 0 ≡ 2 + k). omega (arith, q)) ∙ p .count;
+        found = getD-set-other m (2 + k) 1 (held k) 0 (λ (q : 1 ≡ 2 + k). omega (arith, q)) ∙ p .found;
         starts =
             λ i h. elim (ℕ-discrete i k) [
-              | yes e ↦ rw e (getD-set-same m (2 + k) (getD l (24 + k) 0) 0 (omega (arith, p .long)))
-              | no d ↦ getD-set-other m (2 + k) (2 + i) (getD l (24 + k) 0) 0 (λ (q : 2 + i ≡ 2 + k). d (omega (arith, q))) ∙ p .starts i (omega (arith, d))
+              | yes e ↦ rw e (getD-set-same m (2 + k) (held k) 0 (omega (arith, p .long)))
+              | no d ↦ getD-set-other m (2 + k) (2 + i) (held k) 0 (λ (q : 2 + i ≡ 2 + k). d (omega (arith, q))) ∙ p .starts i (omega (arith, d))
             ];
       }
 
@@ -110,13 +113,13 @@ module _ (l t : List ℕ) (eighteen : length t ≡ 18) where
   unfolding made tallyOf
   made-kept R s = refl
 
-  pub tally-kept : (R : Recorder) → jobs R ≤ 16 → tallyOf R (kept l t) ≡ record { count = tallyOf R t .count; best = some (row 24 (jobs R) l) }
-  unfolding row
+  pub tally-kept : (R : Recorder) → jobs R ≤ 16 → tallyOf R (kept l t) ≡ record { count = tallyOf R t .count; best = some (startsIn (jobs R) l) }
+  unfolding startsIn
   tally-kept R few =
       tally-made R (kept l t)
       ∙ made-same (all-copied .count) (all-copied .found)
-      (upTo-same (λ j. getD (kept l t) (2 + j) 0) (λ j. getD l (24 + j) 0) (jobs R) (λ j h. all-copied .starts j (omega arith)))
-      ∙ made-kept R (upTo (λ j. getD l (24 + j) 0) (jobs R))
+      (upTo-same (λ j. getD (kept l t) (2 + j) 0) held (jobs R) (λ j h. all-copied .starts j (omega arith)))
+      ∙ made-kept R (upTo held (jobs R))
 
   pub kept-long : length (kept l t) ≡ 18
   kept-long = all-copied .long

@@ -16,7 +16,7 @@ use Rattle.schedule.specs.declared.Recorder.{Recorder}
 use Rattle.schedule.specs.Quantities.{Valid, jobs, run, deadline, release}
 use Rattle.schedule.specs.Visiting.{Vertex, Visited, Walk, counted, child, earliest, starts, choices, cutA}
 use Rattle.vertex.specs.Vertices.{flagged}
-use Rattle.vertex.specs.Layout.{row, placedOf, marked}
+use Rattle.vertex.specs.Layout.{placedOf, startsIn, marked}
 use Rattle.vertex.specs.Sums.{Loaded, Spared, Offered}
 use Rattle.vertex.proofs.Cutting.{cut-visiting}
 use Rattle.vertex.proofs.Flags.{flag-more, over-flags, over-span}
@@ -169,8 +169,8 @@ module _ (R : Recorder) (ok : Valid R) (l : List ℕ) (n y j s : ℕ) (o : Offer
   is-spared time et h = cut-tested time et false (le-ltb y time h)
 
   module _ (held : Loaded R l) (c : ℕ) (ec : c ≡ run R j) where
-    pub may-mark : (j < 16) × (c ≤ getD l 64 0)
-    may-mark = (few R ok l n y j s o, rw ec (run-in R ok l held j (o .known) (o .free)))
+    pub may-mark : (j < 16) × ((s ≤ 4096) × (c ≤ getD l 48 0))
+    may-mark = (few R ok l n y j s o, (omega (arith, o .within, ok .few-ticks), rw ec (run-in R ok l held j (o .known) (o .free))))
 
     -- Marked, it is the child.
     module _ (w : List ℕ) (ew : w ≡ marked j s c l) where
@@ -201,7 +201,7 @@ module _ (R : Recorder) (few : jobs R ≤ 16) (l : List ℕ) (t n b : ℕ) (m : 
   pub enter-complete : n ≡ 0 → tallyOf R m .count ≤ b → (u : List ℕ) → u ≡ kept l m → record { stopped = true; tally = tallyOf R u } ≡ capped b (below R n (vertexOf R l t) (tallyOf R m))
   enter-complete e h u eu =
       rw (eu, complete-is e)
-      (capped-some b (tallyOf R (kept l m)) (subst (λ (w : Visited). w .count ≤ b) (sym (tally-kept l m long R few)) h) (row 24 (jobs R) l)
+      (capped-some b (tallyOf R (kept l m)) (subst (λ (w : Visited). w .count ≤ b) (sym (tally-kept l m long R few)) h) (startsIn (jobs R) l)
       (ap (λ (w : Visited). w .best) (tally-kept l m long R few)))
 
 pub enter-on :

@@ -15,7 +15,7 @@ use Rattle.schedule.specs.Quantities.{jobs, deadline, run}
 use Rattle.schedule.specs.Listing.{places}
 use Rattle.schedule.specs.Visiting.{Vertex, Visited, Walk, child, startsOf, earliest, choices}
 use Rattle.vertex.specs.Vertices.{flagged, unflagged}
-use Rattle.vertex.specs.Layout.{row, placedOf}
+use Rattle.vertex.specs.Layout.{placedOf, startsIn}
 use Rattle.possible.specs.TillFound.{visitTillFound}
 
 -- ---- a vertex
@@ -23,7 +23,7 @@ use Rattle.possible.specs.TillFound.{visitTillFound}
 -- The vertex that the numbers l hold (vertex/specs/Layout), at the time t; those of the devices are not asked for. Its places stand by job number: the visit asks a
 -- vertex for its time, its unplaced jobs and its starts alone.
 unfoldable pub vertexOf : Recorder → List ℕ → ℕ → Vertex
-vertexOf R l t = record { placed = places R (row 24 16 l); time = t; unplaced = unflagged (placedOf l) (jobs R) }
+vertexOf R l t = record { placed = places R (startsIn 16 l); time = t; unplaced = unflagged (placedOf l) (jobs R) }
 
 -- ---- its choices
 
@@ -51,7 +51,7 @@ tallyOf R l = record { count = getD l 0 0; best = foundIn R l }
 
 -- The tally t with the starts of the vertex l.
 unfoldable pub kept : List ℕ → List ℕ → List ℕ
-kept l t = each (λ j. λ m. set m (2 + j) (getD l (24 + j) 0)) 16 (set t 1 1)
+kept l t = each (λ j. λ m. set m (2 + j) (getD l (24 + j) 0 - 1)) 16 (set t 1 1)
 
 -- ---- the budget
 

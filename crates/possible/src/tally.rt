@@ -1,5 +1,6 @@
 // The lent tally: the vertices counted, and the schedule that is found.
 use vertex::Cells;
+use vertex::placing::start_of;
 ghost use mathlib.Core.Path.{_≡_};
 ghost use Prim.Native.Nat.{ℕ, _+_, _^_, _<_, _≤_};
 ghost use mathlib.Core.List.{_++_};
@@ -25,7 +26,7 @@ pub fn keep_starts(v: &Cells, tally: &mut Tally)
     tally[1] = 1;
     let mut j = 0;
     while j < 16 {
-        tally[2 + j] = v[24 + j];
+        tally[2 + j] = start_of(v, j);
         j += 1;
     }
 }

@@ -82,7 +82,7 @@ fn choices(r: &Flat, v: &Cells, tally: &mut Tally, budget: u32, left: usize, tim
     let dues = dues_of(r, v);
     let mut j: usize = 0;
     while j < n {
-        if v[40 + j] == 1 {
+        if v[24 + j] == 0 {
             if tries(r, v, tally, budget, left, time, dues, JobNumber(j)) {
                 return true;
             }
@@ -108,7 +108,7 @@ fn tries(
 {
     let c = wide(run_of(r, j.0));
     let d = wide(deadline_of(r, j.0));
-    let rest = v[64] - c;
+    let rest = v[48] - c;
     let limit = limit_of(dues, wide(horizon_of(r)), rest, j);
     let mut s = later(time, wide(release_of(r, j.0)));
     while s + c <= d {
@@ -130,7 +130,7 @@ pub fn root_visit(r: &Flat, tally: &mut Tally, budget: u32) -> bool
     }
     count_one(tally);
     let v = root_of(r);
-    if wide(horizon_of(r)) < v[64] {
+    if wide(horizon_of(r)) < v[48] {
         return false;
     }
     let left = job_count(r);

@@ -62,8 +62,8 @@ module _ (R : Recorder) (ok : Valid R) (l : List ℕ) (j s : ℕ) (held : Holds 
   unfolding vertexOf
   floor-step =
       rw (
-        end-now R ok (vertexOf l s) (row-long 0 8 l) (row-long 8 8 l) (row-long 56 8 l) j s k b,
-        paid-now R ok (vertexOf l s) (row-long 0 8 l) (row-long 8 8 l) (row-long 56 8 l) j s k b,
+        end-now R ok (vertexOf l s) (row-long 0 8 l) (row-long 8 8 l) (row-long 40 8 l) j s k b,
+        paid-now R ok (vertexOf l s) (row-long 0 8 l) (row-long 8 8 l) (row-long 40 8 l) j s k b,
         row-at 8 8 l k few-device,
         end-cell l k few-device,
         tick-is,
@@ -77,20 +77,20 @@ module _ (R : Recorder) (ok : Valid R) (l : List ℕ) (t : ℕ) (held : Holds R 
   near = omega (arith, b, ok .few-devices)
 
   pub may-close :
-      (getD l k 0 ≤ R .horizon) × (getD l (56 + k) 0 ≤ getD l k 0) × (deep (device R k) * getD l (56 + k) 0 ≤ getD l (8 + k) 0)
-      × (getD l (8 + k) 0 ≤ deep (device R k) * getD l (56 + k) 0 + device R k .pw * (getD l k 0 - getD l (56 + k) 0))
+      (getD l k 0 ≤ R .horizon) × (getD l (40 + k) 0 ≤ getD l k 0) × (deep (device R k) * getD l (40 + k) 0 ≤ getD l (8 + k) 0)
+      × (getD l (8 + k) 0 ≤ deep (device R k) * getD l (40 + k) 0 + device R k .pw * (getD l k 0 - getD l (40 + k) 0))
   unfolding vertexOf
   may-close = (
     rw (← end-cell l k near) (omega (arith, held .settled .ended k b, held .settled .within)),
-    rw (← row-at 56 8 l k near, ← end-cell l k near) (held .settled .begun k b),
-    rw (← row-at 56 8 l k near, ← row-at 8 8 l k near) (held .settled .front k b),
-    rw (← row-at 56 8 l k near, ← row-at 8 8 l k near, ← end-cell l k near) (held .settled .later k b),
+    rw (← row-at 40 8 l k near, ← end-cell l k near) (held .settled .begun k b),
+    rw (← row-at 40 8 l k near, ← row-at 8 8 l k near) (held .settled .front k b),
+    rw (← row-at 40 8 l k near, ← row-at 8 8 l k near, ← end-cell l k near) (held .settled .later k b),
   )
 
   pub close-step :
-      closeOf (unused (R .round) (getD l k 0)) (device R k) (R .horizon) (getD l (8 + k) 0) (getD l k 0) (getD l (56 + k) 0) ≡ closeAt R (vertexOf l t) k
+      closeOf (unused (R .round) (getD l k 0)) (device R k) (R .horizon) (getD l (8 + k) 0) (getD l k 0) (getD l (40 + k) 0) ≡ closeAt R (vertexOf l t) k
   unfolding vertexOf
-  close-step = rw (row-at 8 8 l k near, end-cell l k near, row-at 56 8 l k near)
+  close-step = rw (row-at 8 8 l k near, end-cell l k near, row-at 40 8 l k near)
 
 -- The energy of a complete vertex is at least its floor: cut B may be tested before it is known whether a job is left.
 floor-least : (x : Bool) (d : Device) → Sound d → (h b e f : ℕ) → floorOf d h b e 0 ≤ closeOf x d h b e f

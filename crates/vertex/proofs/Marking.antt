@@ -1,7 +1,7 @@
--- A job marked in the numbers of its parent: its start, its flag, and the running times that are left.
+-- A job marked in the numbers of its parent: its start, and the running times that are left.
 -- Assumes nothing.
-use mathlib.Core.Path.{_≡_, ap, _∙_}
-use mathlib.Core.Bool.{Bool, true, false}
+use mathlib.Core.Path.{_≡_, _∙_}
+use mathlib.Core.Bool.{true, false}
 use mathlib.Core.List.{List}
 use Prim.Native.Nat.{ℕ, _+_, _-_, _≤_, _<_}
 use native.Mathlib.Omega.{arith}
@@ -10,56 +10,44 @@ use lib.Seq.{getD-set-same}
 use Rattle.schedule.specs.declared.Recorder.{Recorder}
 use Rattle.schedule.specs.Quantities.{Valid, jobs, run}
 use Rattle.vertex.specs.Vertices.{flagged}
-use Rattle.vertex.specs.Layout.{row, placedOf, marked}
+use Rattle.vertex.specs.Layout.{row, placedOf, startsIn, marked}
 use Rattle.vertex.specs.Sums.{Loaded}
 use Rattle.vertex.proofs.Adding.{rest-less}
-use Rattle.vertex.proofs.Reading.{row-other, row-store, placed-long, placed-other, placed-after, placed-store}
+use Rattle.vertex.proofs.Reading.{row-other, placed-long, placed-same, placed-store, starts-same, starts-store}
 
-module _ (l : List ℕ) (long : length l ≡ 65) (j s c : ℕ) (few : j < 16) where
+module _ (l : List ℕ) (long : length l ≡ 49) (j s c : ℕ) (few : j < 16) where
   abbrev started : List ℕ
-  started = set l (24 + j) s
+  started = set l (24 + j) (s + 1)
 
-  abbrev taken : List ℕ
-  taken = set started (40 + j) 0
-
-  started-long : length started ≡ 65
+  started-long : length started ≡ 49
   started-long = rw length-set long
 
-  taken-long : length taken ≡ 65
-  taken-long = rw length-set started-long
-
-  pub marked-long : length (marked j s c l) ≡ 65
+  pub marked-long : length (marked j s c l) ≡ 49
   unfolding marked
-  marked-long = rw length-set taken-long
+  marked-long = rw length-set started-long
 
   -- The devices' numbers stay.
   pub marked-row : (o n : ℕ) → o + n ≤ 24 → row o n (marked j s c l) ≡ row o n l
   unfolding marked
-  marked-row o n b =
-      row-other o n taken 64 _ (λ i h e. omega (arith, b, h, e)) ∙ row-other o n started (40 + j) 0 (λ i h e. omega (arith, b, h, e))
-      ∙ row-other o n l (24 + j) s (λ i h e. omega (arith, b, h, e))
+  marked-row o n b = row-other o n started 48 _ (λ i h e. omega (arith, b, h, e)) ∙ row-other o n l (24 + j) (s + 1) (λ i h e. omega (arith, b, h, e))
 
-  pub marked-firsts : row 56 8 (marked j s c l) ≡ row 56 8 l
+  pub marked-firsts : row 40 8 (marked j s c l) ≡ row 40 8 l
   unfolding marked
-  marked-firsts =
-      row-other 56 8 taken 64 _ (λ i h e. omega (arith, h, e)) ∙ row-other 56 8 started (40 + j) 0 (λ i h e. omega (arith, few, h, e))
-      ∙ row-other 56 8 l (24 + j) s (λ i h e. omega (arith, few, h, e))
+  marked-firsts = row-other 40 8 started 48 _ (λ i h e. omega (arith, h, e)) ∙ row-other 40 8 l (24 + j) (s + 1) (λ i h e. omega (arith, few, h, e))
 
-  pub marked-starts : (n : ℕ) → j < n → n ≤ 16 → row 24 n (marked j s c l) ≡ set (row 24 n l) j s
+  marked-jobs : row 24 16 (marked j s c l) ≡ row 24 16 started
   unfolding marked
-  marked-starts n b m =
-      row-other 24 n taken 64 _ (λ i h e. omega (arith, m, h, e)) ∙ row-other 24 n started (40 + j) 0 (λ i h e. omega (arith, m, h, e))
-      ∙ row-store 24 n l j s b (omega (arith, long, few))
+  marked-jobs = row-other 24 16 started 48 _ (λ i h e. omega (arith, h, e))
+
+  pub marked-starts : (n : ℕ) → j < n → n ≤ 16 → startsIn n (marked j s c l) ≡ set (startsIn n l) j s
+  marked-starts n b m = starts-same (marked j s c l) started marked-jobs n m ∙ starts-store l j s (omega (arith, long, few)) n b
 
   pub marked-placed : placedOf (marked j s c l) ≡ set (placedOf l) j true
-  unfolding marked
-  marked-placed =
-      placed-after taken 64 _ (omega arith) ∙ placed-store started j few started-long
-      ∙ ap (λ (m : List Bool). set m j true) (placed-other l (24 + j) s (omega (arith, few)))
+  marked-placed = placed-same (marked j s c l) started marked-jobs ∙ placed-store l j s (omega (arith, long, few)) few
 
-  marked-load : getD (marked j s c l) 64 0 ≡ getD l 64 0 - c
+  marked-load : getD (marked j s c l) 48 0 ≡ getD l 48 0 - c
   unfolding marked
-  marked-load = getD-set-same taken 64 _ 0 (omega (arith, taken-long))
+  marked-load = getD-set-same started 48 _ 0 (omega (arith, started-long))
 
 -- ---- the running times of the unplaced jobs
 
@@ -67,7 +55,7 @@ module _ (R : Recorder) (ok : Valid R) (l : List ℕ) (held : Loaded R l) (j : �
   job-in : j < length (placedOf l)
   job-in = omega (arith, placed-long l, known, ok .few-jobs)
 
-  pub run-in : run R j ≤ getD l 64 0
+  pub run-in : run R j ≤ getD l 48 0
   run-in = omega (arith, held .load, rest-less R (placedOf l) j job-in free known (run R))
 
   pub marked-loaded : (s : ℕ) → Loaded R (marked j s (run R j) l)

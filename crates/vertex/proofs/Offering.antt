@@ -37,7 +37,7 @@ module _
 
     -- A child that places it at s, by the code's numbers.
     pub child-offered :
-        Loaded R l → (d : Dues) → due R (set (placedOf l) j true) ≡ dueFor d j → (c rest h y s : ℕ) → c ≡ run R j → rest ≡ getD l 64 0 - c → h ≡ R .horizon
+        Loaded R l → (d : Dues) → due R (set (placedOf l) j true) ≡ dueFor d j → (c rest h y s : ℕ) → c ≡ run R j → rest ≡ getD l 48 0 - c → h ≡ R .horizon
         → y ≡ limitFor h rest d j → s + c ≤ deadline R j → Offered R l (n - 1) y j s
     unfolding latest limitFor
     child-offered held d ed c rest h y s ec er eh ey b =

@@ -17,16 +17,16 @@ use Rattle.schedule.specs.declared.Recorder.{Recorder}
 use Rattle.schedule.specs.Quantities.{Valid, run, uses, device}
 use Rattle.schedule.specs.Visiting.{ticks}
 use Rattle.vertex.specs.Vertices.{Vertex, ahead, unused, leadOf, paidStep, firstStep, endStep, storing, placeAt, Settled}
-use Rattle.vertex.specs.Layout.{row, placedOf, vertexOf, put, marked, charged, childCells}
+use Rattle.vertex.specs.Layout.{row, placedOf, startsIn, vertexOf, put, marked, charged, childCells}
 use Rattle.vertex.specs.Sums.{Holds, Fitting}
 use Rattle.vertex.proofs.Adding.{rest-less}
 use Rattle.vertex.proofs.Charging.{placed-settled}
 use Rattle.vertex.proofs.Marking.{run-in, marked-long, marked-row, marked-firsts, marked-starts, marked-placed, marked-loaded}
-use Rattle.vertex.proofs.Reading.{row-at, row-long, row-other, row-store, end-cell, end-store, placed-long, placed-other, placed-after}
+use Rattle.vertex.proofs.Reading.{row-at, row-long, row-other, row-store, end-cell, end-store, placed-long, placed-same, starts-same}
 
 -- ---- one device
 
-module _ (round : Bool) (d : Device) (k s c : ℕ) (h : k < 8) (l : List ℕ) (m : length l ≡ 65) where
+module _ (round : Bool) (d : Device) (k s c : ℕ) (h : k < 8) (l : List ℕ) (m : length l ≡ 49) where
   abbrev new : Bool
   new = unused round (getD l k 0)
 
@@ -42,23 +42,23 @@ module _ (round : Bool) (d : Device) (k s c : ℕ) (h : k < 8) (l : List ℕ) (m
   abbrev three : List ℕ
   three = set two (16 + k) (getD l (16 + k) 0 - c)
 
-  one-long : length one ≡ 65
+  one-long : length one ≡ 49
   one-long = rw length-set m
 
-  two-long : length two ≡ 65
+  two-long : length two ≡ 49
   two-long = rw length-set one-long
 
-  three-long : length three ≡ 65
+  three-long : length three ≡ 49
   three-long = rw length-set two-long
 
-  put-long : length (put round d k s c l) ≡ 65
+  put-long : length (put round d k s c l) ≡ 49
   unfolding put
   put-long = rw length-set three-long
 
   -- The rows that end before the first uses.
-  put-row : (o n : ℕ) → o + n ≤ 56 → row o n (put round d k s c l) ≡ row o n three
+  put-row : (o n : ℕ) → o + n ≤ 40 → row o n (put round d k s c l) ≡ row o n three
   unfolding put
-  put-row o n b = row-other o n three (56 + k) _ (λ i c e. omega (arith, b, c, e))
+  put-row o n b = row-other o n three (40 + k) _ (λ i c e. omega (arith, b, c, e))
 
   put-ends : row 0 8 (put round d k s c l) ≡ set (row 0 8 l) k (s + c)
   put-ends =
@@ -78,30 +78,24 @@ module _ (round : Bool) (d : Device) (k s c : ℕ) (h : k < 8) (l : List ℕ) (m
       ∙ row-store 16 8 two k _ h (omega (arith, two-long))
       ∙ ap (λ (r : List ℕ). set r k (getD l (16 + k) 0 - c)) (row-other 16 8 one k (s + c) (λ i b e. omega (arith, b, e)) ∙ row-other 16 8 l (8 + k) _ (λ i b e. omega (arith, b, e)))
 
-  put-starts : row 24 16 (put round d k s c l) ≡ row 24 16 l
-  put-starts =
+  put-jobs : row 24 16 (put round d k s c l) ≡ row 24 16 l
+  put-jobs =
       put-row 24 16 (omega arith)
       ∙ row-other 24 16 two (16 + k) _ (λ i b e. omega (arith, b, e)) ∙ row-other 24 16 one k (s + c) (λ i b e. omega (arith, b, e))
       ∙ row-other 24 16 l (8 + k) _ (λ i b e. omega (arith, b, e))
 
-  put-firsts : row 56 8 (put round d k s c l) ≡ set (row 56 8 l) k (cond new s (getD l (56 + k) 0))
+  put-firsts : row 40 8 (put round d k s c l) ≡ set (row 40 8 l) k (cond new s (getD l (40 + k) 0))
   unfolding put
   put-firsts =
-      row-store 56 8 three k _ h (omega (arith, three-long))
-      ∙ ap (λ (r : List ℕ). set r k (cond new s (getD l (56 + k) 0)))
-      (row-other 56 8 two (16 + k) _ (λ i b e. omega (arith, b, e)) ∙ row-other 56 8 one k (s + c) (λ i b e. omega (arith, b, e)) ∙ row-other 56 8 l (8 + k) _ (λ i b e. omega (arith, b, e)))
+      row-store 40 8 three k _ h (omega (arith, three-long))
+      ∙ ap (λ (r : List ℕ). set r k (cond new s (getD l (40 + k) 0)))
+      (row-other 40 8 two (16 + k) _ (λ i b e. omega (arith, b, e)) ∙ row-other 40 8 one k (s + c) (λ i b e. omega (arith, b, e)) ∙ row-other 40 8 l (8 + k) _ (λ i b e. omega (arith, b, e)))
 
-  put-load : getD (put round d k s c l) 64 0 ≡ getD l 64 0
+  put-load : getD (put round d k s c l) 48 0 ≡ getD l 48 0
   unfolding put
   put-load =
-      getD-set-other three (56 + k) 64 _ 0 (λ (e : 64 ≡ 56 + k). omega (arith, e)) ∙ getD-set-other two (16 + k) 64 _ 0 (λ (e : 64 ≡ 16 + k). omega (arith, e))
-      ∙ getD-set-other one k 64 (s + c) 0 (λ (e : 64 ≡ k). omega (arith, e)) ∙ getD-set-other l (8 + k) 64 _ 0 (λ (e : 64 ≡ 8 + k). omega (arith, e))
-
-  put-placed : placedOf (put round d k s c l) ≡ placedOf l
-  unfolding put
-  put-placed =
-      placed-after three (56 + k) _ (omega arith)
-      ∙ placed-other two (16 + k) _ (omega arith) ∙ placed-other one k (s + c) (omega arith) ∙ placed-other l (8 + k) _ (omega arith)
+      getD-set-other three (40 + k) 48 _ 0 (λ (e : 48 ≡ 40 + k). omega (arith, e)) ∙ getD-set-other two (16 + k) 48 _ 0 (λ (e : 48 ≡ 16 + k). omega (arith, e))
+      ∙ getD-set-other one k 48 (s + c) 0 (λ (e : 48 ≡ k). omega (arith, e)) ∙ getD-set-other l (8 + k) 48 _ 0 (λ (e : 48 ≡ 8 + k). omega (arith, e))
 
 -- ---- the devices in turn
 
@@ -113,25 +107,24 @@ module _ (R : Recorder) (j s : ℕ) (w : List ℕ) where
   paying k = paidStep (uses R k j) (unused (R .round) (getD (row 0 8 w) k 0)) (device R k) (getD (row 8 8 w) k 0) (getD (row 0 8 w) k 0) s (run R j)
 
   abbrev beginning : ℕ → ℕ
-  beginning k = firstStep (uses R k j) (unused (R .round) (getD (row 0 8 w) k 0)) (getD (row 56 8 w) k 0) s
+  beginning k = firstStep (uses R k j) (unused (R .round) (getD (row 0 8 w) k 0)) (getD (row 40 8 w) k 0) s
 
   abbrev coming : ℕ → ℕ
   coming k = getD (row 16 8 w) k 0 - ticks R k j
 
   -- l is w after the first k devices.
   record Put (k : ℕ) (l : List ℕ) : Type 0 where
-    pub long : length l ≡ 65
+    pub long : length l ≡ 49
     pub ends : row 0 8 l ≡ each (storing ending) k (row 0 8 w)
     pub paid : row 8 8 l ≡ each (storing paying) k (row 8 8 w)
-    pub firsts : row 56 8 l ≡ each (storing beginning) k (row 56 8 w)
+    pub firsts : row 40 8 l ≡ each (storing beginning) k (row 40 8 w)
     pub ticks : row 16 8 l ≡ each (storing coming) k (row 16 8 w)
-    pub starts : row 24 16 l ≡ row 24 16 w
-    pub placed : placedOf l ≡ placedOf w
-    pub load : getD l 64 0 ≡ getD w 64 0
+    pub jobs : row 24 16 l ≡ row 24 16 w
+    pub load : getD l 48 0 ≡ getD w 48 0
 
-  put-none : length w ≡ 65 → Put 0 w
+  put-none : length w ≡ 49 → Put 0 w
   unfolding each
-  put-none h = record { long = h; ends = refl; paid = refl; firsts = refl; ticks = refl; starts = refl; placed = refl; load = refl }
+  put-none h = record { long = h; ends = refl; paid = refl; firsts = refl; ticks = refl; jobs = refl; load = refl }
 
   module _ (k : ℕ) (l : List ℕ) (h : k < 8) (p : Put k l) where
     -- Its numbers of device k are still w's.
@@ -141,8 +134,8 @@ module _ (R : Recorder) (j s : ℕ) (w : List ℕ) where
     paid-kept : getD l (8 + k) 0 ≡ getD (row 8 8 w) k 0
     paid-kept = sym (row-at 8 8 l k h) ∙ ap (λ (r : List ℕ). getD r k 0) (p .paid) ∙ stored-kept paying k (row 8 8 w) k 0 (omega arith)
 
-    first-kept : getD l (56 + k) 0 ≡ getD (row 56 8 w) k 0
-    first-kept = sym (row-at 56 8 l k h) ∙ ap (λ (r : List ℕ). getD r k 0) (p .firsts) ∙ stored-kept beginning k (row 56 8 w) k 0 (omega arith)
+    first-kept : getD l (40 + k) 0 ≡ getD (row 40 8 w) k 0
+    first-kept = sym (row-at 40 8 l k h) ∙ ap (λ (r : List ℕ). getD r k 0) (p .firsts) ∙ stored-kept beginning k (row 40 8 w) k 0 (omega arith)
 
     tick-kept : getD l (16 + k) 0 ≡ getD (row 16 8 w) k 0
     tick-kept = sym (row-at 16 8 l k h) ∙ ap (λ (r : List ℕ). getD r k 0) (p .ticks) ∙ stored-kept coming k (row 16 8 w) k 0 (omega arith)
@@ -157,10 +150,9 @@ module _ (R : Recorder) (j s : ℕ) (w : List ℕ) where
           long = put-long (R .round) (device R k) k s (run R j) h l (p .long);
           ends = more-of ending 0 _ (p .ends) (put-ends (R .round) (device R k) k s (run R j) h l (p .long) ∙ simp u);
           paid = more-of paying 8 _ (p .paid) (put-paid (R .round) (device R k) k s (run R j) h l (p .long) ∙ simp (u, paid-kept, end-kept));
-          firsts = more-of beginning 56 _ (p .firsts) (put-firsts (R .round) (device R k) k s (run R j) h l (p .long) ∙ simp (u, first-kept, end-kept));
+          firsts = more-of beginning 40 _ (p .firsts) (put-firsts (R .round) (device R k) k s (run R j) h l (p .long) ∙ simp (u, first-kept, end-kept));
           ticks = more-of coming 16 _ (p .ticks) (put-ticks (R .round) (device R k) k s (run R j) h l (p .long) ∙ simp (u, tick-kept));
-          starts = put-starts (R .round) (device R k) k s (run R j) h l (p .long) ∙ p .starts;
-          placed = put-placed (R .round) (device R k) k s (run R j) h l (p .long) ∙ p .placed;
+          jobs = put-jobs (R .round) (device R k) k s (run R j) h l (p .long) ∙ p .jobs;
           load = put-load (R .round) (device R k) k s (run R j) h l (p .long) ∙ p .load;
         }
 
@@ -174,10 +166,9 @@ module _ (R : Recorder) (j s : ℕ) (w : List ℕ) where
           long = p .long;
           ends = more-of ending 0 _ (p .ends) (same-as 0 (ending k) (simp u (sym end-kept ∙ sym (end-cell l k h))));
           paid = more-of paying 8 _ (p .paid) (same-as 8 (paying k) (simp u (sym paid-kept ∙ sym (row-at 8 8 l k h))));
-          firsts = more-of beginning 56 _ (p .firsts) (same-as 56 (beginning k) (simp u (sym first-kept ∙ sym (row-at 56 8 l k h))));
+          firsts = more-of beginning 40 _ (p .firsts) (same-as 40 (beginning k) (simp u (sym first-kept ∙ sym (row-at 40 8 l k h))));
           ticks = more-of coming 16 _ (p .ticks) (same-as 16 (coming k) (simp u (omega (arith, tick-kept, row-at 16 8 l k h))));
-          starts = p .starts;
-          placed = p .placed;
+          jobs = p .jobs;
           load = p .load;
         }
 
@@ -185,7 +176,7 @@ module _ (R : Recorder) (j s : ℕ) (w : List ℕ) where
     put-turn =
         test-cases (λ (b : Bool). Put (k + 1) (under b (put (R .round) (device R k) k s (run R j)) l)) (uses R k j) (λ q. put-used q) (λ q. put-unused q)
 
-  put-by : length w ≡ 65 → (k : ℕ) → k ≤ 8 → Put k (each (charged R j s) k w)
+  put-by : length w ≡ 49 → (k : ℕ) → k ≤ 8 → Put k (each (charged R j s) k w)
   unfolding each
   put-by h zero b = put-none h
   put-by h (suc k) b = rw (← add-one k) (put-turn k (each (charged R j s) k w) (omega arith) (put-by h k (omega arith)))
@@ -199,16 +190,16 @@ module _ (R : Recorder) (ok : Valid R) (l : List ℕ) (j s : ℕ) (held : Holds 
   abbrev base : List ℕ
   base = marked j s (run R j) l
 
-  base-long : length base ≡ 65
+  base-long : length base ≡ 49
   base-long = marked-long l (held .loaded .long) j s (run R j) few-job
 
   base-row : (o : ℕ) → o ≤ 16 → row o 8 base ≡ row o 8 l
   base-row o b = marked-row l (held .loaded .long) j s (run R j) few-job o 8 (omega (arith, b))
 
-  base-firsts : row 56 8 base ≡ row 56 8 l
+  base-firsts : row 40 8 base ≡ row 40 8 l
   base-firsts = marked-firsts l (held .loaded .long) j s (run R j) few-job
 
-  base-starts : row 24 16 base ≡ set (row 24 16 l) j s
+  base-starts : startsIn 16 base ≡ set (startsIn 16 l) j s
   base-starts = marked-starts l (held .loaded .long) j s (run R j) few-job 16 few-job (omega arith)
 
   base-placed : placedOf base ≡ set (placedOf l) j true
@@ -221,8 +212,8 @@ module _ (R : Recorder) (ok : Valid R) (l : List ℕ) (j s : ℕ) (held : Holds 
       ∙ rest-less R (placedOf l) j (omega (arith, placed-long l, few-job)) (fit .free) (fit .known) (ticks R k)
 
   -- What marking it asks.
-  pub may-mark : (j < 16) × (run R j ≤ getD l 64 0)
-  may-mark = (few-job, run-in R ok l (held .loaded) j (fit .known) (fit .free))
+  pub may-mark : (j < 16) × ((s ≤ 4096) × (run R j ≤ getD l 48 0))
+  may-mark = (few-job, (omega (arith, fit .fits, ok .few-ticks), run-in R ok l (held .loaded) j (fit .known) (fit .free)))
 
   module _ (k : ℕ) (b : k < R .devices .count) (w : List ℕ) (ew : w ≡ each (charged R j s) k base) where
     so-far : Put R j s base k w
@@ -254,7 +245,7 @@ module _ (R : Recorder) (ok : Valid R) (l : List ℕ) (j s : ℕ) (held : Holds 
     p = rw ew (put-by R j s base base-long (R .devices .count) (ok .few-devices))
 
     placed-now : placedOf w ≡ set (placedOf l) j true
-    placed-now = p .placed ∙ base-placed
+    placed-now = placed-same w base (p .jobs) ∙ base-placed
 
     ticks-right : (k : ℕ) → k < R .devices .count → getD w (16 + k) 0 ≡ ahead R (placedOf w) k
     ticks-right k b =
@@ -277,22 +268,22 @@ module _ (R : Recorder) (ok : Valid R) (l : List ℕ) (j s : ℕ) (held : Holds 
         ∙ ap (λ (r : List ℕ). each (λ k a. set a k (paidStep (uses R k j) (unused (R .round) (getD (row 0 8 base) k 0)) (device R k) (getD r k 0) (getD (row 0 8 base) k 0) s (run R j))) (R .devices .count) r) (base-row 8 (omega arith))
         ∙ ap (λ (r : List ℕ). each (λ k a. set a k (paidStep (uses R k j) (unused (R .round) (getD r k 0)) (device R k) (getD (row 8 8 l) k 0) (getD r k 0) s (run R j))) (R .devices .count) (row 8 8 l)) (base-row 0 (omega arith))
 
-    firsts-are : row 56 8 w ≡ child .firsts
+    firsts-are : row 40 8 w ≡ child .firsts
     unfolding vertexOf
     firsts-are =
         p .firsts
         ∙ ap (λ (r : List ℕ). each (λ k a. set a k (firstStep (uses R k j) (unused (R .round) (getD (row 0 8 base) k 0)) (getD r k 0) s)) (R .devices .count) r) base-firsts
-        ∙ ap (λ (r : List ℕ). each (λ k a. set a k (firstStep (uses R k j) (unused (R .round) (getD r k 0)) (getD (row 56 8 l) k 0) s)) (R .devices .count) (row 56 8 l)) (base-row 0 (omega arith))
+        ∙ ap (λ (r : List ℕ). each (λ k a. set a k (firstStep (uses R k j) (unused (R .round) (getD r k 0)) (getD (row 40 8 l) k 0) s)) (R .devices .count) (row 40 8 l)) (base-row 0 (omega arith))
 
     pub child-made : vertexOf w (s + run R j) ≡ child
     unfolding vertexOf
-    child-made = rw (placed-now, p .starts ∙ base-starts, ends-are, paid-are, firsts-are)
+    child-made = rw (placed-now, starts-same w base (p .jobs) 16 (omega arith) ∙ base-starts, ends-are, paid-are, firsts-are)
 
     pub child-held : Holds R w (s + run R j)
     unfolding vertexOf
     child-held =
         record {
-          loaded = record { long = p .long; load = rw (p .load, p .placed) (marked-loaded R ok l (held .loaded) j (fit .known) (fit .free) s .load) };
-          settled = subst (Settled R) (sym child-made) (placed-settled R ok (vertexOf l s) (row-long 0 8 l) (row-long 8 8 l) (row-long 56 8 l) j s (held .settled) (omega arith) (omega (arith, fit .fits)));
+          loaded = record { long = p .long; load = rw (p .load, placed-same w base (p .jobs)) (marked-loaded R ok l (held .loaded) j (fit .known) (fit .free) s .load) };
+          settled = subst (Settled R) (sym child-made) (placed-settled R ok (vertexOf l s) (row-long 0 8 l) (row-long 8 8 l) (row-long 40 8 l) j s (held .settled) (omega arith) (omega (arith, fit .fits)));
           ticks = ticks-right;
         }

@@ -17,15 +17,15 @@ use Rattle.schedule.specs.declared.Recorder.{Recorder}
 use Rattle.schedule.specs.Quantities.{Valid, jobs, run}
 use Rattle.schedule.specs.Visiting.{ticks}
 use Rattle.vertex.specs.Vertices.{load, ahead, late, cutA, storing, root, Settled}
-use Rattle.vertex.specs.Layout.{row, placedOf, vertexOf, rootCells}
+use Rattle.vertex.specs.Layout.{row, placedOf, startsIn, vertexOf, rootCells}
 use Rattle.vertex.specs.Sums.{latest, Holds, Spared}
 use Rattle.vertex.proofs.Adding.{rest-all, unplaced-all}
 use Rattle.vertex.proofs.Charging.{root-settled}
 use Rattle.vertex.proofs.Limits.{cut-latest}
-use Rattle.vertex.proofs.Reading.{row-at, row-other, row-store, placed-other}
+use Rattle.vertex.proofs.Reading.{row-at, row-other, row-store, placed-same, starts-same}
 
 abbrev fresh : ℕ → List ℕ
-fresh x = each (λ j. λ l. set l (40 + j) 1) 16 (set (replicate 65 0) 64 x)
+fresh x = set (replicate 49 0) 48 x
 
 module _ (R : Recorder) where
   abbrev coming : ℕ → ℕ
@@ -33,18 +33,17 @@ module _ (R : Recorder) where
 
   -- The numbers once the first k devices have their ticks.
   record Rooted (k : ℕ) (l : List ℕ) : Type 0 where
-    pub long : length l ≡ 65
+    pub long : length l ≡ 49
     pub ends : row 0 8 l ≡ replicate 8 0
     pub paid : row 8 8 l ≡ replicate 8 0
-    pub firsts : row 56 8 l ≡ replicate 8 0
+    pub firsts : row 40 8 l ≡ replicate 8 0
     pub ticks : row 16 8 l ≡ each (storing coming) k (replicate 8 0)
-    pub starts : row 24 16 l ≡ replicate 16 0
-    pub placed : placedOf l ≡ replicate 16 false
-    pub load : getD l 64 0 ≡ sum (jobs R) (run R)
+    pub load : getD l 48 0 ≡ sum (jobs R) (run R)
+    pub jobs : row 24 16 l ≡ row 24 16 (replicate 49 0)
 
   rooted-none : Rooted 0 (fresh (sum (jobs R) (run R)))
-  unfolding each row placedOf upTo
-  rooted-none = record { long = refl; ends = refl; paid = refl; firsts = refl; ticks = refl; starts = refl; placed = refl; load = refl }
+  unfolding each row upTo
+  rooted-none = record { long = refl; ends = refl; paid = refl; firsts = refl; ticks = refl; jobs = refl; load = refl }
 
   rooted-more : (k : ℕ) (l : List ℕ) → k < 8 → Rooted k l → Rooted (suc k) (set l (16 + k) (coming k))
   unfolding each
@@ -53,11 +52,10 @@ module _ (R : Recorder) where
         long = rw length-set (p .long);
         ends = row-other 0 8 l (16 + k) (coming k) (λ i c e. omega (arith, c, e)) ∙ p .ends;
         paid = row-other 8 8 l (16 + k) (coming k) (λ i c e. omega (arith, c, e)) ∙ p .paid;
-        firsts = row-other 56 8 l (16 + k) (coming k) (λ i c e. omega (arith, b, c, e)) ∙ p .firsts;
+        firsts = row-other 40 8 l (16 + k) (coming k) (λ i c e. omega (arith, b, c, e)) ∙ p .firsts;
         ticks = row-store 16 8 l k (coming k) b (omega (arith, p .long)) ∙ ap (λ (r : List ℕ). set r k (coming k)) (p .ticks);
-        starts = row-other 24 16 l (16 + k) (coming k) (λ i c e. omega (arith, c, e)) ∙ p .starts;
-        placed = placed-other l (16 + k) (coming k) (omega arith) ∙ p .placed;
-        load = getD-set-other l (16 + k) 64 (coming k) 0 (λ (e : 64 ≡ 16 + k). omega (arith, b, e)) ∙ p .load;
+        jobs = row-other 24 16 l (16 + k) (coming k) (λ i c e. omega (arith, c, e)) ∙ p .jobs;
+        load = getD-set-other l (16 + k) 48 (coming k) 0 (λ (e : 48 ≡ 16 + k). omega (arith, b, e)) ∙ p .load;
       }
 
   rooted-by : (k : ℕ) → k ≤ 8 → Rooted k (each (λ i. λ l. set l (16 + i) (coming i)) k (fresh (sum (jobs R) (run R))))
@@ -71,31 +69,33 @@ module _ (R : Recorder) where
     rooted = rooted-by (R .devices .count) (ok .few-devices)
 
     pub root-placed : placedOf (rootCells R) ≡ replicate 16 false
-    root-placed = rooted .placed
+    unfolding placedOf upTo
+    root-placed = placed-same (rootCells R) (replicate 49 0) (rooted .jobs)
 
-    pub root-starts : row 24 16 (rootCells R) ≡ replicate 16 0
-    root-starts = rooted .starts
+    pub root-starts : startsIn 16 (rootCells R) ≡ replicate 16 0
+    unfolding startsIn upTo
+    root-starts = starts-same (rootCells R) (replicate 49 0) (rooted .jobs) 16 (omega arith)
 
     pub root-is : vertexOf (rootCells R) 0 ≡ root
     unfolding vertexOf
-    root-is = rw (rooted .ends, rooted .paid, rooted .firsts, rooted .starts, rooted .placed)
+    root-is = rw (rooted .ends, rooted .paid, rooted .firsts, root-starts, root-placed)
 
     pub root-holds : Holds R (rootCells R) 0
     root-holds =
         record {
-          loaded = record { long = rooted .long; load = rw (rooted .placed) (rooted .load ∙ sym (rest-all R (run R))) };
+          loaded = record { long = rooted .long; load = rw (root-placed) (rooted .load ∙ sym (rest-all R (run R))) };
           settled = subst (Settled R) (sym root-is) (root-settled R);
           ticks =
               λ k b. sym (row-at 16 8 (rootCells R) k (omega (arith, ok .few-devices))) ∙ ap (λ (r : List ℕ). getD r k 0) (rooted .ticks)
               ∙ stored-at coming (R .devices .count) (replicate 8 0) k 0 b (omega (arith, ok .few-devices)) ∙ sym (rest-all R (ticks R k))
-              ∙ ap (λ (m : List Bool). ahead R m k) (sym (rooted .placed));
+              ∙ ap (λ (m : List Bool). ahead R m k) (sym (root-placed));
         }
 
-    pub root-load : getD (rootCells R) 64 0 ≡ sum (jobs R) (run R)
+    pub root-load : getD (rootCells R) 48 0 ≡ sum (jobs R) (run R)
     root-load = rooted .load
 
-    pub root-spared : getD (rootCells R) 64 0 ≤ R .horizon → Spared R (rootCells R) 0 (jobs R)
-    root-spared h = record { left = rw (rooted .placed) (sym (unplaced-all R)); fits = omega (arith, h, root-holds .loaded .load) }
+    pub root-spared : getD (rootCells R) 48 0 ≤ R .horizon → Spared R (rootCells R) 0 (jobs R)
+    root-spared h = record { left = rw (root-placed) (sym (unplaced-all R)); fits = omega (arith, h, root-holds .loaded .load) }
 
 -- Cut A at the root, where x is the running time of all jobs.
 module _ (R : Recorder) (ok : Valid R) (x : ℕ) (ex : x ≡ sum (jobs R) (run R)) where

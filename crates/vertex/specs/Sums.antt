@@ -48,8 +48,8 @@ latest R m = min (R .horizon - load R m) (due R m)
 
 -- The numbers hold the running times of the unplaced jobs.
 pub record Loaded (R : Recorder) (l : List ℕ) : Type 0 where
-  pub long : length l ≡ 65
-  pub load : getD l 64 0 ≡ load R (placedOf l)
+  pub long : length l ≡ 49
+  pub load : getD l 48 0 ≡ load R (placedOf l)
 
 -- A vertex at the time t that cut A has not dropped: n jobs are unplaced, and there is room for them.
 pub record Spared (R : Recorder) (l : List ℕ) (t n : ℕ) : Type 0 where

@@ -56,7 +56,7 @@ pub fn dues_of(r: &Flat, v: &Cells) -> Dues
     };
     let mut i = 0;
     while i < n {
-        if v[40 + i] == 1 {
+        if v[24 + i] == 0 {
             let last = wide(deadline_of(r, i)) - wide(run_of(r, i));
             dues = due_with(dues, JobNumber(i), last);
         }

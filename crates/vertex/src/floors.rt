@@ -110,7 +110,7 @@ pub fn energy_of(r: &Flat, costs: &Costs, v: &Cells) -> u32
     let mut k = 0;
     while k < m {
         let unused = is_unused(round, v[k]);
-        sum += device_close(r, costs, k, unused, h, v[8 + k], v[k], v[56 + k]);
+        sum += device_close(r, costs, k, unused, h, v[8 + k], v[k], v[40 + k]);
         k += 1;
     }
     sum

@@ -5,6 +5,6 @@ pub mod leads; // leads.rt: what is charged before a use
 pub mod floors; // floors.rt: the floor of a child, and the energy of a complete vertex
 pub mod placing; // placing.rt: the root, and a job placed
 
-// Of device k: the end of its last use at k, what it has cost by that end at 8 + k, its ticks to come at 16 + k, and in a round the start of its first use at 56 + k.
-// Of job j: its start at 24 + j, and at 40 + j a 1 as long as it is unplaced. At 64 the running times of the unplaced jobs.
-pub type Cells = [u32; 65];
+// Of device k: the end of its last use at k, what it has cost by that end at 8 + k, its ticks to come at 16 + k, and in a round the start of its first use at 40 + k.
+// Of job j at 24 + j: 0 as long as it is unplaced, and then one more than its start. At 48 the running times of the unplaced jobs.
+pub type Cells = [u32; 49];

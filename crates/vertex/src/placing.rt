@@ -14,7 +14,7 @@ use flat::run_of;
 use flat::work_power;
 ghost use mathlib.Core.Path.{_≡_};
 ghost use mathlib.Core.Bool.{cond};
-ghost use Prim.Native.Nat.{_+_, _*_, _<_, _≤_};
+ghost use Prim.Native.Nat.{_+_, _-_, _*_, _<_, _≤_};
 ghost use lib.ListN.{getD};
 ghost use Rattle.base.specs.Sums.{sum};
 ghost use Rattle.schedule.specs.Quantities.{Valid, device, jobs, run};
@@ -24,15 +24,23 @@ ghost use Rattle.flat.specs.Costs.{Ready};
 ghost use Rattle.vertex.specs.Layout.{put, marked, childCells, rootCells};
 ghost use Rattle.vertex.specs.Sums.{Holds, Fitting};
 
-// The start and the flag of job j, which runs for c ticks: these are no longer among those of the unplaced jobs.
+// The start of job j, which runs for c ticks: these are no longer among those of the unplaced jobs.
 pub fn mark(w: &mut Cells, j: JobNumber, s: u32, c: u32)
-    requires { ⌜ (j .0 < 16) × (c ≤ getD (now w) 64 0) ⌝ }
+    requires { ⌜ (j .0 < 16) × ((s ≤ 4096) × (c ≤ getD (now w) 48 0)) ⌝ }
     ensures { λ _. ⌜ now (w .exit) ≡ marked (j .0) s c (now (w .entry)) ⌝ }
 {
-    let load = w[64];
-    w[24 + j.0] = s;
-    w[40 + j.0] = 0;
-    w[64] = load - c;
+    let load = w[48];
+    w[24 + j.0] = s + 1;
+    w[48] = load - c;
+}
+
+// The start of job j, which is placed.
+pub fn start_of(v: &Cells, j: usize) -> u32
+    requires { ⌜ j < 16 ⌝ }
+    ensures { λ x. ⌜ x ≡ getD (now (v .entry)) (24 + j) 0 - 1 ⌝ }
+{
+    let x = v[24 + j];
+    if x == 0 { 0 } else { x - 1 }
 }
 
 // The start of a device's first use, where the use at s is another or the first.
@@ -52,12 +60,12 @@ fn charge(r: &Flat, costs: &Costs, w: &mut Cells, round: bool, k: usize, s: u32,
     let ahead = w[16 + k];
     let unused = is_unused(round, end);
     let lead = lead_of(r, costs, k, unused, end, s);
-    let first = first_of(unused, w[56 + k], s);
+    let first = first_of(unused, w[40 + k], s);
     let work = wide(work_power(r, k));
     w[8 + k] = paid + (lead + work * c);
     w[k] = s + c;
     w[16 + k] = ahead - c;
-    w[56 + k] = first;
+    w[40 + k] = first;
 }
 
 // Places job j at s.
@@ -121,13 +129,8 @@ pub fn root_of(r: &Flat) -> Cells
     ensures { λ x. ⌜ x ≡ rootCells (recorderOf (now (r .entry))) ⌝ }
 {
     let m = device_count(r);
-    let mut v = [0u32; 65];
-    v[64] = load_of(r);
-    let mut j = 0;
-    while j < 16 {
-        v[40 + j] = 1;
-        j += 1;
-    }
+    let mut v = [0u32; 49];
+    v[48] = load_of(r);
     let mut k = 0;
     while k < m {
         v[16 + k] = all_ticks_of(r, k);

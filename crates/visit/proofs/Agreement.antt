@@ -374,7 +374,7 @@ pub record Stands (R : Recorder) (l : List ℕ) (t : ℕ) : Type 0 where
   pub vertex : doc.Vertex
   pub same : Same R (vertexOf l t) vertex
   pub reached : Reached R (length (vertex .unplaced)) vertex
-  pub load : getD l 64 0 ≡ total (run R) (vertex .unplaced)
+  pub load : getD l 48 0 ≡ total (run R) (vertex .unplaced)
   pub ticks : (k : ℕ) → k < R .devices .count → getD l (16 + k) 0 ≡ total (doc.ticks R k) (vertex .unplaced)
 
 module _ (R : Recorder) (valid : Valid R) where

@@ -3,7 +3,7 @@
 use mathlib.Core.Path.{_≡_, refl, sym, ap, _∙_}
 use mathlib.Core.Bool.{Bool, true, false, cond}
 use mathlib.Core.List.{List}
-use Prim.Native.Nat.{ℕ, zero, suc, _+_, _≤_, _<_}
+use Prim.Native.Nat.{ℕ, zero, suc, _+_, _-_, _≤_, _<_}
 use native.Mathlib.Omega.{arith}
 use lib.Dec.{eqb, leb, ltb}
 use lib.ListN.{getD, set, length, length-set}
@@ -12,7 +12,7 @@ use borrow.Author.Tests.{lt-ltb, le-ltb, ne-eqb}
 use Rattle.base.specs.Loops.{each}
 use Rattle.base.proofs.Arrays.{upTo-whole}
 use Rattle.base.proofs.Stores.{stored-at}
-use Rattle.vertex.specs.Layout.{row, vertexOf}
+use Rattle.vertex.specs.Layout.{row, startsIn, vertexOf}
 use Rattle.vertex.proofs.Reading.{row-long, row-other, row-store}
 use Rattle.visit.specs.Steps.{Tally, cutB, counting, improves, offer}
 use Rattle.visit.specs.Lent.{tallyOf, bettered}
@@ -41,10 +41,10 @@ module _ (l : List ℕ) (e : ℕ) (t : List ℕ) (h : length t ≡ 19) where
   base = set (set t 1 1) 2 e
 
   abbrev held : ℕ → ℕ
-  held i = getD l (24 + i) 0
+  held i = getD l (24 + i) 0 - 1
 
   abbrev copy : ℕ → List ℕ → List ℕ
-  copy j m = set m (3 + j) (getD l (24 + j) 0)
+  copy j m = set m (3 + j) (held j)
 
   abbrev storing : ℕ → List ℕ → List ℕ
   storing i r = set r i (held i)
@@ -90,14 +90,14 @@ module _ (l : List ℕ) (e : ℕ) (t : List ℕ) (h : length t ≡ 19) where
   unfolding bettered
   done = all-copied 16 (omega arith)
 
-  starts-are : row 3 16 (bettered l e t) ≡ row 24 16 l
-  unfolding row
+  starts-are : row 3 16 (bettered l e t) ≡ startsIn 16 l
+  unfolding startsIn
   starts-are =
       sym (upTo-whole held (row 3 16 (bettered l e t)) 0 16 (row-long 3 16 (bettered l e t))
       (λ i b. sym (ap (λ (r : List ℕ). getD r i 0) (done .starts) ∙ stored-at held 16 (row 3 16 base) i 0 b (omega (arith, row-long 3 16 base)))))
 
   abbrev whole : Tally
-  whole = record { count = getD t 0 0; best = record { found = true; energy = e; starts = row 24 16 l } }
+  whole = record { count = getD t 0 0; best = record { found = true; energy = e; starts = startsIn 16 l } }
 
   better-is : tallyOf (bettered l e t) ≡ whole
   unfolding tallyOf

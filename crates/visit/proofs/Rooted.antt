@@ -33,18 +33,18 @@ module _ (R : Recorder) (ok : Valid R) (b : ℕ) where
     counted-is : tallyOf m ≡ counting (bare 0)
     counted-is = em ∙ ap (λ (y : Tally). counting y) et
 
-    load-is : getD v 64 0 ≡ sum (jobs R) (run R)
+    load-is : getD v 48 0 ≡ sum (jobs R) (run R)
     load-is = rw ev (root-load R ok)
 
-    pub root-cut : R .horizon < getD v 64 0 → ran b false m ≡ capped b (searched R)
+    pub root-cut : R .horizon < getD v 48 0 → ran b false m ≡ capped b (searched R)
     unfolding searched
     root-cut h =
-        let c : visitOf R (jobs R) root (bare 0) ≡ counting (bare 0) = cut-counts R root (bare 0) (root-late R ok (getD v 64 0) load-is h) (jobs R) in
+        let c : visitOf R (jobs R) root (bare 0) ≡ counting (bare 0) = cut-counts R root (bare 0) (root-late R ok (getD v 48 0) load-is h) (jobs R) in
         ran-ends b m (visitOf R (jobs R) root (bare 0)) (counted-is ∙ sym c) (subst (λ (y : Tally). y .count ≤ b) (sym c) (omega (arith, some)))
 
-    pub root-enters : getD v 64 0 ≤ R .horizon → (n : ℕ) → n ≡ jobs R → (r : Run) → r ≡ capped b (below R n (vertexOf v 0) (tallyOf m)) → r ≡ capped b (searched R)
+    pub root-enters : getD v 48 0 ≤ R .horizon → (n : ℕ) → n ≡ jobs R → (r : Run) → r ≡ capped b (below R n (vertexOf v 0) (tallyOf m)) → r ≡ capped b (searched R)
     unfolding searched cutB
     root-enters h n en r er =
         er ∙ ap (λ (i : ℕ). capped b (below R i (vertexOf v 0) (tallyOf m))) en ∙ ap (λ (l : List ℕ). capped b (below R (jobs R) (vertexOf l 0) (tallyOf m))) ev
         ∙ ap (λ (w : Vertex). capped b (below R (jobs R) w (tallyOf m))) (root-is R ok) ∙ ap (λ (y : Tally). capped b (below R (jobs R) root y)) counted-is
-        ∙ ap (capped b) (sym (entered-below R root (bare 0) (root-uncut R ok (getD v 64 0) load-is h) refl (jobs R)))
+        ∙ ap (capped b) (sym (entered-below R root (bare 0) (root-uncut R ok (getD v 48 0) load-is h) refl (jobs R)))

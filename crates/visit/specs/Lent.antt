@@ -22,7 +22,7 @@ ran budget b l = record { stopped = b; tally = cond b (bare budget) (tallyOf l) 
 
 -- The tally with a best of energy e and the starts of the vertex l.
 unfoldable pub bettered : List ℕ → ℕ → List ℕ → List ℕ
-bettered l e t = each (λ j. λ m. set m (3 + j) (getD l (24 + j) 0)) 16 (set (set t 1 1) 2 e)
+bettered l e t = each (λ j. λ m. set m (3 + j) (getD l (24 + j) 0 - 1)) 16 (set (set t 1 1) 2 e)
 
 -- What comes of a vertex v with n jobs left that no cut has dropped and that is counted in t: it is offered, or its children are examined.
 unfoldable pub below : Recorder → ℕ → Vertex → Tally → Tally

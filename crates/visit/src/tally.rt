@@ -4,6 +4,7 @@ use flat::Flat;
 use flat::costs::Costs;
 use vertex::Cells;
 use vertex::floors::floor_of;
+use vertex::placing::start_of;
 ghost use mathlib.Core.Path.{_≡_};
 ghost use Prim.Native.Nat.{_+_, _^_, _<_};
 ghost use lib.ListN.{length};
@@ -35,7 +36,7 @@ fn store_best(v: &Cells, tally: &mut Tally, e: u32)
     tally[2] = e;
     let mut j = 0;
     while j < 16 {
-        tally[3 + j] = v[24 + j];
+        tally[3 + j] = start_of(v, j);
         j += 1;
     }
 }

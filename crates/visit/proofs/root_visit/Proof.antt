@@ -44,7 +44,7 @@ enter-requires c κs =
     let start = c .before .before .before .before .before .before .before .before .before .before in
     let R = recorderOf (start .args .r .now) in
     let root = c .before .before .before .before .before .before .root-of .ensures in
-    let small : getD (c .before .before .before .before .before .before .root-of .result) 64 0 ≤ R .horizon = omega (arith, c .before .before .before .if2 .left, (c .before .before .before .before .wide .ensures .0 ∙ c .before .before .before .before .before .horizon-of .ensures)) in
+    let small : getD (c .before .before .before .before .before .before .root-of .result) 48 0 ≤ R .horizon = omega (arith, c .before .before .before .if2 .left, (c .before .before .before .before .wide .ensures .0 ∙ c .before .before .before .before .before .horizon-of .ensures)) in
     let counted = c .before .before .before .before .before .before .before .count-one .ensures in
     (start .pre .0, (rw root from-root, (rw (root, c .before .before .job-count .ensures) (root-spared R (start .pre .0 .valid) (rw root at small)), record { long = counted .1; count = omega (arith, ap (λ (t : Tally). t .count) (counted .0), ap (λ (t : Tally). t .count) (start .pre .1 .1), c .before .before .before .before .before .before .before .before .before .if1 .left) })))
 

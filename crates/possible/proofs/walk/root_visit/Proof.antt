@@ -47,7 +47,7 @@ enter-requires c κs =
     let R = recorderOf (start .args .r .now) in
     let empty = start .pre .1 in
     let root = c .before .before .before .before .before .before .root-of .ensures in
-    let small : getD (c .before .before .before .before .before .before .root-of .result) 64 0 ≤ R .horizon = omega (arith, c .before .before .before .if2 .left, (c .before .before .before .before .wide .ensures .0 ∙ c .before .before .before .before .before .horizon-of .ensures)) in
+    let small : getD (c .before .before .before .before .before .before .root-of .result) 48 0 ≤ R .horizon = omega (arith, c .before .before .before .if2 .left, (c .before .before .before .before .wide .ensures .0 ∙ c .before .before .before .before .before .horizon-of .ensures)) in
     (start .pre .0, (rw root (root-holds R (start .pre .0) .loaded), (rw (root, c .before .before .job-count .ensures) (root-spared R (start .pre .0) (rw root at small)), counted-within R _ _ (c .before .before .before .before .before .before .before .count-one .ensures) (empty-long R _ empty) _ (omega (arith, empty-count R _ empty, c .before .before .before .before .before .before .before .before .before .if1 .left)) (empty-none R _ empty))))
 
 returns-3 : tie.Need-returns-3

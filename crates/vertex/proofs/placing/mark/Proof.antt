@@ -21,17 +21,11 @@ element-write-w c = search needs
 add-w-2 : tie.Need-add-w-2
 add-w-2 c = search needs
 
-mul-w-2 : tie.Need-mul-w-2
-mul-w-2 c = search needs
-
-element-write-w-2 : tie.Need-element-write-w-2
-element-write-w-2 c = search needs
-
 sub-w : tie.Need-sub-w
 sub-w c = search needs
 
-element-write-w-3 : tie.Need-element-write-w-3
-element-write-w-3 c = search needs
+element-write-w-2 : tie.Need-element-write-w-2
+element-write-w-2 c = search needs
 
 returns : tie.Need-returns
 unfolding marked
@@ -39,4 +33,4 @@ returns c = refl
 
 pub mark-spec : {M : Type 1} → statement M
 mark-spec =
-    tie.close (tie.spec element-copy-out-load add-w mul-w element-write-w add-w-2 mul-w-2 element-write-w-2 sub-w element-write-w-3 returns)
+    tie.close (tie.spec element-copy-out-load add-w add-w-2 mul-w element-write-w sub-w element-write-w-2 returns)

@@ -16,76 +16,50 @@ use Rattle.vertex.proofs.placing.root_of.Statement.{statement}
 use Rattle.vertex.proofs.placing.root_of.Tie as tie
 
 abbrev Inv-loop : tie.InvT-loop
-Inv-loop r m v₀ j₀ v j = (j ≤ 16) × (v ≡ each (λ i. λ l. set l (40 + i) 1) j v₀)
+Inv-loop r m v₀ k₀ v k = (k ≤ m) × (m ≤ 8) × (v ≡ each (λ i. λ l. set l (16 + i) (sum (jobs (recorderOf r)) (ticks (recorderOf r) i))) k v₀)
 
 abbrev μ-loop : tie.MeasureT-loop
-μ-loop r m v₀ j₀ v j = 16 - j
+μ-loop r m v₀ k₀ v k = m - k
 
-abbrev Inv-loop2 : tie.InvT-loop2
-Inv-loop2 r m v₀ j k₀ v k = (k ≤ m) × (m ≤ 8) × (v ≡ each (λ i. λ l. set l (16 + i) (sum (jobs (recorderOf r)) (ticks (recorderOf r) i))) k v₀)
-
-abbrev μ-loop2 : tie.MeasureT-loop2
-μ-loop2 r m v₀ j k₀ v k = m - k
-
-device-count-requires : tie.Need-device-count-requires Inv-loop μ-loop Inv-loop2 μ-loop2
+device-count-requires : tie.Need-device-count-requires Inv-loop μ-loop
 device-count-requires c κs = search needs
 
-load-of-requires : tie.Need-load-of-requires Inv-loop μ-loop Inv-loop2 μ-loop2
+load-of-requires : tie.Need-load-of-requires Inv-loop μ-loop
 load-of-requires c κs = c .before .pre .few-jobs
 
-array-write-v : tie.Need-array-write-v Inv-loop μ-loop Inv-loop2 μ-loop2
+array-write-v : tie.Need-array-write-v Inv-loop μ-loop
 array-write-v c = omega arith
 
-loop-holds : tie.Need-loop-holds Inv-loop μ-loop Inv-loop2 μ-loop2
-loop-holds c = (omega arith, each-start _ _ _ refl)
+loop-holds : tie.Need-loop-holds Inv-loop μ-loop
+loop-holds c = (omega arith, omega (arith, c .before .device-count .ensures, c .before .before .pre .few-devices), each-start _ _ _ refl)
 
-add-v : tie.Need-add-v Inv-loop μ-loop Inv-loop2 μ-loop2
+all-ticks-of-requires : tie.Need-all-ticks-of-requires Inv-loop μ-loop
+all-ticks-of-requires c κs = (c .before .before .before .before .pre .few-jobs, omega arith)
+
+add-v : tie.Need-add-v Inv-loop μ-loop
 add-v c = omega arith
 
-mul-v : tie.Need-mul-v Inv-loop μ-loop Inv-loop2 μ-loop2
+mul-v : tie.Need-mul-v Inv-loop μ-loop
 mul-v c = omega arith
 
-array-write-v-2 : tie.Need-array-write-v-2 Inv-loop μ-loop Inv-loop2 μ-loop2
+array-write-v-2 : tie.Need-array-write-v-2 Inv-loop μ-loop
 array-write-v-2 c = omega arith
 
-add-j : tie.Need-add-j Inv-loop μ-loop Inv-loop2 μ-loop2
-add-j c = omega arith
-
-loop-less : tie.Need-loop-less Inv-loop μ-loop Inv-loop2 μ-loop2
-loop-less c = omega arith
-
-loop-again : tie.Need-loop-again Inv-loop μ-loop Inv-loop2 μ-loop2
-loop-again c = (omega arith, each-step _ _ _ _ _ (c .before .loop .inv .1) refl)
-
-loop2-holds : tie.Need-loop2-holds Inv-loop μ-loop Inv-loop2 μ-loop2
-loop2-holds c = (omega arith, omega (arith, c .before .before .before .device-count .ensures, c .before .before .before .before .pre .few-devices), each-start _ _ _ refl)
-
-all-ticks-of-requires : tie.Need-all-ticks-of-requires Inv-loop μ-loop Inv-loop2 μ-loop2
-all-ticks-of-requires c κs = (c .before .before .before .before .before .before .pre .few-jobs, omega arith)
-
-add-v-2 : tie.Need-add-v-2 Inv-loop μ-loop Inv-loop2 μ-loop2
-add-v-2 c = omega arith
-
-mul-v-2 : tie.Need-mul-v-2 Inv-loop μ-loop Inv-loop2 μ-loop2
-mul-v-2 c = omega arith
-
-array-write-v-3 : tie.Need-array-write-v-3 Inv-loop μ-loop Inv-loop2 μ-loop2
-array-write-v-3 c = omega arith
-
-add-k : tie.Need-add-k Inv-loop μ-loop Inv-loop2 μ-loop2
+add-k : tie.Need-add-k Inv-loop μ-loop
 add-k c = omega arith
 
-loop2-less : tie.Need-loop2-less Inv-loop μ-loop Inv-loop2 μ-loop2
-loop2-less c = omega arith
+loop-less : tie.Need-loop-less Inv-loop μ-loop
+loop-less c = omega arith
 
-loop2-again : tie.Need-loop2-again Inv-loop μ-loop Inv-loop2 μ-loop2
-loop2-again c = (omega arith, c .before .before .loop2 .inv .1, each-step _ _ _ _ _ (c .before .before .loop2 .inv .2) (ap (λ (z : ℕ). set (c .before .before .loop2 .v) (16 + c .before .before .loop2 .k) z) (c .all-ticks-of .ensures)))
+loop-again : tie.Need-loop-again Inv-loop μ-loop
+loop-again c = (omega arith, c .before .before .loop .inv .1, each-step _ _ _ _ _ (c .before .before .loop .inv .2) (ap (λ (z : ℕ). set (c .before .before .loop .v) (16 + c .before .before .loop .k) z) (c .all-ticks-of .ensures)))
 
-returns : tie.Need-returns Inv-loop μ-loop Inv-loop2 μ-loop2
+returns : tie.Need-returns Inv-loop μ-loop
 unfolding rootCells
 returns c =
-    each-done _ _ _ _ _ (c .before .loop2 .inv .2) (omega (arith, c .before .before .before .before .before .device-count .ensures))
-    ∙ ap (each _ _) (each-done _ _ _ _ _ (c .before .before .before .loop .inv .1) (omega arith) ∙ ap (λ (x : ℕ). each (λ i. λ l. set l (40 + i) 1) 16 (set (replicate 65 0) 64 x)) (c .before .before .before .before .load-of .ensures))
+    let R = recorderOf (c .before .before .before .before .args .r .now) in
+    each-done _ _ _ _ _ (c .before .loop .inv .2) (omega (arith, c .before .before .before .device-count .ensures))
+    ∙ ap (λ (x : ℕ). each (λ i. λ l. set l (16 + i) (sum (jobs R) (ticks R i))) (R .devices .count) (set (replicate 49 0) 48 x)) (c .before .before .load-of .ensures)
 
 pub root-of-spec : {M : Type 1} → statement M
 root-of-spec =
@@ -93,24 +67,15 @@ root-of-spec =
     (tie.spec
     Inv-loop
     μ-loop
-    Inv-loop2
-    μ-loop2
     device-count-requires
     load-of-requires
     array-write-v
     loop-holds
+    all-ticks-of-requires
     add-v
     mul-v
     array-write-v-2
-    add-j
+    add-k
     loop-less
     loop-again
-    loop2-holds
-    all-ticks-of-requires
-    add-v-2
-    mul-v-2
-    array-write-v-3
-    add-k
-    loop2-less
-    loop2-again
     returns)
