@@ -1,6 +1,9 @@
 -- `flat::deep_power` meets its contract.
 -- Assumes nothing.
+use mathlib.Core.Path.{ap, _∙_}
+use Prim.Native.Nat.{ℕ, _+_, _*_}
 use native.Mathlib.Omega.{arith}
+use lib.ListN.{getD}
 use borrow.Author.Needs.{needs}
 use Rattle.flat.proofs.Cells.{levels-at, deep-at}
 use Rattle.flat.proofs.deep_power.Statement.{statement}
@@ -42,7 +45,7 @@ returns : tie.Need-returns
 returns c =
     let s = c .before .before in
     let l = s .args .r .now in
-    rw (levels-at l (s .args .k) (omega arith)) (deep-at l (s .args .k) (omega arith) (s .pre .1))
+    ap (λ (n : ℕ). getD l (181 + 16 * s .args .k + n) 0) (levels-at l (s .args .k) (omega arith)) ∙ deep-at l (s .args .k) (omega arith) (s .pre .1)
 
 pub deep-power-spec : {M : Type 1} → statement M
 deep-power-spec =

@@ -248,15 +248,15 @@ tries-returns t c =
 tries-add-s : (t : ℕ) → tries-lts.Need-add-s (tries-calls t) (tries-at t) tries.Post tries-Inv-loop tries-μ-loop
 tries-add-s t c = omega arith
 
-tries-loop-less : (t : ℕ) → tries-lts.Need-loop-less (tries-calls t) (tries-at t) tries.Post tries-Inv-loop tries-μ-loop
-tries-loop-less t c = start-less _ _ _ (c .before .before .before .loop-test .taken)
-
 tries-loop-again : (t : ℕ) → tries-lts.Need-loop-again (tries-calls t) (tries-at t) tries.Post tries-Inv-loop tries-μ-loop
 tries-loop-again t c =
     let l = c .before .before .before .before .loop in
     let from = c .before .before .before .before .before .later .ensures ∙ ap (max _) (c .before .before .before .before .before .before .wide4 .ensures .0 ∙ c .before .before .before .before .before .before .before .release-of .ensures) in
     let turn = start-is _ _ _ _ _ _ _ _ _ _ _ (start-at _ _ 0 0 (l .inv .0) _ from) (c .before .visit .ensures .0) in
     (omega arith, each-done _ _ _ _ _ (turn-goes _ _ _ _ _ _ _ (l .inv .1) turn (c .if1 .left)) (start-next _ _ 0 0 (l .inv .0)), record { long = c .before .visit .ensures .1; count = turn-within _ _ _ _ _ _ _ (l .inv .1) turn (c .if1 .left) }, start-more _ _ _ _ (l .inv .0) (c .before .before .before .loop-test .taken))
+
+tries-loop-less : (t : ℕ) → tries-lts.Need-loop-less (tries-calls t) (tries-at t) tries.Post tries-Inv-loop tries-μ-loop
+tries-loop-less t c = start-less _ _ _ (c .before .before .before .loop-test .taken)
 
 tries-returns-2 : (t : ℕ) → tries-lts.Need-returns-2 (tries-calls t) (tries-at t) tries.Post tries-Inv-loop tries-μ-loop
 tries-returns-2 t c =
