@@ -1,5 +1,6 @@
-//! The oracle itself, held to the figures P1 to P12, E1 to E6 and G1 to G13 (crates/figures), to M1 and M2
-//! (crates/looser) and to a few worked out by hand or taken from the two papers that docs/RULES.md names.
+//! The oracle itself, held to the figures P1 to P12, X1, X3, E1 to E6, G1, G5, G6 and G13 (crates/figures), to M1 and M2
+//! (crates/looser), to Table 2 of the I/O paper (X4) and to a few worked out by hand. The others of crates/figures are held by
+//! the tests of the kinds that they belong to (second.rs, third.rs) and by the calls.
 
 use crate::expect::{search, text, Outcome, BUDGET};
 use crate::listing::{energy, uses};

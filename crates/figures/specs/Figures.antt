@@ -1,5 +1,5 @@
--- The figures to reproduce, P1 to P12, three more, X1 to X3 (X2 is P9's count, 95), E1 to E6, of devices that are dear to move, and G1 to G13, of rounds without a
--- seam (G8 is X3): one table of cases, and one statement over it. A case is an operation's complete outcome on a file, and says what that operation promises; so it says that the file is read, or by
+-- The figures to reproduce: P1 to P12; X1 to X3 (X2 is P9's count, 95); of devices that are dear to move E1 to E6; of the second kind H1 to H4, H7 and H14 to H16; of
+-- rounds without a seam G1, G2, G5, G6, G8 (which is X3) and G13; of several levels J5 to J7, J9, J10, J12, J13 and J19. One table of cases, and one statement over it. A case is an operation's complete outcome on a file, and says what that operation promises; so it says that the file is read, or by
 -- which number it is refused.
 -- proofs/Hold: the table holds.
 -- Assumes nothing.
