@@ -1,6 +1,6 @@
 -- A signed number of 32 bits as an unsigned one: a negative one by its two's complement.
 -- Assumes nothing.
-use mathlib.Core.Path.{_≡_}
+use mathlib.Core.Path.{_≡_, refl}
 use mathlib.Core.Bool.{true, false, true≢false}
 use native.Mathlib.Omega.{arith}
 use Prim.Native.Nat.{suc}
@@ -10,6 +10,7 @@ use lib.Signed.{ltZ, nonNeg}
 use borrow.Author.Tests.{ltb-true, le-ltb}
 use mir.Syntax.{w32, w64}
 use mir.Val.{Fits, SFits}
+use Rattle.doors.specs.Promises.{complement}
 
 pub size-pos : (z : ℤ) → SFits w32 z → ltZ z (pos 0) ≡ false → T (nonNeg z) × Fits w64 (natAbs z)
 size-pos (pos n) f e = (tt, record { fits = omega (arith, f .sfits) })
@@ -29,3 +30,14 @@ raised (negsuc n) f e =
       fits = rw above (record { sfits = omega (arith, f .sfits) });
       size = rw above (tt, record { fits = omega (arith, f .sfits) });
     }
+
+-- What is told of a margin is its complement.
+pub complement-pos : (z : ℤ) → ltZ z (pos 0) ≡ false → natAbs z ≡ complement z
+complement-pos (pos n) e = refl
+complement-pos (negsuc n) e = absurd (true≢false e)
+
+pub complement-raised : (z : ℤ) → SFits w32 z → ltZ z (pos 0) ≡ true → natAbs (z +ℤ pos 4294967296) ≡ complement z
+complement-raised (pos n) f e = absurd (omega (arith, ltb-true n 0 e))
+complement-raised (negsuc n) f e =
+    let above : ltb 4294967296 (suc n) ≡ false = le-ltb 4294967296 (suc n) (omega (arith, f .sfits)) in
+    rw above

@@ -1,11 +1,11 @@
 // The door to building a request from part numbers.
-use crate::SHUT;
-use crate::table_bytes::HEAD;
-use crate::table_bytes::is_tables;
-use crate::table_bytes::tables_from;
 use calls::RESULT;
 use calls::tell;
 use catalogue::build;
+use doorway::SHUT;
+use table_bytes::HEAD;
+use table_bytes::is_tables;
+use table_bytes::tables_from;
 
 // The tables that are given are of the first kind and have no devices: these are looked up.
 #[no_mangle]

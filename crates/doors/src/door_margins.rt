@@ -1,18 +1,25 @@
 // The door to the margins: four bytes each.
+ghost use mathlib.Core.Path.{_≡_};
 ghost use Prim.Native.Nat.{_*_, _≤_};
-ghost use lib.ListN.{length};
-use crate::SHUT;
-use crate::handed;
-use crate::is_shut;
-use crate::least;
+ghost use lib.IntN.{pos};
+ghost use lib.ListN.{length, getD};
+ghost use Rattle.planner.specs.Promises.{OfFile};
+ghost use Rattle.doorway.specs.Doors.{fours};
+ghost use Rattle.doors.specs.Promises.{complement, MarginsSpelled, MarginsDoor};
 use calls::get_starts;
 use calls::put;
 use calls::tell;
+use doorway::SHUT;
+use doorway::handed;
+use doorway::is_open;
+use doorway::least;
 use planner::Answer;
 use planner::margins;
 
 // A margin's four bytes: a negative one by its two's complement.
-fn bits_of(margin: i32) -> u64 {
+fn bits_of(margin: i32) -> u64
+    ensures { λ r. ⌜ r ≡ complement margin ⌝ }
+{
     if margin < 0 {
         return (margin as i64 + 4294967296) as u64;
     }
@@ -21,6 +28,7 @@ fn bits_of(margin: i32) -> u64 {
 
 fn put_margins(margins: &[i32], out: &mut [u8])
     requires { ⌜ length (now margins) * 4 ≤ length (now out) ⌝ }
+    ensures { λ _. ⌜ now (out .exit) ≡ fours (λ j. complement (getD (now (margins .entry)) j (pos 0))) (length (now (margins .entry))) (now (out .entry)) ⌝ }
 {
     let mut j = 0;
     while j < margins.len() {
@@ -32,7 +40,9 @@ fn put_margins(margins: &[i32], out: &mut [u8])
 }
 
 // The margins as four bytes each; what is lent beyond one place a job stays as it was.
-fn margin_bytes(file: &[u8], starts: &[u16], out: &mut [u8]) -> Answer {
+fn margin_bytes(file: &[u8], starts: &[u16], out: &mut [u8]) -> Answer
+    ensures { λ a. ⌜ OfFile (now (file .entry)) (now (out .entry)) (MarginsSpelled (now (starts .entry)) (now (out .entry))) a (now (out .exit)) ⌝ }
+{
     let mut room = [0i32; 16];
     let places = least(out.len() / 4, 16);
     let answer = margins(file, starts, &mut room[..places]);
@@ -44,13 +54,10 @@ fn margin_bytes(file: &[u8], starts: &[u16], out: &mut [u8]) -> Answer {
 }
 
 #[no_mangle]
-pub extern "C" fn door_margins(
-    file: &[u8],
-    starts: &[u8],
-    out: &mut [u8],
-    result: &mut [u8],
-) -> u8 {
-    if is_shut(starts.len(), result.len()) {
+pub extern "C" fn door_margins(file: &[u8], starts: &[u8], out: &mut [u8], result: &mut [u8]) -> u8
+    ensures { λ n. ⌜ MarginsDoor (now (file .entry)) (now (starts .entry)) (now (out .entry)) (now (result .entry)) n (now (out .exit)) (now (result .exit)) ⌝ }
+{
+    if !is_open(starts.len(), result.len()) {
         return SHUT;
     }
     let mut own = [0u16; 17];

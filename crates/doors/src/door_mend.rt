@@ -1,11 +1,11 @@
 // The door to mending: two bytes a number, in the given starts, the new ones and the moves.
-use crate::SHUT;
-use crate::handed;
-use crate::is_shut;
-use crate::least;
 use calls::get_starts;
 use calls::put_starts;
 use calls::tell;
+use doorway::SHUT;
+use doorway::handed;
+use doorway::is_open;
+use doorway::least;
 use mend::mend;
 use planner::Answer;
 
@@ -33,7 +33,7 @@ pub extern "C" fn door_mend(
     moved: &mut [u8],
     result: &mut [u8],
 ) -> u8 {
-    if is_shut(starts.len(), result.len()) {
+    if !is_open(starts.len(), result.len()) {
         return SHUT;
     }
     let mut own = [0u16; 17];

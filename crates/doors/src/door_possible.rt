@@ -1,15 +1,19 @@
 // The door to whether there is any plan.
-use crate::SHUT;
-use crate::least;
+ghost use Rattle.planner.specs.Promises.{OfFile};
+ghost use Rattle.doors.specs.Promises.{PossibleSpelled, PossibleDoor};
 use calls::RESULT;
 use calls::put_starts;
 use calls::tell;
+use doorway::SHUT;
+use doorway::least;
 use planner::Answer;
 use possible::any_plan;
 use request::read;
 
 // The start times go to the first bytes; what is lent beyond one start a job stays as it was.
-fn possible_bytes(file: &[u8], budget: u32, starts: &mut [u8]) -> Answer {
+fn possible_bytes(file: &[u8], budget: u32, starts: &mut [u8]) -> Answer
+    ensures { λ a. ⌜ OfFile (now (file .entry)) (now (starts .entry)) (PossibleSpelled budget (now (starts .entry))) a (now (starts .exit)) ⌝ }
+{
     let mut own = [0u16; 16];
     let places = least(starts.len() / 2, 16);
     let answer = any_plan(file, budget, &mut own[..places]);
@@ -27,7 +31,9 @@ pub extern "C" fn door_possible(
     budget: u32,
     starts: &mut [u8],
     result: &mut [u8],
-) -> u8 {
+) -> u8
+    ensures { λ n. ⌜ PossibleDoor (now (file .entry)) budget (now (starts .entry)) (now (result .entry)) n (now (starts .exit)) (now (result .exit)) ⌝ }
+{
     if result.len() < RESULT {
         return SHUT;
     }

@@ -1,13 +1,13 @@
 // The door to the tables of a file.
-use crate::SHUT;
-use crate::table_bytes::bytes_of;
-use crate::table_bytes::size;
 use calls::RESULT;
 use calls::tell;
+use doorway::SHUT;
 use planner::Answer;
 use planner::refusal;
 use planner::success;
 use planner::tables_of;
+use table_bytes::bytes_of;
+use table_bytes::size;
 use tables::copy;
 
 // 15 where the bytes do not fit; what is lent beyond them stays as it was.

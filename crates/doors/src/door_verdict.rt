@@ -1,14 +1,17 @@
 // The door to the verdict.
-use crate::SHUT;
-use crate::handed;
-use crate::is_shut;
+ghost use Rattle.doors.specs.Promises.{VerdictDoor};
 use calls::get_starts;
 use calls::tell;
+use doorway::SHUT;
+use doorway::handed;
+use doorway::is_open;
 use planner::verdict;
 
 #[no_mangle]
-pub extern "C" fn door_verdict(file: &[u8], starts: &[u8], result: &mut [u8]) -> u8 {
-    if is_shut(starts.len(), result.len()) {
+pub extern "C" fn door_verdict(file: &[u8], starts: &[u8], result: &mut [u8]) -> u8
+    ensures { λ n. ⌜ VerdictDoor (now (file .entry)) (now (starts .entry)) (now (result .entry)) n (now (result .exit)) ⌝ }
+{
+    if !is_open(starts.len(), result.len()) {
         return SHUT;
     }
     let mut own = [0u16; 17];

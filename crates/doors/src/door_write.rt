@@ -1,11 +1,11 @@
 // The door to the writer.
-use crate::SHUT;
-use crate::table_bytes::HEAD;
-use crate::table_bytes::is_tables;
-use crate::table_bytes::tables_from;
 use calls::RESULT;
 use calls::tell;
+use doorway::SHUT;
 use planner::write;
+use table_bytes::HEAD;
+use table_bytes::is_tables;
+use table_bytes::tables_from;
 
 #[no_mangle]
 pub extern "C" fn door_write(given: &[u8], out: &mut [u8], result: &mut [u8]) -> u8 {

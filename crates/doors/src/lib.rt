@@ -1,10 +1,6 @@
 // Doors: the other operations of the library with bytes in and out, for the command line and the tests. They are safe, and promise nothing of their own. A door
 // answers 255, and does nothing, for an odd list of start times, tables of another length or kind, or a result buffer under 11 bytes; else it tells every
 // answer, a refusal too. include/doors.h declares them.
-ghost use mathlib.Core.Path.{_≡_};
-ghost use Prim.Native.Nat.{_/_, min};
-use calls::RESULT;
-
 pub mod door_build; // door_build.rt: a request from part numbers
 pub mod door_margins; // door_margins.rt: margins
 pub mod door_mend; // door_mend.rt: mending
@@ -12,23 +8,3 @@ pub mod door_possible; // door_possible.rt: whether there is any plan
 pub mod door_tables; // door_tables.rt: the tables of a file
 pub mod door_verdict; // door_verdict.rt: the verdict
 pub mod door_write; // door_write.rt: the writer
-mod table_bytes; // table_bytes.rt: tables as bytes
-
-pub const SHUT: u8 = 255;
-
-pub fn is_shut(starts: usize, result: usize) -> bool {
-    starts % 2 != 0 || result < RESULT
-}
-
-pub fn least(a: usize, b: usize) -> usize
-    ensures { λ r. ⌜ r ≡ min a b ⌝ }
-{
-    if a < b { a } else { b }
-}
-
-// How many of the start times are handed on: all, or one more than a file can have jobs.
-pub fn handed(bytes: usize) -> usize
-    ensures { λ r. ⌜ r ≡ min (bytes / 2) 17 ⌝ }
-{
-    least(bytes / 2, 17)
-}

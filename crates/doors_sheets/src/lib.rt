@@ -1,20 +1,22 @@
-// Doors to the sheets, with bytes in and out, for the tests and the command line. They are safe, and promise nothing of their own. A door answers 255, and does
-// nothing, for an odd list of start times or a result buffer under 11 bytes; else it tells every answer, a refusal too. include/doors.h declares them.
-ghost use mathlib.Core.Path.{_≡_};
-ghost use Prim.Native.Nat.{_/_, min};
+// Doors to the sheets, with bytes in and out, for the tests and the command line. A door answers 255, and does nothing, for an odd list of start times or a
+// result buffer under 11 bytes; else it tells every answer, a refusal too. include/doors.h declares them; specs/Promises.antt says for each the complete outcome.
+ghost use Rattle.doors_sheets.specs.Promises.{ImportDevicesDoor, ImportJobsDoor, ExportDevicesDoor, ExportJobsDoor, ExportPlanDoor};
 use calls::RESULT;
 use calls::get_starts;
 use calls::tell;
+use doorway::SHUT;
+use doorway::handed;
+use doorway::is_open;
 use exporting::export_devices;
 use exporting::export_jobs;
 use importing::import_devices;
 use importing::import_jobs;
 use plan_sheet::export_plan;
 
-pub const SHUT: u8 = 255;
-
 #[no_mangle]
-pub extern "C" fn door_import_devices(text: &[u8], out: &mut [u8], result: &mut [u8]) -> u8 {
+pub extern "C" fn door_import_devices(text: &[u8], out: &mut [u8], result: &mut [u8]) -> u8
+    ensures { λ n. ⌜ ImportDevicesDoor (now (text .entry)) (now (out .entry)) (now (result .entry)) n (now (out .exit)) (now (result .exit)) ⌝ }
+{
     if result.len() < RESULT {
         return SHUT;
     }
@@ -22,7 +24,9 @@ pub extern "C" fn door_import_devices(text: &[u8], out: &mut [u8], result: &mut 
 }
 
 #[no_mangle]
-pub extern "C" fn door_export_devices(catalogue: &[u8], out: &mut [u8], result: &mut [u8]) -> u8 {
+pub extern "C" fn door_export_devices(catalogue: &[u8], out: &mut [u8], result: &mut [u8]) -> u8
+    ensures { λ n. ⌜ ExportDevicesDoor (now (catalogue .entry)) (now (out .entry)) (now (result .entry)) n (now (out .exit)) (now (result .exit)) ⌝ }
+{
     if result.len() < RESULT {
         return SHUT;
     }
@@ -30,7 +34,9 @@ pub extern "C" fn door_export_devices(catalogue: &[u8], out: &mut [u8], result: 
 }
 
 #[no_mangle]
-pub extern "C" fn door_import_jobs(text: &[u8], out: &mut [u8], result: &mut [u8]) -> u8 {
+pub extern "C" fn door_import_jobs(text: &[u8], out: &mut [u8], result: &mut [u8]) -> u8
+    ensures { λ n. ⌜ ImportJobsDoor (now (text .entry)) (now (out .entry)) (now (result .entry)) n (now (out .exit)) (now (result .exit)) ⌝ }
+{
     if result.len() < RESULT {
         return SHUT;
     }
@@ -38,19 +44,13 @@ pub extern "C" fn door_import_jobs(text: &[u8], out: &mut [u8], result: &mut [u8
 }
 
 #[no_mangle]
-pub extern "C" fn door_export_jobs(records: &[u8], out: &mut [u8], result: &mut [u8]) -> u8 {
+pub extern "C" fn door_export_jobs(records: &[u8], out: &mut [u8], result: &mut [u8]) -> u8
+    ensures { λ n. ⌜ ExportJobsDoor (now (records .entry)) (now (out .entry)) (now (result .entry)) n (now (out .exit)) (now (result .exit)) ⌝ }
+{
     if result.len() < RESULT {
         return SHUT;
     }
     tell(export_jobs(records, out), result)
-}
-
-// How many of the start times are handed on: all, or one more than a file can have jobs.
-fn handed(bytes: usize) -> usize
-    ensures { λ r. ⌜ r ≡ min (bytes / 2) 17 ⌝ }
-{
-    let n = bytes / 2;
-    if n < 17 { n } else { 17 }
 }
 
 #[no_mangle]
@@ -59,8 +59,10 @@ pub extern "C" fn door_export_plan(
     starts: &[u8],
     out: &mut [u8],
     result: &mut [u8],
-) -> u8 {
-    if starts.len() % 2 != 0 || result.len() < RESULT {
+) -> u8
+    ensures { λ n. ⌜ ExportPlanDoor (now (file .entry)) (now (starts .entry)) (now (out .entry)) (now (result .entry)) n (now (out .exit)) (now (result .exit)) ⌝ }
+{
+    if !is_open(starts.len(), result.len()) {
         return SHUT;
     }
     let mut own = [0u16; 17];

@@ -1,21 +1,26 @@
-// The door to stepping through a round, with bytes in and out, for the tests: two a start, four an energy. It is safe, and promises nothing of its own. It
-// answers 255, and does nothing, for an odd list of start times or a result buffer under 11 bytes; else it tells every answer, a refusal too. include/doors.h
-// declares it.
+// The door to stepping through a round, with bytes in and out, for the tests: two a start, four an energy. It answers 255, and does nothing, for an odd list of
+// start times or a result buffer under 11 bytes; else it tells every answer, a refusal too. include/doors.h declares it; specs/Promises.antt says its complete
+// outcome.
+ghost use mathlib.Core.Path.{_≡_};
 ghost use Prim.Native.Nat.{_*_, _≤_};
-ghost use lib.ListN.{length};
+ghost use lib.ListN.{length, getD};
+ghost use Rattle.planner.specs.Promises.{OfFile};
+ghost use Rattle.doorway.specs.Doors.{fours};
+ghost use Rattle.doors_steps.specs.Promises.{StepsSpelled, StepDoor};
 use calls::get_starts;
 use calls::put;
 use calls::tell;
-use doors::SHUT;
-use doors::handed;
-use doors::is_shut;
-use doors::least;
+use doorway::SHUT;
+use doorway::handed;
+use doorway::is_open;
+use doorway::least;
 use planner::Answer;
 use request::read;
 use stepper::step_through;
 
 fn put_energies(energies: &[u32], out: &mut [u8])
     requires { ⌜ length (now energies) * 4 ≤ length (now out) ⌝ }
+    ensures { λ _. ⌜ now (out .exit) ≡ fours (λ k. getD (now (energies .entry)) k 0) (length (now (energies .entry))) (now (out .entry)) ⌝ }
 {
     let mut k = 0;
     while k < energies.len() {
@@ -27,7 +32,9 @@ fn put_energies(energies: &[u32], out: &mut [u8])
 }
 
 // What is lent beyond one energy a device stays as it was.
-fn step_bytes(file: &[u8], starts: &[u16], out: &mut [u8]) -> Answer {
+fn step_bytes(file: &[u8], starts: &[u16], out: &mut [u8]) -> Answer
+    ensures { λ a. ⌜ OfFile (now (file .entry)) (now (out .entry)) (StepsSpelled (now (file .entry)) (now (starts .entry)) (now (out .entry))) a (now (out .exit)) ⌝ }
+{
     let mut room = [0u32; 8];
     let places = least(out.len() / 4, 8);
     let answer = step_through(file, starts, &mut room[..places]);
@@ -40,8 +47,10 @@ fn step_bytes(file: &[u8], starts: &[u16], out: &mut [u8]) -> Answer {
 }
 
 #[no_mangle]
-pub extern "C" fn door_step(file: &[u8], starts: &[u8], out: &mut [u8], result: &mut [u8]) -> u8 {
-    if is_shut(starts.len(), result.len()) {
+pub extern "C" fn door_step(file: &[u8], starts: &[u8], out: &mut [u8], result: &mut [u8]) -> u8
+    ensures { λ n. ⌜ StepDoor (now (file .entry)) (now (starts .entry)) (now (out .entry)) (now (result .entry)) n (now (out .exit)) (now (result .exit)) ⌝ }
+{
+    if !is_open(starts.len(), result.len()) {
         return SHUT;
     }
     let mut own = [0u16; 17];

@@ -1,21 +1,30 @@
 -- `doors_steps::put_energies` meets its contract.
 -- Assumes nothing.
-use mathlib.Core.Path.{_≡_}
-use Prim.Native.Nat.{_≤_, _-_, _+_, _*_}
+use mathlib.Core.Path.{_≡_, ap, _∙_}
+use Prim.Native.Nat.{ℕ, _≤_, _-_, _+_, _*_}
 use native.Mathlib.Omega.{arith}
-use lib.ListN.{length}
+use lib.ListN.{length, getD}
+use Rattle.base.proofs.Filling.{Filled, filled-length}
+use Rattle.tables.specs.Layout.{joined}
+use Rattle.calls.specs.Bytes.{big}
+use Rattle.doorway.specs.Doors.{fours}
+use Rattle.doorway.proofs.Fours.{fours-none, fours-more}
 use borrow.Author.Needs.{needs}
 use Rattle.doors_steps.proofs.put_energies.Statement.{statement}
 use Rattle.doors_steps.proofs.put_energies.Tie as tie
 
 abbrev Inv-loop : tie.InvT-loop
-Inv-loop energies out₀ k₀ out k = (k ≤ length energies) × (length out ≡ length out₀)
+Inv-loop energies out₀ k₀ out k = (k ≤ length energies) × Filled out₀ (k * 4) (joined (λ i. big 4 (getD energies i 0)) k) out
 
 abbrev μ-loop : tie.MeasureT-loop
 μ-loop energies out₀ k₀ out k = length energies - k
 
 loop-holds : tie.Need-loop-holds Inv-loop μ-loop
-loop-holds c = search needs
+loop-holds c = (omega arith, fours-none (λ i. getD (c .before .before .args .energies .now) i 0) (c .before .before .args .out .now))
+
+-- The bytes written keep the length.
+same : (c : tie.At-loop Inv-loop μ-loop) → length (c .loop .out) ≡ length (c .before .before .before .args .out .now)
+same c = filled-length (c .loop .inv .1) (omega (arith, c .before .before .before .pre))
 
 mul-at : tie.Need-mul-at Inv-loop μ-loop
 mul-at c = search needs
@@ -30,7 +39,7 @@ part-put-start : tie.Need-part-put-start Inv-loop μ-loop
 part-put-start c = search needs
 
 part-put-end : tie.Need-part-put-end Inv-loop μ-loop
-part-put-end c = search needs
+part-put-end c = omega (arith, same (c .before), c .before .before .before .before .pre)
 
 mul-put : tie.Need-mul-put Inv-loop μ-loop
 mul-put c = search needs
@@ -51,13 +60,20 @@ loop-less : tie.Need-loop-less Inv-loop μ-loop
 loop-less c = search needs
 
 loop-again : tie.Need-loop-again Inv-loop μ-loop
-loop-again c = search needs
+loop-again c =
+    let e = c .before .before .before .before .before .before .before .before .before .args .energies .now in
+    let l = c .before .before .before .before .before .before .loop in
+    (omega arith, fours-more (λ i. getD e i 0) (l .k) (l .k * 4 + 4 - l .k * 4) (omega arith) (l .inv .1) (omega (arith, c .before .before .before .before .before .before .before .before .before .pre)) _ (c .before .before .put .ensures))
 
 same-length : tie.Need-same-length Inv-loop μ-loop
-same-length c = search needs
+same-length c = same (c .before)
 
 returns : tie.Need-returns Inv-loop μ-loop
-returns c = search needs
+returns c =
+    let s = c .before .before .before .before .args in
+    let l = c .before .loop in
+    let all : l .k ≡ length (s .energies .now) = omega arith in
+    l .inv .1 .is ∙ ap (λ (n : ℕ). fours (λ i. getD (s .energies .now) i 0) n (s .out .now)) all
 
 pub put-energies-spec : {M : Type 1} → statement M
 put-energies-spec =

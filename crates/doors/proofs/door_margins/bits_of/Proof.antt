@@ -1,9 +1,11 @@
 -- `doors::door_margins::bits_of` meets its contract.
 -- Assumes nothing.
+use mathlib.Core.Path.{ap, _∙_}
 use mir.Syntax.{w32}
 use mir.Val.{SFits, toZ, ofZ}
 use mir.Facts.{toZ-ofZ}
-use Rattle.doors.proofs.Signs.{size-pos, Raised, raised}
+use Rattle.doors.proofs.Signs.{size-pos, Raised, raised, complement-pos, complement-raised}
+use Rattle.doors.specs.Promises.{complement}
 use borrow.Author.Needs.{needs}
 use Rattle.doors.proofs.door_margins.bits_of.Statement.{statement}
 use Rattle.doors.proofs.door_margins.bits_of.Tie as tie
@@ -25,13 +27,17 @@ cast-result-2 : tie.Need-cast-result-2
 cast-result-2 c = rw (toZ-ofZ (up c .wide), toZ-ofZ (up c .fits)) (up c .size)
 
 returns : tie.Need-returns
-returns c = search needs
+returns c =
+    let m = c .before .args .margin in
+    rw (toZ-ofZ (up c .wide), toZ-ofZ (up c .fits)) (complement-raised (toZ w32 (ofZ w32 m)) (fitted (c .before)) (c .if1 .taken) ∙ ap complement (toZ-ofZ (c .before .fits .margin)))
 
 cast-result-3 : tie.Need-cast-result-3
 cast-result-3 c = size-pos _ (fitted (c .before)) (c .if1 .left)
 
 returns-2 : tie.Need-returns-2
-returns-2 c = search needs
+returns-2 c =
+    let m = c .before .args .margin in
+    complement-pos (toZ w32 (ofZ w32 m)) (c .if1 .left) ∙ ap complement (toZ-ofZ (c .before .fits .margin))
 
 pub bits-of-spec : {M : Type 1} → statement M
 bits-of-spec =

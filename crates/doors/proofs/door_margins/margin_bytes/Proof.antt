@@ -1,11 +1,18 @@
 -- `doors::door_margins::margin_bytes` meets its contract.
 -- Assumes nothing.
-use mathlib.Core.Path.{sym}
+use mathlib.Core.Path.{_≡_, sym, subst, _∙_}
 use mathlib.Core.List.{List, _++_}
+use Prim.Native.Nat.{ℕ, _/_, min}
 use native.Mathlib.Omega.{arith}
 use lib.IntN.{ℤ, pos}
-use lib.ListN.{drop, replicate}
+use lib.ListN.{length, take, drop, replicate}
 use lib.Seq.{length-take-le}
+use Rattle.schedule.specs.Quantities.{jobs}
+use Rattle.planner.specs.Promises.{MarginsOf}
+use Rattle.doorway.proofs.Opening.{kept-places, given-places}
+use Rattle.doorway.proofs.Fours.{fours-front}
+use Rattle.doors.specs.Promises.{complement, MarginsSpelled}
+use Rattle.doors.proofs.Rooms.{margins-room, margins-kept, margins-given}
 use Rattle.calls.proofs.Crossing.{front-room}
 use borrow.Author.Needs.{needs}
 use Rattle.doors.proofs.door_margins.margin_bytes.Statement.{statement}
@@ -14,6 +21,10 @@ use Rattle.doors.proofs.door_margins.margin_bytes.Tie as tie
 -- What the list of margins holds before any is written.
 abbrev zeros : List ℤ
 zeros = replicate 16 (pos 0)
+
+-- The places lent: as many as the bytes have room for, at most sixteen.
+owned : (c : tie.After-room) → length (take (c .before .least .result) zeros) ≡ min (length (c .before .before .before .before .before .args .out .now) / 4) 16
+owned c = length-take-le (c .before .least .result) zeros (omega (arith, c .before .least .ensures)) ∙ c .before .least .ensures
 
 least-requires : tie.Need-least-requires
 least-requires c κs = search needs
@@ -43,10 +54,26 @@ same-length : tie.Need-same-length
 same-length c = search needs
 
 returns : tie.Need-returns
-returns c = search needs
+returns c =
+    let s = c .before .before .before .before .before .before .before .before .before .before .before .before .before .before .before .args in
+    let p = c .before .before .before .before .before .before .before .before .before .before .before .least in
+    let a = c .before .before .before .before .before .before .before .before .before .margins in
+    let z = c .before .before .before .before .before .before .if1 .taken in
+    let own = take (p .result) zeros in
+    given-places (s .file .now) own (s .out .now) (MarginsOf (s .starts .now) own) (MarginsSpelled (s .starts .now) (s .out .now)) (a .result) (a .last .1 .1 .0) _
+    (λ R v t.
+    let room = margins-room (s .starts .now) (s .out .now) R (v .few-jobs) own (owned (c .before .before .before .before .before .before .before .before .before .before)) z t in
+    subst (λ (x : List ℕ). MarginsSpelled (s .starts .now) (s .out .now) R (a .result) x)
+    (sym (fours-front complement (pos 0) (a .last .1 .1 .0) (drop (p .result) zeros) (s .out .now) _ (jobs R) (c .before .before .before .before .before .least2 .result) (omega (arith, c .before .before .before .before .before .least2 .ensures, room .0, room .1, owned (c .before .before .before .before .before .before .before .before .before .before), p .ensures)) (room .2) (c .before .before .put-margins .ensures)))
+    (margins-given (s .starts .now) (s .out .now) R (v .few-jobs) own (owned (c .before .before .before .before .before .before .before .before .before .before)) z t))
+    z (a .ensures)
 
 returns-2 : tie.Need-returns-2
-returns-2 c = search needs
+returns-2 c =
+    let s = c .before .before .before .before .before .before .before .before .before .args in
+    let own = take (c .before .before .before .before .before .least .result) zeros in
+    kept-places (s .file .now) own (s .out .now) (MarginsOf (s .starts .now) own) (MarginsSpelled (s .starts .now) (s .out .now))
+    (λ R v b l n t. margins-kept (s .starts .now) (s .out .now) R (v .few-jobs) own (owned (c .before .before .before .before)) n t) (c .if1 .left) (c .before .before .before .margins .ensures)
 
 pub margin-bytes-spec : {M : Type 1} → statement M
 margin-bytes-spec =

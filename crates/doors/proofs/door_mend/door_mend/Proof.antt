@@ -15,8 +15,8 @@ use Rattle.doors.proofs.door_mend.door_mend.Tie as tie
 abbrev zeros : List ℕ
 zeros = replicate 17 0
 
-is-shut-requires : tie.Need-is-shut-requires
-is-shut-requires c κs = search needs
+is-open-requires : tie.Need-is-open-requires
+is-open-requires c κs = search needs
 
 returns : tie.Need-returns
 returns c = search needs
@@ -61,7 +61,7 @@ pub door-mend-spec : {M : Type 1} → statement M
 door-mend-spec =
     tie.close
     (tie.spec
-    is-shut-requires
+    is-open-requires
     returns
     handed-requires
     array-borrow-prefix-own

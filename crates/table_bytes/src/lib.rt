@@ -1,9 +1,8 @@
 // Tables as bytes: kind (1), horizon field, device count, task count and job count (2 each), then the records as they stand in a file of that kind. A count is
 // the table's true one; of the records there are at most 8, 8 and 16.
 ghost use mathlib.Core.Path.{_≡_};
-ghost use Prim.Native.Nat.{_+_, _≤_, _<_};
+ghost use Prim.Native.Nat.{_+_, _≤_, _<_, min};
 ghost use lib.ListN.{length};
-use crate::least;
 use base::pair_at;
 use tables::DeviceRecord;
 use tables::DeviceTable;
@@ -219,4 +218,10 @@ pub fn bytes_of(t: Tables) -> [u8; 297] {
     let b = with_part(a, HEAD, file, from, size);
     let c = with_part(b, tasks_at, file, from + size + 1, tasks * 5);
     with_part(c, jobs_at, file, from + size + 2 + tasks * 5, jobs * 7)
+}
+
+fn least(a: usize, b: usize) -> usize
+    ensures { λ r. ⌜ r ≡ min a b ⌝ }
+{
+    if a < b { a } else { b }
 }

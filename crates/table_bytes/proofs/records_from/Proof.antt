@@ -1,10 +1,10 @@
--- `doors::table_bytes::records_from` meets its contract.
+-- `table_bytes::records_from` meets its contract.
 -- Assumes nothing.
 use borrow.Author.Needs.{needs}
 use native.Mathlib.Omega.{arith}
 use Rattle.tables.proofs.Joining.{length-marker}
-use Rattle.doors.proofs.table_bytes.records_from.Statement.{statement}
-use Rattle.doors.proofs.table_bytes.records_from.Tie as tie
+use Rattle.table_bytes.proofs.records_from.Statement.{statement}
+use Rattle.table_bytes.proofs.records_from.Tie as tie
 
 marker-size-requires : tie.Need-marker-size-requires
 marker-size-requires c κs = search needs

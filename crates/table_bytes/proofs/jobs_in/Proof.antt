@@ -1,9 +1,9 @@
--- `doors::table_bytes::jobs_in` meets its contract.
+-- `table_bytes::jobs_in` meets its contract.
 -- Assumes nothing.
 use Prim.Native.Nat.{_≤_, _-_}
 use borrow.Author.Needs.{needs}
-use Rattle.doors.proofs.table_bytes.jobs_in.Statement.{statement}
-use Rattle.doors.proofs.table_bytes.jobs_in.Tie as tie
+use Rattle.table_bytes.proofs.jobs_in.Statement.{statement}
+use Rattle.table_bytes.proofs.jobs_in.Tie as tie
 
 abbrev Inv-loop : tie.InvT-loop
 Inv-loop s from list₀ j₀ list j = j ≤ 16

@@ -1,9 +1,9 @@
--- `doors::table_bytes::with_part` meets its contract.
+-- `table_bytes::with_part` meets its contract.
 -- Assumes nothing.
 use borrow.Author.Needs.{needs}
 use Prim.Native.Nat.{_≤_, _-_}
-use Rattle.doors.proofs.table_bytes.with_part.Statement.{statement}
-use Rattle.doors.proofs.table_bytes.with_part.Tie as tie
+use Rattle.table_bytes.proofs.with_part.Statement.{statement}
+use Rattle.table_bytes.proofs.with_part.Tie as tie
 
 abbrev Inv-loop : tie.InvT-loop
 Inv-loop to from n file out₀ i₀ out i = i ≤ n

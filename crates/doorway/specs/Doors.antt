@@ -1,0 +1,44 @@
+-- What every door does (rule 74): it hands bytes to an operation and its answer back, as a call from C does, or it is shut. What is answered stands in the
+-- promise of the operation; each door says which, and to what bytes it opens. proofs/Opening: a door has one outcome for every input if its operation has.
+-- Assumes nothing.
+use mathlib.Core.Path.{_≡_}
+use mathlib.Core.Bool.{Bool, true, false}
+use mathlib.Core.List.{List, _++_}
+use Prim.Native.Nat.{ℕ, _*_, _/_, _%_, _≤_}
+use lib.ListN.{length, take, drop}
+use Rattle.tables.specs.Layout.{joined}
+use Rattle.planner.specs.declared.Answer.{Answer}
+use Rattle.calls.specs.Bytes.{big, spread, startsIn}
+use Rattle.calls.specs.Calls.{told}
+
+-- A shut door returns 255 and writes nothing. An open one returns the answer's number, and its eleven bytes are in the result buffer.
+pub data Door {L : Type 0} (Open : Type 0) (result : List ℕ) (lent : L) (Then : Answer → L → Type 0) : ℕ → List ℕ → L → Type 0 where
+  shut : (Open → ⊥) → Door Open result lent Then 255 result lent
+  answered : {a : Answer} {after : L} → Open → Then a after → Door Open result lent Then (a .number) (told a result) after
+
+-- What a door opens to: a result buffer with room for the eleven bytes, and start times of two bytes each.
+abbrev pub Roomy : List ℕ → Type 0
+Roomy result = 11 ≤ length result
+
+abbrev pub Paired : List ℕ → Type 0
+Paired starts = length starts % 2 ≡ 0
+
+abbrev pub startsOf : List ℕ → List ℕ
+startsOf bytes = startsIn bytes (length bytes / 2)
+
+-- An operation that fills places with numbers is handed empty ones, as many as the lent bytes have room for. Where it succeeds its numbers are written to the
+-- bytes; a refusal writes nothing.
+pub data Spelled {P L : Type 0} (lent : L) (written : Answer → P → L) (Then : Answer → P → Type 0) : Answer → L → Type 0 where
+  kept : {a : Answer} {places : P} → (a .number ≡ 0 → ⊥) → Then a places → Spelled lent written Then a lent
+  given : {a : Answer} {places : P} → a .number ≡ 0 → Then a places → Spelled lent written Then a (written a places)
+
+-- The first n start times of a list, two bytes each, or the first n values of a function, four bytes each; what is lent beyond stays as it was.
+abbrev pub twos : List ℕ → ℕ → List ℕ → List ℕ
+twos starts n lent = spread (take n starts) ++ drop (n * 2) lent
+
+abbrev pub fours : (ℕ → ℕ) → ℕ → List ℕ → List ℕ
+fours f n lent = joined (λ i. big 4 (f i)) n ++ drop (n * 4) lent
+
+-- What a test in the code tells.
+abbrev pub Decides : Bool → Type 0 → Type 0
+Decides b P = (b ≡ true → P) × (b ≡ false → P → ⊥)
