@@ -1,3 +1,4 @@
 pub mod Signs
 pub mod Rooms
+pub mod Mending
 pub mod Only

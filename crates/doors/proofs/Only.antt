@@ -10,10 +10,12 @@ use Rattle.planner.specs.Promises.{OfFile, Judged, MarginsOf}
 use Rattle.planner.proofs.Only.{only-judged, only-margined}
 use Rattle.possible.specs.Promises.{PossibleOf}
 use Rattle.possible.proofs.Only.{only-possible}
+use Rattle.mend.specs.Promises.{Lent, lending, MendOf}
+use Rattle.mend.proofs.Only.{only-mended}
 use Rattle.calls.specs.Calls.{blank}
 use Rattle.doorway.specs.Doors.{startsOf, twos, fours}
 use Rattle.doorway.proofs.Opening.{only-door, only-spelled}
-use Rattle.doors.specs.Promises.{complement, empty, VerdictDoor, MarginsSpelled, MarginsDoor, PossibleSpelled, PossibleDoor}
+use Rattle.doors.specs.Promises.{complement, empty, VerdictDoor, MarginsSpelled, MarginsDoor, PossibleSpelled, PossibleDoor, MendSpelled, MendDoor}
 
 pub only-verdict-door : (file starts result : List ℕ) {n n′ : ℕ} {r r′ : List ℕ}
     → VerdictDoor file starts result n r → VerdictDoor file starts result n′ r′ → (n ≡ n′) × (r ≡ r′)
@@ -34,3 +36,12 @@ module _ {n n′ : ℕ} {l l′ r r′ : List ℕ} where
   only-possible-door file budget lent result =
       only-door result lent (OfFile file lent (PossibleSpelled budget lent))
       (only-spelled file (blank lent) lent (PossibleOf budget (blank lent)) (λ R a s. twos s (jobs R) lent) (λ a a′ m m′. only-possible file budget (blank lent)))
+
+pub only-mend-door : (file starts : List ℕ) (lent : Lent) (result : List ℕ) {n n′ : ℕ} {l l′ : Lent} {r r′ : List ℕ}
+    → MendDoor file starts lent result n l r → MendDoor file starts lent result n′ l′ r′ → (n ≡ n′) × (r ≡ r′) × (l ≡ l′)
+only-mend-door file starts lent result =
+    let own = lending (blank (lent .starts)) (blank (lent .moved)) in
+    only-door result lent (OfFile file lent (MendSpelled (startsOf starts) lent))
+    (only-spelled file own lent (MendOf (startsOf starts) own)
+    (λ R a l. lending (twos (l .starts) (jobs R) (lent .starts)) (twos (l .moved) (3 * a .count) (lent .moved)))
+    (λ a a′ m m′. only-mended file (startsOf starts) own))

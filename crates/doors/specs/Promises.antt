@@ -10,6 +10,7 @@ use Rattle.schedule.specs.Quantities.{jobs}
 use Rattle.planner.specs.declared.Answer.{Answer}
 use Rattle.planner.specs.Promises.{OfFile, Judged, MarginsOf}
 use Rattle.possible.specs.Promises.{PossibleOf}
+use Rattle.mend.specs.Promises.{Lent, lending, MendOf}
 use Rattle.calls.specs.Calls.{blank}
 use Rattle.doorway.specs.Doors.{Door, Roomy, Paired, startsOf, Spelled, twos, fours}
 
@@ -41,3 +42,14 @@ PossibleSpelled budget lent R = Spelled lent (λ a s. twos s (jobs R) lent) (Pos
 
 abbrev pub PossibleDoor : (file : List ℕ) (budget : ℕ) (lent result : List ℕ) → ℕ → List ℕ → List ℕ → Type 0
 PossibleDoor file budget lent result n lent′ result′ = Door (Roomy result) result lent (OfFile file lent (PossibleSpelled budget lent)) n result′ lent′
+
+-- ---- `door_mend`: two bytes a job, and two for each number of the moves
+
+abbrev pub MendSpelled : (given : List ℕ) (lent : Lent) → Recorder → Answer → Lent → Type 0
+MendSpelled given lent R =
+    Spelled lent (λ a l. lending (twos (l .starts) (jobs R) (lent .starts)) (twos (l .moved) (3 * a .count) (lent .moved)))
+    (MendOf given (lending (blank (lent .starts)) (blank (lent .moved))) R)
+
+abbrev pub MendDoor : (file starts : List ℕ) (lent : Lent) (result : List ℕ) → ℕ → Lent → List ℕ → Type 0
+MendDoor file starts lent result n lent′ result′ =
+    Door (Paired starts × Roomy result) result lent (OfFile file lent (MendSpelled (startsOf starts) lent)) n result′ lent′

@@ -1,4 +1,7 @@
 // The door to mending: two bytes a number, in the given starts, the new ones and the moves.
+ghost use Rattle.planner.specs.Promises.{OfFile};
+ghost use Rattle.mend.specs.Promises.{lending};
+ghost use Rattle.doors.specs.Promises.{MendSpelled, MendDoor};
 use calls::get_starts;
 use calls::put_starts;
 use calls::tell;
@@ -10,7 +13,9 @@ use mend::mend;
 use planner::Answer;
 
 // What is lent beyond the new starts and the moves stays as it was.
-fn mend_bytes(file: &[u8], given: &[u16], out: &mut [u8], moved: &mut [u8]) -> Answer {
+fn mend_bytes(file: &[u8], given: &[u16], out: &mut [u8], moved: &mut [u8]) -> Answer
+    ensures { λ a. ⌜ OfFile (now (file .entry)) (lending (now (out .entry)) (now (moved .entry))) (MendSpelled (now (given .entry)) (lending (now (out .entry)) (now (moved .entry)))) a (lending (now (out .exit)) (now (moved .exit))) ⌝ }
+{
     let mut starts = [0u16; 16];
     let mut moves = [0u16; 48];
     let places = least(out.len() / 2, 16);
@@ -32,7 +37,9 @@ pub extern "C" fn door_mend(
     out: &mut [u8],
     moved: &mut [u8],
     result: &mut [u8],
-) -> u8 {
+) -> u8
+    ensures { λ n. ⌜ MendDoor (now (file .entry)) (now (starts .entry)) (lending (now (out .entry)) (now (moved .entry))) (now (result .entry)) n (lending (now (out .exit)) (now (moved .exit))) (now (result .exit)) ⌝ }
+{
     if !is_open(starts.len(), result.len()) {
         return SHUT;
     }

@@ -7,6 +7,11 @@ use Prim.Native.Nat.{ℕ}
 use lib.ListN.{replicate}
 use lib.Seq.{length-take-le}
 use Rattle.calls.proofs.Crossing.{own-room}
+use Rattle.mend.specs.Promises.{lending}
+use Rattle.doorway.specs.Doors.{shut, answered}
+use Rattle.doorway.proofs.Opening.{handed-own}
+use Rattle.doors.proofs.Mending.{mend-all}
+use borrow.Author.Tests.{not-true, not-false}
 use borrow.Author.Needs.{needs}
 use Rattle.doors.proofs.door_mend.door_mend.Statement.{statement}
 use Rattle.doors.proofs.door_mend.door_mend.Tie as tie
@@ -19,7 +24,7 @@ is-open-requires : tie.Need-is-open-requires
 is-open-requires c κs = search needs
 
 returns : tie.Need-returns
-returns c = search needs
+returns c = shut (c .before .is-open .ensures .1 (not-true _ (c .if1 .taken)))
 
 handed-requires : tie.Need-handed-requires
 handed-requires c κs = search needs
@@ -55,7 +60,14 @@ same-length-3 : tie.Need-same-length-3
 same-length-3 c = search needs
 
 returns-2 : tie.Need-returns-2
-returns-2 c = search needs
+returns-2 c =
+    let s = c .before .before .before .before .before .before .before .before .before .before .before .before .before .before .before .before .before .before .before .before .before .before .before .args in
+    let told = c .before .before .tell .ensures in
+    let n = c .before .before .before .before .before .before .before .before .before .before .before .before .before .before .before .handed in
+    let starts = c .before .before .before .before .before .before .before .before .before .before .before .before .before .get-starts in
+    rw (told .0, told .1)
+    (answered (c .before .before .before .before .before .before .before .before .before .before .before .before .before .before .before .before .before .is-open .ensures .0 (not-false _ (c .before .before .before .before .before .before .before .before .before .before .before .before .before .before .before .before .if1 .left)))
+    (mend-all (s .file .now) (lending (s .out .now) (s .moved .now)) (handed-own (s .starts .now) zeros (starts .last .1 .0) (n .result) (omega (arith, n .ensures)) (n .ensures) (starts .ensures)) (c .before .before .before .before .before .before .before .before .mend-bytes .ensures)))
 
 pub door-mend-spec : {M : Type 1} → statement M
 door-mend-spec =
