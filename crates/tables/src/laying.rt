@@ -4,7 +4,7 @@ ghost use mathlib.Core.List.{[], _∷_, _++_};
 ghost use Prim.Native.Nat.{ℕ, _+_, _*_, _≤_, _<_, min};
 ghost use lib.ListN.{length, drop, getD};
 ghost use Rattle.tables.specs.Records.{pairBytes, firstBytes, secondBytes, powerBytes, powersBytes, thirdBytes, deviceBytes, taskBytes, jobBytes, blankDevice, blankTask, blankJob};
-ghost use Rattle.tables.specs.Layout.{marker, countIn, recordIn, sectionOf, bytesOf};
+ghost use Rattle.tables.specs.Layout.{marker, countIn, recordIn, joined, sectionOf, bytesOf};
 ghost use Rattle.tables.specs.Held.{cut, held, appended};
 use crate::DeviceRecord;
 use crate::DeviceTable;
@@ -20,7 +20,7 @@ use crate::listing::blank_device;
 use crate::listing::blank_job;
 use crate::listing::blank_task;
 
-fn empty() -> File
+pub fn empty() -> File
     ensures { λ r. ⌜ r ≡ held [] ⌝ }
 {
     File {
@@ -29,7 +29,7 @@ fn empty() -> File
     }
 }
 
-fn push(f: File, byte: u8) -> File
+pub fn push(f: File, byte: u8) -> File
     requires { ⌜ f .count < 297 ⌝ }
     ensures { λ r. ⌜ r ≡ appended f (byte ∷ []) ⌝ }
 {
@@ -40,7 +40,7 @@ fn push(f: File, byte: u8) -> File
     out
 }
 
-fn push_pair(f: File, number: u16) -> File
+pub fn push_pair(f: File, number: u16) -> File
     requires { ⌜ f .count + 2 ≤ 297 ⌝ }
     ensures { λ r. ⌜ r ≡ appended f (pairBytes number) ⌝ }
 {
@@ -204,19 +204,28 @@ fn count_of(t: Tables, part: Part) -> usize
     }
 }
 
-// A table after its count.
-fn push_section(f: File, t: Tables, part: Part) -> File
-    requires { ⌜ f .count + length (sectionOf (cut t) part) ≤ 297 ⌝ }
-    ensures { λ r. ⌜ r ≡ appended f (sectionOf (cut t) part) ⌝ }
+// The first n records of a table.
+pub fn push_records(f: File, t: Tables, part: Part, n: usize) -> File
+    requires { ⌜ f .count + length (joined (recordIn t part) n) ≤ 297 ⌝ }
+    ensures { λ r. ⌜ r ≡ appended f (joined (recordIn t part) n) ⌝ }
 {
-    let n = count_of(t, part);
-    let mut out = push(f, n as u8);
+    let mut out = f;
     let mut k: usize = 0;
     while k < n {
         out = push_record(out, t, part, k);
         k += 1;
     }
     out
+}
+
+// A table after its count.
+fn push_section(f: File, t: Tables, part: Part) -> File
+    requires { ⌜ f .count + length (sectionOf (cut t) part) ≤ 297 ⌝ }
+    ensures { λ r. ⌜ r ≡ appended f (sectionOf (cut t) part) ⌝ }
+{
+    let n = count_of(t, part);
+    let counted = push(f, n as u8);
+    push_records(counted, t, part, n)
 }
 
 // The file that the tables make.

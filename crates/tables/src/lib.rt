@@ -9,15 +9,22 @@ pub use crate::kinds::device_size;
 pub use crate::kinds::kind_of;
 pub use crate::kinds::marker_size;
 pub use crate::laying::copy;
+pub use crate::laying::empty;
 pub use crate::laying::file_of;
+pub use crate::laying::push;
+pub use crate::laying::push_pair;
+pub use crate::laying::push_records;
 pub use crate::listing::averaged;
 pub use crate::listing::device_at;
+pub use crate::listing::devices_at;
 pub use crate::listing::first_at;
 pub use crate::listing::job_at;
+pub use crate::listing::jobs_at;
 pub use crate::listing::leveled;
 pub use crate::listing::no_tables;
 pub use crate::listing::tables_in;
 pub use crate::listing::task_at;
+pub use crate::listing::tasks_at;
 
 // The kind of a file: what its first bytes say of the device records in it (rules 75 and 80).
 pub enum Kind {
@@ -28,7 +35,8 @@ pub enum Kind {
 
 // A device as a file gives it: the times of waking and of shutting down, the powers working and asleep, and those of the two moves; how many sleep levels there
 // are, and the powers of those below the first. Files of the first and the third kind have one time and one power for both moves: there `wake` and `pwake` count,
-// and `averaged` and `leveled` fill in all. Only those of the third kind have more than one level.
+// and `averaged` and `leveled` fill in all. Only those of the third kind have more than one level. What a kind does not tell is not written: a record whose two
+// moves differ comes back from a file of the first kind with those of waking for both, and it is not refused for it (`told` in specs/Records).
 pub struct DeviceRecord {
     pub wake: u8,
     pub shut: u8,

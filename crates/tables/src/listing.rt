@@ -2,10 +2,11 @@
 ghost use mathlib.Core.Path.{_≡_};
 ghost use Prim.Native.Nat.{ℕ, _+_, _*_, _≤_, _<_, min};
 ghost use Rattle.base.specs.Bytes.{byteAt, pairAt};
+ghost use Rattle.base.specs.Refusals.{after};
 ghost use lib.ListN.{length};
 ghost use Rattle.tables.specs.Records as Records;
 ghost use Rattle.tables.specs.Records.{firstAt, secondAt, thirdAt, powerOf, deviceAt, deviceSize, taskAt, jobAt, blankDevice, blankTask, blankJob};
-ghost use Rattle.tables.specs.Layout.{kindOf, bodyOf, devicePlace, devicesHeld, tasksHeld, jobsHeld, tablesAs, tablesOf, noTables};
+ghost use Rattle.tables.specs.Layout.{kindOf, bodyOf, devicesHeld, tasksHeld, jobsHeld, tablesAs, tablesOf, noTables};
 ghost use Rattle.tables.specs.Held.{Whole};
 use crate::DeviceRecord;
 use crate::DeviceTable;
@@ -170,13 +171,13 @@ pub(crate) fn blank_job() -> JobRecord
     }
 }
 
-// The first n devices: each record stands after the one before it.
-fn devices_at(s: &[u8], kind: Kind, n: usize) -> DeviceTable
-    requires { ⌜ (n ≤ 8) × (devicePlace kind (now s) n ≤ length (now s)) ⌝ }
-    ensures { λ r. ⌜ r ≡ devicesHeld (λ k. deviceAt kind (now (s .entry)) (devicePlace kind (now (s .entry)) k)) n ⌝ }
+// The n devices from a place on: each record stands after the one before it.
+pub fn devices_at(s: &[u8], kind: Kind, n: usize, from: usize) -> DeviceTable
+    requires { ⌜ (n ≤ 8) × (after (deviceSize kind (now s)) n from ≤ length (now s)) ⌝ }
+    ensures { λ r. ⌜ r ≡ devicesHeld (λ k. deviceAt kind (now (s .entry)) (after (deviceSize kind (now (s .entry))) k from)) n ⌝ }
 {
     let mut list = [blank_device(); 8];
-    let mut at: usize = 3;
+    let mut at: usize = from;
     let mut k: usize = 0;
     while k < n {
         list[k] = device_at(s, kind, at);
@@ -187,7 +188,7 @@ fn devices_at(s: &[u8], kind: Kind, n: usize) -> DeviceTable
 }
 
 // The n records of a table, from a place on.
-fn tasks_at(s: &[u8], n: usize, from: usize) -> TaskTable
+pub fn tasks_at(s: &[u8], n: usize, from: usize) -> TaskTable
     requires { ⌜ (n ≤ 8) × (from + n * 5 ≤ length (now s)) ⌝ }
     ensures { λ r. ⌜ r ≡ tasksHeld (λ i. taskAt (now (s .entry)) (from + i * 5)) n ⌝ }
 {
@@ -200,7 +201,7 @@ fn tasks_at(s: &[u8], n: usize, from: usize) -> TaskTable
     TaskTable { count: n, list }
 }
 
-fn jobs_at(s: &[u8], n: usize, from: usize) -> JobTable
+pub fn jobs_at(s: &[u8], n: usize, from: usize) -> JobTable
     requires { ⌜ (n ≤ 16) × (from + n * 7 ≤ length (now s)) ⌝ }
     ensures { λ r. ⌜ r ≡ jobsHeld (λ j. jobAt (now (s .entry)) (from + j * 7)) n ⌝ }
 {
@@ -223,7 +224,7 @@ fn tables_as(s: &[u8], kind: Kind) -> Tables
     let m = s[at] as usize;
     let place = at + 1 + m * 5;
     let count = s[place] as usize;
-    let devices = devices_at(s, kind, n);
+    let devices = devices_at(s, kind, n, 3);
     let tasks = tasks_at(s, m, at + 1);
     let jobs = jobs_at(s, count, place + 1);
     Tables {

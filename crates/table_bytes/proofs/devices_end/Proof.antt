@@ -1,34 +1,34 @@
 -- `table_bytes::devices_end` meets its contract.
 -- Assumes nothing.
+use mathlib.Core.Path.{_≡_, refl, sym, _∙_}
+use Prim.Native.Nat.{_+_, _-_, _*_, _≤_}
+use native.Mathlib.Omega.{arith}
+use native.Mathlib.Numerals.{add-one}
+use Rattle.base.specs.Refusals.{after}
+use Rattle.base.proofs.Records.{after-more}
+use Rattle.tables.specs.Records.{deviceSize}
+use Rattle.table_bytes.proofs.Sizes.{device-most, devices-most}
 use borrow.Author.Needs.{needs}
-use Prim.Native.Nat.{_≤_, _-_}
-use lib.ListN.{length}
 use Rattle.table_bytes.proofs.devices_end.Statement.{statement}
 use Rattle.table_bytes.proofs.devices_end.Tie as tie
 
 abbrev Inv-loop : tie.InvT-loop
-Inv-loop s kind n at₀ k₀ at k = (k ≤ 8) × (at ≤ length s)
+Inv-loop s kind n at₀ k₀ at k = (k ≤ n) × (at ≡ after (deviceSize kind s) k 9)
 
 abbrev μ-loop : tie.MeasureT-loop
-μ-loop s kind n at₀ k₀ at k = 8 - k
+μ-loop s kind n at₀ k₀ at k = n - k
 
 loop-holds : tie.Need-loop-holds Inv-loop μ-loop
-loop-holds c = search needs
-
-least-requires : tie.Need-least-requires Inv-loop μ-loop
-least-requires c κs = search needs
+loop-holds c = (omega arith, refl)
 
 device-size-requires : tie.Need-device-size-requires Inv-loop μ-loop
 device-size-requires c κs = search needs
 
-sub-if2 : tie.Need-sub-if2 Inv-loop μ-loop
-sub-if2 c = search needs
-
-returns : tie.Need-returns Inv-loop μ-loop
-returns c = search needs
-
 add-at : tie.Need-add-at Inv-loop μ-loop
-add-at c = search needs
+add-at c =
+    let l = c .before .before .loop in
+    let a = c .before .before .before .before .args in
+    omega (arith, l .inv .0, l .inv .1, c .before .before .before .before .pre, c .device-size .ensures, device-most (a .kind) (a .s .now) (l .at), devices-most (a .kind) (a .s .now) (l .k))
 
 add-k : tie.Need-add-k Inv-loop μ-loop
 add-k c = search needs
@@ -37,24 +37,19 @@ loop-less : tie.Need-loop-less Inv-loop μ-loop
 loop-less c = search needs
 
 loop-again : tie.Need-loop-again Inv-loop μ-loop
-loop-again c = search needs
+loop-again c =
+    let l = c .before .before .loop in
+    let a = c .before .before .before .before .args in
+    (omega arith, rw (c .device-size .ensures, l .inv .1, add-one (l .k)) (sym (after-more (deviceSize (a .kind) (a .s .now)) (l .k) 9)))
 
-returns-2 : tie.Need-returns-2 Inv-loop μ-loop
-returns-2 c = search needs
+returns : tie.Need-returns Inv-loop μ-loop
+returns c =
+    let l = c .before .loop in
+    let a = c .before .before .before .args in
+    let all : l .k ≡ a .n = omega arith in
+    (l .inv .1 ∙ rw all, omega (arith, l .inv .0, l .inv .1, c .before .before .before .pre, devices-most (a .kind) (a .s .now) (l .k)))
 
 pub devices-end-spec : {M : Type 1} → statement M
 devices-end-spec =
     tie.close
-    (tie.spec
-    Inv-loop
-    μ-loop
-    loop-holds
-    least-requires
-    device-size-requires
-    sub-if2
-    returns
-    add-at
-    add-k
-    loop-less
-    loop-again
-    returns-2)
+    (tie.spec Inv-loop μ-loop loop-holds device-size-requires add-at add-k loop-less loop-again returns)

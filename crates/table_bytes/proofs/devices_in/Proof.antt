@@ -1,76 +1,22 @@
 -- `table_bytes::devices_in` meets its contract.
 -- Assumes nothing.
+use Prim.Native.Nat.{_≤_}
+use native.Mathlib.Omega.{arith}
 use borrow.Author.Needs.{needs}
-use Prim.Native.Nat.{_≤_, _-_}
-use lib.ListN.{length}
 use Rattle.table_bytes.proofs.devices_in.Statement.{statement}
 use Rattle.table_bytes.proofs.devices_in.Tie as tie
 
-abbrev Inv-loop : tie.InvT-loop
-Inv-loop s kind n list₀ at₀ k₀ list at k = (k ≤ 8) × (at ≤ length s)
+count-at-requires : tie.Need-count-at-requires
+count-at-requires c κs = search needs
 
-abbrev μ-loop : tie.MeasureT-loop
-μ-loop s kind n list₀ at₀ k₀ list at k = 8 - k
-
-averaged-requires : tie.Need-averaged-requires Inv-loop μ-loop
-averaged-requires c κs = search needs
-
-loop-holds : tie.Need-loop-holds Inv-loop μ-loop
-loop-holds c = search needs
-
-least-requires : tie.Need-least-requires Inv-loop μ-loop
+least-requires : tie.Need-least-requires
 least-requires c κs = search needs
 
-device-size-requires : tie.Need-device-size-requires Inv-loop μ-loop
-device-size-requires c κs = search needs
+devices-at-requires : tie.Need-devices-at-requires
+devices-at-requires c κs = rw (c .least .ensures, c .before .count-at .ensures) (omega arith, c .before .before .before .pre .1)
 
-sub-if2 : tie.Need-sub-if2 Inv-loop μ-loop
-sub-if2 c = search needs
-
-returns : tie.Need-returns Inv-loop μ-loop
-returns c = search needs
-
-device-at-requires : tie.Need-device-at-requires Inv-loop μ-loop
-device-at-requires c κs = search needs
-
-mul-list : tie.Need-mul-list Inv-loop μ-loop
-mul-list c = search needs
-
-array-set-from-list : tie.Need-array-set-from-list Inv-loop μ-loop
-array-set-from-list c = search needs
-
-add-at : tie.Need-add-at Inv-loop μ-loop
-add-at c = search needs
-
-add-k : tie.Need-add-k Inv-loop μ-loop
-add-k c = search needs
-
-loop-less : tie.Need-loop-less Inv-loop μ-loop
-loop-less c = search needs
-
-loop-again : tie.Need-loop-again Inv-loop μ-loop
-loop-again c = search needs
-
-returns-2 : tie.Need-returns-2 Inv-loop μ-loop
-returns-2 c = search needs
+returns : tie.Need-returns
+returns c = rw (c .before .devices-at .ensures, c .before .before .least .ensures, c .before .before .before .count-at .ensures)
 
 pub devices-in-spec : {M : Type 1} → statement M
-devices-in-spec =
-    tie.close
-    (tie.spec
-    Inv-loop
-    μ-loop
-    averaged-requires
-    loop-holds
-    least-requires
-    device-size-requires
-    sub-if2
-    returns
-    device-at-requires
-    mul-list
-    array-set-from-list
-    add-at
-    add-k
-    loop-less
-    loop-again
-    returns-2)
+devices-in-spec = tie.close (tie.spec count-at-requires least-requires devices-at-requires returns)

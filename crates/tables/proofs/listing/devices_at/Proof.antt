@@ -6,18 +6,18 @@ use Prim.Native.Nat.{ℕ, _≤_, _+_, _-_}
 use native.Mathlib.Omega.{arith}
 use native.Mathlib.Numerals.{add-one}
 use Rattle.base.specs.Lists.{upTo, padded}
+use Rattle.base.specs.Refusals.{after}
 use Rattle.base.proofs.Arrays.{upTo-fill}
 use Rattle.base.proofs.Records.{after-more, after-one}
 use Rattle.tables.specs.Records.{deviceAt, deviceSize, blankDevice}
-use Rattle.tables.specs.Layout.{devicePlace}
 use Rattle.tables.proofs.listing.devices_at.Statement.{statement}
 use Rattle.tables.proofs.listing.devices_at.Tie as tie
 
 abbrev Inv-loop : tie.InvT-loop
-Inv-loop s kind n list₀ at₀ k₀ list at k = (k ≤ n) × (at ≡ devicePlace kind s k) × (list ≡ padded 8 blankDevice (upTo (λ x. deviceAt kind s (devicePlace kind s x)) k))
+Inv-loop s kind n from list₀ at₀ k₀ list at k = (k ≤ n) × (at ≡ after (deviceSize kind s) k from) × (list ≡ padded 8 blankDevice (upTo (λ x. deviceAt kind s (after (deviceSize kind s) x from)) k))
 
 abbrev μ-loop : tie.MeasureT-loop
-μ-loop s kind n list₀ at₀ k₀ list at k = n - k
+μ-loop s kind n from list₀ at₀ k₀ list at k = n - k
 
 blank-device-requires : tie.Need-blank-device-requires Inv-loop μ-loop
 blank-device-requires c κs = search needs
@@ -30,7 +30,7 @@ device-at-requires : tie.Need-device-at-requires Inv-loop μ-loop
 device-at-requires c κs =
     let l = c .before .loop in
     let a = c .before .before .before .before .args in
-    rw (l .inv .1) (omega (arith, after-one (deviceSize (a .kind) (a .s .now)) (l .k) (a .n) 3 (c .loop-test .taken), c .before .before .before .before .pre))
+    rw (l .inv .1) (omega (arith, after-one (deviceSize (a .kind) (a .s .now)) (l .k) (a .n) (a .from) (c .loop-test .taken), c .before .before .before .before .pre))
 
 mul-list : tie.Need-mul-list Inv-loop μ-loop
 mul-list c = search needs
@@ -45,7 +45,7 @@ add-at : tie.Need-add-at Inv-loop μ-loop
 add-at c =
     let l = c .before .before .before .loop in
     let a = c .before .before .before .before .before .before .args in
-    rw (c .device-size .ensures, l .inv .1) (omega (arith, after-one (deviceSize (a .kind) (a .s .now)) (l .k) (a .n) 3 (c .before .before .loop-test .taken), c .before .before .before .before .before .before .pre))
+    rw (c .device-size .ensures, l .inv .1) (omega (arith, after-one (deviceSize (a .kind) (a .s .now)) (l .k) (a .n) (a .from) (c .before .before .loop-test .taken), c .before .before .before .before .before .before .pre))
 
 add-k : tie.Need-add-k Inv-loop μ-loop
 add-k c = search needs
@@ -58,8 +58,8 @@ loop-again c =
     let l = c .before .before .before .loop in
     let a = c .before .before .before .before .before .before .args in (
       omega arith,
-      rw (c .device-size .ensures, l .inv .1, add-one (l .k)) (sym (after-more (deviceSize (a .kind) (a .s .now)) (l .k) 3)),
-      rw (c .before .device-at .ensures, l .inv .2, l .inv .1) (upTo-fill 8 blankDevice (λ (x : ℕ). deviceAt (a .kind) (a .s .now) (devicePlace (a .kind) (a .s .now) x)) (l .k) (omega arith)),
+      rw (c .device-size .ensures, l .inv .1, add-one (l .k)) (sym (after-more (deviceSize (a .kind) (a .s .now)) (l .k) (a .from))),
+      rw (c .before .device-at .ensures, l .inv .2, l .inv .1) (upTo-fill 8 blankDevice (λ (x : ℕ). deviceAt (a .kind) (a .s .now) (after (deviceSize (a .kind) (a .s .now)) x (a .from))) (l .k) (omega arith)),
     )
 
 returns : tie.Need-returns Inv-loop μ-loop
