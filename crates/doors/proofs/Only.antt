@@ -1,21 +1,28 @@
 -- No second outcome satisfies what a door promises: for every input one number, and one state of every lent byte.
 -- Assumes nothing.
-use mathlib.Core.Path.{_≡_, refl}
-use mathlib.Core.List.{List}
+use mathlib.Core.Path.{_≡_, refl, ap, _∙_}
+use mathlib.Core.List.{List, _++_}
 use Prim.Native.Nat.{ℕ, _*_}
 use lib.IntN.{pos}
-use lib.ListN.{getD}
+use native.Mathlib.Omega.{arith}
+use lib.ListN.{length, getD, drop}
 use Rattle.schedule.specs.Quantities.{jobs}
-use Rattle.planner.specs.Promises.{OfFile, Judged, MarginsOf}
-use Rattle.planner.proofs.Only.{only-judged, only-margined}
+use Rattle.planner.specs.declared.Answer.{Answer}
+use Rattle.planner.specs.declared.Listing.{Listing}
+use Rattle.planner.specs.Promises.{success, OfFile, Judged, MarginsOf, Written}
+use Rattle.planner.proofs.Only.{only-judged, only-margined, only-written, only-listed}
+use Rattle.catalogue.specs.Building.{Built}
+use Rattle.catalogue.proofs.Only.{only-built}
 use Rattle.possible.specs.Promises.{PossibleOf}
 use Rattle.possible.proofs.Only.{only-possible}
 use Rattle.mend.specs.Promises.{Lent, lending, MendOf}
 use Rattle.mend.proofs.Only.{only-mended}
 use Rattle.calls.specs.Calls.{blank}
+use Rattle.table_bytes.specs.TableBytes.{tablesFrom, tableBytes}
 use Rattle.doorway.specs.Doors.{startsOf, twos, fours}
 use Rattle.doorway.proofs.Opening.{only-door, only-spelled}
-use Rattle.doors.specs.Promises.{complement, empty, VerdictDoor, MarginsSpelled, MarginsDoor, PossibleSpelled, PossibleDoor, MendSpelled, MendDoor}
+use Rattle.doors.specs.Promises.{complement, empty, VerdictDoor, MarginsSpelled, MarginsDoor, PossibleSpelled, PossibleDoor, MendSpelled, MendDoor, WriteDoor, othersFrom, BuildDoor, TablesTold, TablesDoor}
+use Rattle.doors.specs.Promises as D
 
 pub only-verdict-door : (file starts result : List ℕ) {n n′ : ℕ} {r r′ : List ℕ}
     → VerdictDoor file starts result n r → VerdictDoor file starts result n′ r′ → (n ≡ n′) × (r ≡ r′)
@@ -45,3 +52,35 @@ only-mend-door file starts lent result =
     (only-spelled file own lent (MendOf (startsOf starts) own)
     (λ R a l. lending (twos (l .starts) (jobs R) (lent .starts)) (twos (l .moved) (3 * a .count) (lent .moved)))
     (λ a a′ m m′. only-mended file (startsOf starts) own))
+
+-- What is told of a file's tables goes by its one listing.
+one-told : (file lent : List ℕ) {a a′ : Answer} {l l′ : List ℕ} → TablesTold file lent a l → TablesTold file lent a′ l′ → (a ≡ a′) × (l ≡ l′)
+one-told file lent (D.TablesTold.refused p n) (D.TablesTold.refused p′ n′) = (ap (λ (r : Listing). r .answer) (only-listed file p p′), refl)
+one-told file lent (D.TablesTold.refused p n) (D.TablesTold.short p′ z′ h′) = absurd (n (ap (λ (r : Listing). r .answer .number) (only-listed file p p′) ∙ z′))
+one-told file lent (D.TablesTold.refused p n) (D.TablesTold.given p′ z′ h′) = absurd (n (ap (λ (r : Listing). r .answer .number) (only-listed file p p′) ∙ z′))
+one-told file lent (D.TablesTold.short p z h) (D.TablesTold.refused p′ n′) = absurd (n′ (ap (λ (r : Listing). r .answer .number) (only-listed file p′ p) ∙ z))
+one-told file lent (D.TablesTold.short p z h) (D.TablesTold.short p′ z′ h′) = (refl, refl)
+one-told file lent (D.TablesTold.short p z h) (D.TablesTold.given p′ z′ h′) =
+    let e = ap (λ (r : Listing). length (tableBytes (r .tables))) (only-listed file p p′) in
+    absurd (omega (arith, e, h, h′))
+one-told file lent (D.TablesTold.given p z h) (D.TablesTold.refused p′ n′) = absurd (n′ (ap (λ (r : Listing). r .answer .number) (only-listed file p′ p) ∙ z))
+one-told file lent (D.TablesTold.given p z h) (D.TablesTold.short p′ z′ h′) =
+    let e = ap (λ (r : Listing). length (tableBytes (r .tables))) (only-listed file p p′) in
+    absurd (omega (arith, e, h, h′))
+one-told file lent (D.TablesTold.given p z h) (D.TablesTold.given p′ z′ h′) =
+    let e = only-listed file p p′ in (
+      ap (λ (r : Listing). success (r .answer .horizon) 0 (length (tableBytes (r .tables)))) e,
+      ap (λ (r : Listing). tableBytes (r .tables) ++ drop (length (tableBytes (r .tables))) lent) e,
+    )
+
+module _ {n n′ : ℕ} {l l′ r r′ : List ℕ} where
+  pub only-write-door : (tables lent result : List ℕ) → WriteDoor tables lent result n l r → WriteDoor tables lent result n′ l′ r′ → (n ≡ n′) × (r ≡ r′) × (l ≡ l′)
+  only-write-door tables lent result = only-door result lent (Written (tablesFrom tables) lent) (λ a a′ m m′. only-written (tablesFrom tables) lent)
+
+  pub only-build-door : (catalogue wanted tables lent result : List ℕ)
+      → BuildDoor catalogue wanted tables lent result n l r → BuildDoor catalogue wanted tables lent result n′ l′ r′ → (n ≡ n′) × (r ≡ r′) × (l ≡ l′)
+  only-build-door catalogue wanted tables lent result =
+      only-door result lent (Built catalogue wanted (othersFrom tables) lent) (λ a a′ m m′. only-built catalogue wanted (othersFrom tables) lent)
+
+  pub only-tables-door : (file lent result : List ℕ) → TablesDoor file lent result n l r → TablesDoor file lent result n′ l′ r′ → (n ≡ n′) × (r ≡ r′) × (l ≡ l′)
+  only-tables-door file lent result = only-door result lent (TablesTold file lent) (λ a a′ m m′. one-told file lent)

@@ -1,17 +1,22 @@
 -- What the doors promise: for each its complete outcome, the number returned and every lent byte after it. What is answered stands in the promise of the
 -- operation; here is to what a door opens, and how its bytes cross. proofs/Only: each door has one outcome for every input.
 -- Assumes nothing.
-use mathlib.Core.List.{List}
-use Prim.Native.Nat.{ℕ, suc, _-_, _*_, _/_}
+use mathlib.Core.Path.{_≡_}
+use mathlib.Core.List.{List, _++_}
+use Prim.Native.Nat.{ℕ, suc, _-_, _*_, _/_, _≤_, _<_}
 use lib.IntN.{ℤ, pos, negsuc}
-use lib.ListN.{length, getD, replicate}
+use lib.ListN.{length, getD, drop, replicate}
+use Rattle.base.specs.Bytes.{byteAt, pairAt}
 use Rattle.schedule.specs.declared.Recorder.{Recorder}
 use Rattle.schedule.specs.Quantities.{jobs}
 use Rattle.planner.specs.declared.Answer.{Answer}
-use Rattle.planner.specs.Promises.{OfFile, Judged, MarginsOf}
+use Rattle.planner.specs.declared.Listing.{Listing}
+use Rattle.planner.specs.Promises.{success, refusal, OfFile, Judged, MarginsOf, Written, Listed}
+use Rattle.catalogue.specs.Building.{Others, others, Built}
 use Rattle.possible.specs.Promises.{PossibleOf}
 use Rattle.mend.specs.Promises.{Lent, lending, MendOf}
 use Rattle.calls.specs.Calls.{blank}
+use Rattle.table_bytes.specs.TableBytes.{AreTables, tablesFrom, tableBytes}
 use Rattle.doorway.specs.Doors.{Door, Roomy, Paired, startsOf, Spelled, twos, fours}
 
 -- ---- `door_verdict`
@@ -53,3 +58,32 @@ MendSpelled given lent R =
 abbrev pub MendDoor : (file starts : List ℕ) (lent : Lent) (result : List ℕ) → ℕ → Lent → List ℕ → Type 0
 MendDoor file starts lent result n lent′ result′ =
     Door (Paired starts × Roomy result) result lent (OfFile file lent (MendSpelled (startsOf starts) lent)) n result′ lent′
+
+-- ---- `door_write`: tables as table_bytes/specs/TableBytes has them
+
+abbrev pub WriteDoor : (tables lent result : List ℕ) → ℕ → List ℕ → List ℕ → Type 0
+WriteDoor tables lent result n lent′ result′ = Door (AreTables tables × Roomy result) result lent (Written (tablesFrom tables) lent) n result′ lent′
+
+-- ---- `door_build`: the tables are of the first kind and have no devices, which are looked up
+
+abbrev pub Deviceless : List ℕ → Type 0
+Deviceless tables = (byteAt tables 0 ≡ 1) × (pairAt tables 3 ≡ 0)
+
+abbrev pub othersFrom : List ℕ → Others
+othersFrom tables = let T = tablesFrom tables in others (T .horizon) (T .tasks) (T .jobs)
+
+abbrev pub BuildDoor : (catalogue wanted tables lent result : List ℕ) → ℕ → List ℕ → List ℕ → Type 0
+BuildDoor catalogue wanted tables lent result n lent′ result′ =
+    Door (AreTables tables × Deviceless tables × Roomy result) result lent (Built catalogue wanted (othersFrom tables) lent) n result′ lent′
+
+-- ---- `door_tables`: the file's refusal; or the bytes of its tables, which the answer counts, and 15 where they have no room. What is lent beyond stays as it was
+
+pub data TablesTold (file lent : List ℕ) : Answer → List ℕ → Type 0 where
+  refused : {r : Listing} → Listed file r → (r .answer .number ≡ 0 → ⊥) → TablesTold file lent (r .answer) lent
+  short : {r : Listing} → Listed file r → r .answer .number ≡ 0 → length lent < length (tableBytes (r .tables)) → TablesTold file lent (refusal 15) lent
+  given : {r : Listing} → Listed file r → r .answer .number ≡ 0 → length (tableBytes (r .tables)) ≤ length lent
+      → TablesTold file lent (success (r .answer .horizon) 0 (length (tableBytes (r .tables))))
+      (tableBytes (r .tables) ++ drop (length (tableBytes (r .tables))) lent)
+
+abbrev pub TablesDoor : (file lent result : List ℕ) → ℕ → List ℕ → List ℕ → Type 0
+TablesDoor file lent result n lent′ result′ = Door (Roomy result) result lent (TablesTold file lent) n result′ lent′

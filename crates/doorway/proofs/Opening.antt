@@ -26,6 +26,11 @@ use Rattle.calls.specs.Calls.{told}
 use Rattle.calls.proofs.Crossing.{own-starts}
 use Rattle.doorway.specs.Doors.{Door, shut, answered, startsOf, twos, Spelled, kept, given}
 
+-- An open door, by what is told.
+pub answered-as : {L Open : Type 0} (result : List ℕ) (lent : L) (Then : Answer → L → Type 0) {a : Answer} {after : L} {n : ℕ} {r : List ℕ}
+    → n ≡ a .number → r ≡ told a result → Open → Then a after → Door Open result lent Then n r after
+answered-as result lent Then m e o t = rw (m, e) (answered o t)
+
 -- ---- no second outcome
 
 -- What an operation's outcome is, is one.

@@ -1,7 +1,16 @@
 -- `doors::door_tables::listing_bytes` meets its contract.
 -- Assumes nothing.
-use mathlib.Core.Path.{sym}
+use mathlib.Core.Path.{_≡_, sym, subst}
+use mathlib.Core.List.{List, _++_}
+use Prim.Native.Nat.{ℕ}
+use native.Mathlib.Omega.{arith}
+use lib.ListN.{length, drop}
 use lib.Seq.{length-take-le}
+use Rattle.planner.specs.Promises.{success}
+use Rattle.table_bytes.specs.TableBytes.{tableBytes}
+use Rattle.doors.specs.Promises.{TablesTold}
+use Rattle.doors.specs.Promises as D
+use Rattle.doors.proofs.Tabled.{listed-few, held-count, held-room, held-copied}
 use borrow.Author.Needs.{needs}
 use Rattle.doors.proofs.door_tables.listing_bytes.Statement.{statement}
 use Rattle.doors.proofs.door_tables.listing_bytes.Tie as tie
@@ -10,31 +19,32 @@ tables-of-requires : tie.Need-tables-of-requires
 tables-of-requires c κs = search needs
 
 returns : tie.Need-returns
-returns c = search needs
+returns c = D.TablesTold.refused (c .before .before .before .tables-of .ensures) (c .before .if1 .taken)
 
-size-requires : tie.Need-size-requires
-size-requires c κs = search needs
+bytes-of-requires : tie.Need-bytes-of-requires
+bytes-of-requires c κs = listed-few (c .before .before .before .before .before .before .args .file .now) (c .before .before .before .tables-of .result) (c .before .before .before .tables-of .ensures) (c .before .if1 .left)
 
 refusal-requires : tie.Need-refusal-requires
 refusal-requires c κs = search needs
 
 returns-2 : tie.Need-returns-2
-returns-2 c = search needs
-
-bytes-of-requires : tie.Need-bytes-of-requires
-bytes-of-requires c κs = search needs
+returns-2 c =
+    let m = c .before .before .bytes-of in
+    let l = c .before .before .before .before .before .before .tables-of in
+    rw (c .refusal .ensures)
+    (D.TablesTold.short (l .ensures) (c .before .before .before .before .if1 .left) (omega (arith, c .before .if2 .taken, held-count (m .result) (tableBytes (l .result .tables)) (m .ensures .0))))
 
 array-share-prefix-bytes : tie.Need-array-share-prefix-bytes
-array-share-prefix-bytes c = search needs
+array-share-prefix-bytes c = held-room (c .before .before .bytes-of .result) (tableBytes (c .before .before .before .before .before .before .tables-of .result .tables)) (c .before .before .bytes-of .ensures .0) (omega (arith, c .before .before .bytes-of .ensures .1, held-count (c .before .before .bytes-of .result) (tableBytes (c .before .before .before .before .before .before .tables-of .result .tables)) (c .before .before .bytes-of .ensures .0)))
 
 slice-aggregate-copy : tie.Need-slice-aggregate-copy
-slice-aggregate-copy c = sym (length-take-le _ _ (array-share-prefix-bytes (c .before)))
+slice-aggregate-copy c = sym (length-take-le _ _ (held-room (c .before .before .before .bytes-of .result) (tableBytes (c .before .before .before .before .before .before .before .tables-of .result .tables)) (c .before .before .before .bytes-of .ensures .0) (omega (arith, c .before .before .before .bytes-of .ensures .1, held-count (c .before .before .before .bytes-of .result) (tableBytes (c .before .before .before .before .before .before .before .tables-of .result .tables)) (c .before .before .before .bytes-of .ensures .0)))))
 
 copy-requires : tie.Need-copy-requires
-copy-requires c κs = rw (length-take-le _ _ (array-share-prefix-bytes (c .before .before))) (search needs)
+copy-requires c κs = rw (length-take-le _ _ (held-room (c .before .before .before .before .bytes-of .result) (tableBytes (c .before .before .before .before .before .before .before .before .tables-of .result .tables)) (c .before .before .before .before .bytes-of .ensures .0) (omega (arith, c .before .before .before .before .bytes-of .ensures .1, held-count (c .before .before .before .before .bytes-of .result) (tableBytes (c .before .before .before .before .before .before .before .before .tables-of .result .tables)) (c .before .before .before .before .bytes-of .ensures .0))))) (omega (arith, c .before .before .before .if2 .left))
 
 cast-success : tie.Need-cast-success
-cast-success c = search needs
+cast-success c = omega (arith, c .before .before .before .before .before .before .before .bytes-of .ensures .1)
 
 success-requires : tie.Need-success-requires
 success-requires c κs = search needs
@@ -43,7 +53,13 @@ same-length : tie.Need-same-length
 same-length c = search needs
 
 returns-3 : tie.Need-returns-3
-returns-3 c = search needs
+returns-3 c =
+    let m = c .before .before .before .before .before .before .before .before .bytes-of in
+    let l = c .before .before .before .before .before .before .before .before .before .before .before .before .tables-of in
+    let t = tableBytes (l .result .tables) in
+    let count = held-count (m .result) t (m .ensures .0) in
+    rw (c .success .ensures, held-copied (m .result) t (c .before .before .before .before .before .before .before .before .before .before .before .before .before .before .before .args .out .now) _ (m .ensures .0) (c .before .before .before .copy .ensures), count)
+    (D.TablesTold.given (l .ensures) (c .before .before .before .before .before .before .before .before .before .before .if1 .left) (omega (arith, c .before .before .before .before .before .before .before .if2 .left, count)))
 
 pub listing-bytes-spec : {M : Type 1} → statement M
 listing-bytes-spec =
@@ -51,10 +67,9 @@ listing-bytes-spec =
     (tie.spec
     tables-of-requires
     returns
-    size-requires
+    bytes-of-requires
     refusal-requires
     returns-2
-    bytes-of-requires
     array-share-prefix-bytes
     slice-aggregate-copy
     copy-requires

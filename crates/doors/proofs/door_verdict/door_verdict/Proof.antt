@@ -7,8 +7,9 @@ use Prim.Native.Nat.{ℕ}
 use lib.ListN.{replicate}
 use lib.Seq.{length-take-le}
 use Rattle.calls.proofs.Crossing.{own-room}
-use Rattle.doorway.specs.Doors.{shut, answered}
-use Rattle.doorway.proofs.Opening.{handed-own, judged-all}
+use Rattle.planner.specs.Promises.{Judged}
+use Rattle.doorway.specs.Doors.{startsOf, shut}
+use Rattle.doorway.proofs.Opening.{answered-as, handed-own, judged-all}
 use borrow.Author.Tests.{not-true, not-false}
 use borrow.Author.Needs.{needs}
 use Rattle.doors.proofs.door_verdict.door_verdict.Statement.{statement}
@@ -57,8 +58,8 @@ returns-2 c =
     let told = c .before .before .tell .ensures in
     let n = c .before .before .before .before .before .before .before .before .before .handed in
     let opens = c .before .before .before .before .before .before .before .before .before .before .before .is-open .ensures .0 (not-false _ (c .before .before .before .before .before .before .before .before .before .before .if1 .left)) in
-    rw (told .0, told .1)
-    (answered opens (judged-all (s .args .file .now) (handed-own (s .args .starts .now) zeros (c .before .before .before .before .before .before .before .get-starts .last .1 .0) (n .result) (omega (arith, n .ensures)) (n .ensures) (c .before .before .before .before .before .before .before .get-starts .ensures)) (c .before .before .before .before .verdict .ensures)))
+    answered-as (s .args .result .now) tt (λ a u. Judged (s .args .file .now) (startsOf (s .args .starts .now)) a) (told .0) (told .1) opens
+    (judged-all (s .args .file .now) (handed-own (s .args .starts .now) zeros (c .before .before .before .before .before .before .before .get-starts .last .1 .0) (n .result) (omega (arith, n .ensures)) (n .ensures) (c .before .before .before .before .before .before .before .get-starts .ensures)) (c .before .before .before .before .verdict .ensures))
 
 pub door-verdict-spec : {M : Type 1} → statement M
 door-verdict-spec =
