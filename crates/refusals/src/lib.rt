@@ -1,0 +1,1 @@
+// No code: laws of the numbers by which files and tables are refused.
