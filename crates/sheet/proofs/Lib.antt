@@ -4,3 +4,4 @@ pub mod Answers
 pub mod Only
 pub mod Again
 pub mod Round
+pub mod Trips
