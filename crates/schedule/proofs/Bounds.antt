@@ -5,7 +5,6 @@ use mathlib.Core.Path.{ap}
 use mathlib.Core.List.{List}
 use Prim.Native.Nat.{ℕ, zero, suc, _+_, _*_, _≤_, _<_}
 use native.Mathlib.Nat.{mul-le-mul}
-use native.Mathlib.Numerals.{add-one}
 use native.Mathlib.Omega.{arith}
 use Rattle.base.specs.Sums.{sum}
 use Rattle.device.specs.Row.{energyOf}
@@ -24,10 +23,10 @@ device-most e h l few = omega arith
 pub devices-more : (made k e : ℕ) → made ≤ 268431360 * k → k < 8 → e ≤ 268431360 → (made + e ≤ 268431360 * (k + 1)) × (made + e ≤ 2147450880)
 devices-more made k e l few one = omega arith
 
-pub devices-most : (n : ℕ) → n ≤ 8 → (f : ℕ → ℕ) → ((k : ℕ) → k < n → f k ≤ 268431360) → sum n f ≤ 268431360 * n
-devices-most zero few f h = omega arith
-devices-most (suc n) few f h =
-    rw (← add-one n) (devices-more (sum n f) n (f n) (devices-most n (omega arith) f (λ k l. h k (omega arith))) (omega arith) (h n (omega arith)) .0)
+-- A sum over any number of them.
+pub devices-most : (n : ℕ) (f : ℕ → ℕ) → ((k : ℕ) → k < n → f k ≤ 268431360) → sum n f ≤ 268431360 * n
+devices-most zero f h = omega arith
+devices-most (suc n) f h = omega (arith, devices-most n f (λ k l. h k (omega arith)), h n (omega arith))
 
 -- The energy of a plan, where each power fits its two bytes.
 pub plan-energy-most :
@@ -37,7 +36,7 @@ plan-energy-most R valid fits s =
     omega (
       arith,
       valid .few-devices,
-      devices-most (R .devices .count) (valid .few-devices) (λ k. energyOf (R .round) (device R k) (usesOf R s k)) (λ k l. one k l),
+      devices-most (R .devices .count) (λ k. energyOf (R .round) (device R k) (usesOf R s k)) (λ k l. one k l),
     )
   where
     one : (k : ℕ) → k < R .devices .count → energyOf (R .round) (device R k) (usesOf R s k) ≤ 268431360

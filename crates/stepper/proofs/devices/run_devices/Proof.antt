@@ -9,6 +9,7 @@ use Rattle.base.specs.Lists.{upTo}
 use Rattle.base.specs.Sums.{sum}
 use Rattle.base.proofs.Additions.{sum-more}
 use Rattle.base.proofs.Filling.{Filled, filled-start, filled-value, filled-length}
+use Rattle.schedule.proofs.Bounds.{device-most, devices-more}
 use Rattle.steps.specs.Stepping.{spent}
 use Rattle.stepper.proofs.devices.run_devices.Statement.{statement}
 use Rattle.stepper.proofs.devices.run_devices.Tie as tie
@@ -30,7 +31,18 @@ same c = filled-length (c .loop .inv .3) (omega (arith, c .before .before .befor
 -- What the device at hand spends.
 here : (c : tie.After-run-device Inv-loop μ-loop)
     → (c .run-device .result .energy ≡ spent (c .before .before .before .before .before .before .before .args .r) (c .before .before .before .loop .k) (c .before .before .before .before .before .before .before .args .starts .now)) × (c .run-device .result .energy ≤ 268431360)
-here c = (ap (λ x. x .energy) (c .run-device .ensures .0), omega (arith, c .run-device .ensures .1, c .before .before .before .before .before .before .before .pre .0 .few-ticks))
+here c =
+    let valid = c .before .before .before .before .before .before .before .pre .0 in
+    (ap (λ x. x .energy) (c .run-device .ensures .0), device-most (c .run-device .result .energy) (c .before .before .before .before .before .before .before .args .r .horizon) (c .run-device .ensures .1) (valid .few-ticks))
+
+-- With it the sum grows by no more than one device can spend, and fits.
+more : (c : tie.After-run-device Inv-loop μ-loop)
+    → (c .before .before .before .loop .total + c .run-device .result .energy ≤ 268431360 * (c .before .before .before .loop .k + 1))
+    × (c .before .before .before .loop .total + c .run-device .result .energy ≤ 2147450880)
+more c =
+    let l = c .before .before .before .loop in
+    let valid = c .before .before .before .before .before .before .before .pre .0 in
+    devices-more (l .total) (l .k) (c .run-device .result .energy) (l .inv .2) (omega (arith, c .before .if1 .taken, valid .few-devices)) (here c .1)
 
 run-device-requires : tie.Need-run-device-requires Inv-loop μ-loop
 run-device-requires c κs = let p = c .before .before .before .before .before .before .pre in (p .0, p .1, c .if1 .taken)
@@ -42,7 +54,7 @@ slice-write-out : tie.Need-slice-write-out Inv-loop μ-loop
 slice-write-out c = omega (arith, c .before .if1 .taken, c .before .before .before .before .before .before .before .pre .2, same (c .before .before .before))
 
 add-total : tie.Need-add-total Inv-loop μ-loop
-add-total c = omega (arith, here c, c .before .before .before .loop .inv .2, c .before .if1 .taken, c .before .before .before .before .before .before .before .pre .0 .few-devices)
+add-total c = omega (arith, more c)
 
 add-k : tie.Need-add-k Inv-loop μ-loop
 add-k c = omega (arith, c .before .if1 .taken, c .before .before .before .before .before .before .before .pre .0 .few-devices)
@@ -57,7 +69,7 @@ loop-again c =
     let f : ℕ → ℕ = λ i. spent (a .r) i (a .starts .now) in (
       omega (arith, c .before .if1 .taken),
       omega (arith, here c, l .inv .1, sum-more (l .k) f),
-      omega (arith, here c, l .inv .2),
+      more c .0,
       filled-value f (l .inv .3) (omega (arith, c .before .if1 .taken, c .before .before .before .before .before .before .before .pre .2)) (c .run-device .result .energy) (here c .0),
     )
 
