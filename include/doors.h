@@ -1,4 +1,4 @@
-/* Doors to the other operations of the library, for the command line and the tests: not part of what it promises. Link target/lib/libdoors.a.
+/* Doors to the other operations of the library, for the command line and the tests. Link target/lib/libdoors.a.
  *
  * They return the number of the answer and put the rest into the result buffer, as in floebucket.h. A door returns 255, and does nothing, for an odd number
  * of bytes of start times or a result buffer under FLOE_RESULT bytes. */
