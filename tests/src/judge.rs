@@ -8,13 +8,21 @@ use crate::rows::Energies;
 pub type Fault = (u8, usize);
 
 pub fn judge(request: &Request, starts: &[u32]) -> Result<u64, Fault> {
+    match fault(request, starts) {
+        Some(fault) => Err(fault),
+        None => Ok(energy(request, starts, &mut Energies::of(request))),
+    }
+}
+
+/// What is wrong, if anything is, without a look at the energy.
+pub fn fault(request: &Request, starts: &[u32]) -> Option<Fault> {
     let jobs = &request.jobs;
     for (number, (job, &start)) in jobs.iter().zip(starts).enumerate() {
         if start < job.release {
-            return Err((16, number));
+            return Some((16, number));
         }
         if start + job.running > job.deadline {
-            return Err((17, number));
+            return Some((17, number));
         }
     }
     let runs_in =
@@ -25,10 +33,8 @@ pub fn judge(request: &Request, starts: &[u32]) -> Result<u64, Fault> {
         others.clone().count() > 0
             && ticks.any(|tick| others.clone().any(|other| runs_in(other, tick)))
     };
-    if let Some(job) = (0..jobs.len()).find(|&job| meets_another(job)) {
-        return Err((18, job));
-    }
-    Ok(energy(request, starts, &mut Energies::of(request)))
+    let first = (0..jobs.len()).find(|&job| meets_another(job));
+    first.map(|job| (18, job))
 }
 
 #[cfg(test)]

@@ -5,11 +5,12 @@ use crate::expected::{RESULT, SHUT};
 use crate::library;
 use crate::tails::{hand_back, is_blank, longer, BLANK};
 use outside::random::Random;
-use outside::stepping::{by_bytes, draw, run};
+use outside::stepping::{by_bytes, draw, run, run_at_ends};
 use std::collections::BTreeMap;
 
 const SEED: u64 = 90;
 const CALLS: u64 = 20_000;
+const AT_ENDS: u64 = 500;
 const SHUT_CALLS: u64 = 1_000;
 
 /// A figure: name, file, starts, the number, the horizon, and what each device spends.
@@ -93,10 +94,15 @@ fn figure((name, digits, starts, number, horizon, spent): Figure) -> Result<(), 
 pub fn test() -> Result<BTreeMap<u8, u64>, String> {
     FIGURES.into_iter().try_for_each(figure)?;
     let mut met = run(SEED, CALLS, by_bytes(with_tails))?;
-    let numbers: Vec<u8> = met.keys().copied().collect();
-    let known: Vec<u8> = (0..=18).chain([24, 25]).collect();
-    if numbers != known || met[&0] < CALLS / 3 {
-        return Err(format!("door_step answered {met:?}"));
+    if met[&0] < CALLS / 3 {
+        return Err(format!("too few rounds are stepped: {met:?}"));
+    }
+    let (met_at_ends, ends) = run_at_ends(SEED, AT_ENDS, by_bytes(with_tails))?;
+    if ends.least() < AT_ENDS / 10 {
+        return Err(format!("too few rounds are at the ends: {ends:?}"));
+    }
+    for (number, count) in met_at_ends {
+        *met.entry(number).or_default() += count;
     }
     for number in 0..SHUT_CALLS {
         shut(&mut Random::new(SEED, number))?;
