@@ -9,7 +9,8 @@
 
 use crate::faults::damaged;
 use crate::random::Random;
-use crate::request::{read, Job, Request};
+use crate::request::{read, unmarked, Job, Request};
+use crate::second;
 use crate::tables::{job, Tables};
 use crate::third;
 use crate::valid::{crowded_list, job_list, long_list, task_list, tight_list};
@@ -241,25 +242,33 @@ impl Call {
     }
 }
 
-/// The numbers that were met, and how many calls moved a job and moved none.
+/// The numbers that were met, how many calls moved a job and moved none, and for each kind of file how
+/// many were mended.
 #[derive(Clone, Debug, Default, PartialEq, Eq)]
 pub struct Met {
     pub numbers: [u64; 27],
     pub moved: u64,
     pub unmoved: u64,
+    pub mended: [u64; 3],
+}
+
+impl Met {
+    pub fn add(&mut self, file: &[u8], answer: Answer) {
+        self.numbers[usize::from(answer.number)] += 1;
+        if answer.number == 0 {
+            self.moved += u64::from(answer.count > 0);
+            self.unmoved += u64::from(answer.count == 0);
+            self.mended[unmarked(file).0 as usize] += 1;
+        }
+    }
 }
 
 /// Draws calls and holds each outcome to the rules; the first that differs ends it.
 pub fn run(seed: u64, calls: u64, mend: impl Mending) -> Result<Met, String> {
     let mut met = Met::default();
     for number in 0..calls {
-        let answer = draw(&mut Random::new(seed, number)).hold(&mend)?;
-        met.numbers[usize::from(answer.number)] += 1;
-        match (answer.number, answer.count) {
-            (0, 0) => met.unmoved += 1,
-            (0, _) => met.moved += 1,
-            _ => (),
-        }
+        let call = draw(&mut Random::new(seed, number));
+        met.add(&call.file, call.hold(&mend)?);
     }
     Ok(met)
 }
@@ -267,7 +276,7 @@ pub fn run(seed: u64, calls: u64, mend: impl Mending) -> Result<Met, String> {
 /// A request with given starts and lent lists: mostly good ones, and sometimes a damaged file, a
 /// start too many or too few, a list too short.
 pub fn draw(random: &mut Random) -> Call {
-    let file = match random.within(1, 14) {
+    let file = match random.within(1, 16) {
         1 => crowded_list(random).bytes(),
         2 => long_list(random).bytes(),
         3 => task_list(random).bytes(),
@@ -279,6 +288,8 @@ pub fn draw(random: &mut Random) -> Call {
         }
         7 => third::accepted(random).bytes(),
         8 => third::damaged(random),
+        9 => second::accepted(random).bytes(),
+        10 => second::damaged(random),
         _ => small_list(random).bytes(),
     };
     let request = read(&file).ok();
@@ -440,6 +451,7 @@ mod tests {
             assert_eq!(met.numbers[number], 0, "{met:?}");
         }
         assert!(met.moved > 400 && met.unmoved > 100, "{met:?}");
+        assert!(met.mended.iter().all(|&mended| mended > 100), "{met:?}");
     }
 
     #[test]

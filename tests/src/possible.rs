@@ -9,7 +9,8 @@
 use crate::faults::damaged;
 use crate::listing;
 use crate::random::Random;
-use crate::request::{read, Job, Request};
+use crate::request::{read, unmarked, Job, Request};
+use crate::second;
 use crate::tables::Tables;
 use crate::third;
 use crate::valid::{
@@ -187,31 +188,44 @@ fn expected(request: &Request) -> Answer {
     laid_out(request).unwrap_or_else(|| visited(request, LIMIT))
 }
 
-/// The numbers that were met.
+/// The numbers that were met, and for each kind of file how many plans were found.
 #[derive(Clone, Debug, Default, PartialEq, Eq)]
 pub struct Met {
     pub numbers: [u64; 27],
+    pub found: [u64; 3],
 }
 
-/// Draws requests and holds the outcomes under budgets around the count to the rules; the first that
-/// differs ends it.
-pub fn run(seed: u64, requests: u64, ask: impl Asking) -> Result<Met, String> {
-    let mut met = Met::default();
-    for number in 0..requests {
-        let mut random = Random::new(seed, number);
-        let file = draw(&mut random);
-        let jobs = read(&file).map_or(0, |request| request.jobs.len());
-        let lent = lent(&mut random, jobs);
-        for budget in budgets(&file) {
-            let expected = outcome(&file, budget, &lent, expected);
-            let got = ask(&file, budget, &lent);
+/// A request and a lent list, to be asked about under several budgets.
+#[derive(Clone, Debug)]
+pub struct Question {
+    pub file: Vec<u8>,
+    pub lent: Vec<u16>,
+}
+
+impl Question {
+    /// Holds the outcomes under budgets around the count to the rules; the first that differs ends it.
+    pub fn hold(&self, ask: &impl Asking, met: &mut Met) -> Result<(), String> {
+        let Question { file, lent } = self;
+        for budget in budgets(file) {
+            let expected = outcome(file, budget, lent, expected);
+            let got = ask(file, budget, lent);
             if got != expected {
                 return Err(format!(
                     "file {file:?}, budget {budget}, lent {lent:?}\nexpected {expected:?}\ngot      {got:?}"
                 ));
             }
             met.numbers[usize::from(got.number)] += 1;
+            met.found[unmarked(file).0 as usize] += u64::from(got.number == 0);
         }
+        Ok(())
+    }
+}
+
+/// Draws requests and lent lists and holds every outcome to the rules.
+pub fn run(seed: u64, requests: u64, ask: impl Asking) -> Result<Met, String> {
+    let mut met = Met::default();
+    for number in 0..requests {
+        draw(&mut Random::new(seed, number)).hold(&ask, &mut met)?;
     }
     Ok(met)
 }
@@ -226,9 +240,16 @@ fn budgets(file: &[u8]) -> Vec<u32> {
     vec![0, 1, count.saturating_sub(1), count, count + 1, u32::MAX]
 }
 
+pub fn draw(random: &mut Random) -> Question {
+    let file = draw_file(random);
+    let jobs = read(&file).map_or(0, |request| request.jobs.len());
+    let lent = lent(random, jobs);
+    Question { file, lent }
+}
+
 /// Mostly good files of every shape, and some damaged ones.
-fn draw(random: &mut Random) -> Vec<u8> {
-    match random.within(1, 14) {
+fn draw_file(random: &mut Random) -> Vec<u8> {
+    match random.within(1, 16) {
         1 => crowded_list(random).bytes(),
         2 => long_list(random).bytes(),
         3 => task_list(random).bytes(),
@@ -241,6 +262,8 @@ fn draw(random: &mut Random) -> Vec<u8> {
         }
         10 => third::accepted(random).bytes(),
         11 => third::damaged(random),
+        12 => second::accepted(random).bytes(),
+        13 => second::damaged(random),
         _ => job_list(random).bytes(),
     }
 }
@@ -289,6 +312,7 @@ mod tests {
         for number in (0..=13).chain([15, 19, 20]) {
             assert!(met.numbers[number] > 0, "{number} is not met");
         }
+        assert!(met.found.iter().all(|&found| found > 50), "{met:?}");
     }
 
     #[test]

@@ -2,7 +2,7 @@
 
 use crate::expected::{RESULT, SHUT};
 use crate::library;
-use crate::tails::{hand_back, is_blank, longer, only, BLANK};
+use crate::tails::{self, hand_back, is_blank, longer, BLANK};
 use outside::cases;
 use outside::possible::{by_bytes, run};
 use std::collections::BTreeMap;
@@ -11,12 +11,12 @@ const SEED: u64 = 17;
 const REQUESTS: u64 = 2_000;
 const SHUT_CALLS: u64 = 500;
 
-/// Those of a file, of the lent list, and of the visit.
-const NUMBERS: [u8; 18] = [0, 1, 2, 3, 4, 5, 6, 7, 8, 9, 10, 11, 12, 13, 15, 19, 20, 26];
-
 /// The numbers met and how often, 255 among them; or the first call that is not as it must be.
 pub fn test() -> Result<BTreeMap<u8, u64>, String> {
     let found = run(SEED, REQUESTS, by_bytes(with_tails))?;
+    if !found.found.iter().all(|&plans| plans > 100) {
+        return Err(format!("too few plans of some kind are found: {found:?}"));
+    }
     for number in 0..SHUT_CALLS {
         shut(&cases::draw(SEED, number).file, number as usize % RESULT)?;
     }
@@ -25,7 +25,7 @@ pub fn test() -> Result<BTreeMap<u8, u64>, String> {
             return Err(format!("not found: a search for any plan with {name}"));
         }
     }
-    only("door_possible", found.numbers, &NUMBERS, SHUT_CALLS)
+    Ok(tails::met(found.numbers, SHUT_CALLS))
 }
 
 /// The door on buffers that are longer by some bytes, which stay, and on a result buffer that is
