@@ -102,6 +102,20 @@ pub fn job_list(random: &mut Random) -> Tables {
     tables
 }
 
+/// A job list that no listing can write out, with some room in most windows.
+pub fn wide_list(random: &mut Random) -> Tables {
+    let mut tables = Tables {
+        horizon: random.u16(12, 30),
+        devices: devices(random),
+        ..Tables::default()
+    };
+    for _ in 0..random.within(5, 8) {
+        let job = any_job(random, &tables, 4);
+        tables.jobs.push(job);
+    }
+    tables
+}
+
 /// A job list with devices that are dear to move, so that a gap that has room may be worked through. Most
 /// of them have a gap that costs the same either way.
 pub fn dear_list(random: &mut Random) -> Tables {

@@ -12,6 +12,8 @@ pub struct Visit {
     pub count: u64,
     /// The energy of the best, which means nothing if the visit was stopped.
     pub best: Option<u64>,
+    /// How many had been reached when there was a best for the first time.
+    pub best_from: Option<u64>,
 }
 
 /// Visits from the root on, and stops at once when `limit` vertices have been counted.
@@ -30,6 +32,7 @@ pub(crate) fn visit_by(request: &Request, limit: u64, floor: Rule) -> Visit {
         found: Visit {
             count: 0,
             best: None,
+            best_from: None,
         },
     };
     visitor.vertex();
@@ -63,6 +66,7 @@ impl Visitor<'_> {
             let energy = self.energy();
             if self.found.best.is_none_or(|best| energy < best) {
                 self.found.best = Some(energy);
+                self.found.best_from.get_or_insert(self.found.count);
             }
             return;
         }

@@ -3,6 +3,7 @@
 
 use outside::judge::judge;
 use outside::listing::{first_of_the_least, uses, Schedule};
+use outside::long::{self, Found};
 use outside::request::{read, Request};
 use outside::rows::row_given;
 use outside::sheets::{plan_text, Made};
@@ -142,25 +143,66 @@ pub struct Searched {
     pub file: Vec<u8>,
     pub read: Result<Request, u8>,
     pub count: u64,
+    /// Whether the search ends there; else the count is only known to be no smaller.
+    pub is_whole: bool,
+    /// A budget that runs out from there on does so with a best at hand.
+    pub best_from: Option<u64>,
     pub best: Option<Schedule>,
+    /// Start times that are worth judging: those of the best, where it is known.
+    pub planned: Option<Vec<u32>>,
 }
 
 impl Searched {
     pub fn new(file: Vec<u8>) -> Searched {
         let read = read(&file);
-        let (mut count, mut best) = (0, None);
+        let (mut count, mut best_from, mut best) = (0, None, None);
         if let Ok(request) = &read {
             let visited = visit(request, u64::MAX);
-            count = visited.count;
+            (count, best_from) = (visited.count, visited.best_from);
             best = first_of_the_least(request);
             let least = best.as_ref().map(|schedule| schedule.energy);
             assert_eq!(visited.best, least, "the oracle's two halves disagree");
         }
+        let planned = best.as_ref().map(|schedule| schedule.starts.clone());
         Searched {
             file,
             read,
             count,
+            is_whole: true,
+            best_from,
             best,
+            planned,
+        }
+    }
+
+    /// Of an accepted request that is too long to list, by a plain search (`outside::long`).
+    pub fn long(file: Vec<u8>) -> Searched {
+        // The first complete vertex comes soon or not at all.
+        const SOON: u64 = 2_000;
+        let request = read(&file).expect("an accepted request");
+        let Found {
+            number,
+            energy,
+            count,
+            starts,
+        } = long::found(&file);
+        let is_whole = number != 20;
+        let best = (number == 0).then(|| Schedule {
+            starts: starts.clone(),
+            energy: energy.into(),
+        });
+        if number == 0 {
+            let judged = judge(&request, &starts);
+            assert_eq!(judged, Ok(energy.into()), "a plain search's plan is none");
+        }
+        Searched {
+            file,
+            count: u64::from(count) + u64::from(!is_whole),
+            is_whole,
+            best_from: visit(&request, SOON).best_from,
+            best,
+            planned: (number == 0).then_some(starts),
+            read: Ok(request),
         }
     }
 
@@ -187,6 +229,7 @@ impl Searched {
         if self.count > u64::from(budget) {
             return before.after(after(20, budget), &[]);
         }
+        assert!(self.is_whole, "what comes of this budget is not known");
         match &self.best {
             None => before.after(after(19, self.count as u32), &[]),
             Some(schedule) => {

@@ -1,6 +1,7 @@
 //! Calls every function of the library as C does, on random files, start times, budgets and lent
 //! lengths, and compares the number and every byte of every buffer with the oracle.
 
+mod answers;
 mod catalogue;
 mod chosen;
 mod expected;
@@ -9,6 +10,7 @@ mod library;
 mod looser;
 mod mend;
 mod possible;
+mod searching;
 mod sheets;
 mod stepping;
 mod tails;
@@ -17,30 +19,39 @@ mod writing;
 use expected::{pairs, Buffers, Outcome, Searched, RESULT};
 use outside::cases::{draw, Kind};
 use outside::random::Random;
+use outside::readme;
 use outside::tally::Rows;
 use std::collections::BTreeMap;
 use std::process::ExitCode;
 
 const SEED: u64 = 14;
 const FILES: u64 = 1_500;
-const LEAST_CALLS: u64 = 20_000;
-
-/// All numbers that a request can bring; 255 is a door's own.
-const NUMBERS: std::ops::RangeInclusive<u8> = 0..=20;
-const FURTHER: [u8; 2] = [26, 255];
-
 /// The stream of the drawn files is another: these draw what goes with a file.
 const STREAM: u64 = 1 << 40;
 
 struct Tester {
     random: Random,
-    calls: u64,
+    /// The search that is tried.
+    search: searching::Search,
     met: BTreeMap<(&'static str, u8), u64>,
+    /// Searches that ran out of their budget with a best at hand.
+    cut_short: u64,
     rows: Rows,
     failure: Option<String>,
 }
 
 impl Tester {
+    fn new(search: searching::Search) -> Tester {
+        Tester {
+            random: Random::new(SEED, STREAM),
+            search,
+            met: BTreeMap::new(),
+            cut_short: 0,
+            rows: Rows::default(),
+            failure: None,
+        }
+    }
+
     /// A length below, at or above the one that is needed.
     fn length(&mut self, needed: usize) -> usize {
         match self.random.within(1, 8) {
@@ -61,23 +72,12 @@ impl Tester {
     }
 
     fn compare(&mut self, name: &'static str, file: &[u8], expected: Outcome, got: Outcome) {
-        self.calls += 1;
         *self.met.entry((name, expected.number)).or_default() += 1;
         if expected != got && self.failure.is_none() {
             self.failure = Some(format!(
                 "{name} on file {file:02X?}\n  expected {expected:02X?}\n  got      {got:02X?}"
             ));
         }
-    }
-
-    /// Whether these numbers have come from a function, and no others.
-    fn only(&self, name: &'static str, numbers: &[u8]) -> Result<(), String> {
-        let of_name = self.met.keys().filter(|(met, _)| *met == name);
-        let met: Vec<u8> = of_name.map(|(_, number)| *number).collect();
-        if met == numbers {
-            return Ok(());
-        }
-        Err(format!("{name} answered {met:?} and not {numbers:?}"))
     }
 
     fn check(&mut self, searched: &Searched) {
@@ -88,17 +88,35 @@ impl Tester {
         self.compare("floe_check", &searched.file, expected, got);
     }
 
-    fn search(&mut self, searched: &Searched, jobs: usize) {
-        let count = searched.count as u32;
-        let near = [0, count.saturating_sub(1), count, count + 1, u32::MAX];
-        for budget in near {
+    fn search(&mut self, searched: &Searched) {
+        let jobs = searched.read.as_ref().map_or(0, |read| read.jobs.len());
+        for budget in self.budgets(searched) {
             let mut after = self.buffers(2 * jobs);
             let expected = searched.search(budget, &after);
+            let has_best = searched.best_from.is_some_and(|from| from <= budget.into());
+            self.cut_short += u64::from(expected.number == 20 && has_best);
             let (lent, result) = (&mut after.lent, &mut after.result);
-            let number = library::search(&searched.file, budget, lent, result);
+            let number = (self.search)(&searched.file, budget, lent, result);
             let got = outcome(number, after);
             self.compare("floe_search", &searched.file, expected, got);
         }
+    }
+
+    /// None, those around the count as far as it is known, and some well inside it: three anywhere, and two
+    /// where a best is at hand already.
+    fn budgets(&mut self, searched: &Searched) -> Vec<u32> {
+        let count = searched.count as u32;
+        let mut budgets = vec![0, count.saturating_sub(1)];
+        if searched.is_whole {
+            budgets.extend([count, count + 1, u32::MAX]);
+        }
+        for (from, many) in [(Some(1), 3), (searched.best_from, 2)] {
+            if let Some(from) = from.filter(|from| *from < searched.count) {
+                let inside = (0..many).map(|_| self.random.within(from, searched.count - 1) as u32);
+                budgets.extend(inside);
+            }
+        }
+        budgets
     }
 
     /// Starts in the jobs' windows, or just outside, or anywhere; or those of the plan. As many as
@@ -109,11 +127,11 @@ impl Tester {
             .as_ref()
             .map_or(&[][..], |request| &request.jobs);
         let mut starts: Vec<u16> = Vec::new();
-        let planned = searched.best.as_ref().filter(|_| self.random.one_in(3));
+        let planned = searched.planned.as_ref().filter(|_| self.random.one_in(3));
         for (number, job) in jobs.iter().enumerate() {
             let (release, latest) = (job.release as u16, job.latest() as u16);
             let start = match planned {
-                Some(schedule) => schedule.starts[number] as u16,
+                Some(starts) => starts[number] as u16,
                 None => self.random.u16(release, latest),
             };
             let many = 6 * jobs.len() as u64;
@@ -176,7 +194,7 @@ impl Tester {
             size = request.devices.len() * request.horizon as usize;
         }
         self.check(searched);
-        self.search(searched, jobs);
+        self.search(searched);
         for _ in 0..3 {
             self.rows(searched, size);
             self.verdict(searched);
@@ -199,26 +217,22 @@ fn test() -> Result<String, String> {
     if !failures.is_empty() {
         return Err(format!("figures that do not come out: {failures:?}"));
     }
-    let mut tester = Tester {
-        random: Random::new(SEED, STREAM),
-        calls: 0,
-        met: BTreeMap::new(),
-        rows: Rows::default(),
-        failure: None,
-    };
+    let mut tester = Tester::new(library::search);
     for number in 0..FILES {
         let case = draw(SEED, number);
-        // Too long to list; the printing program is tried on such.
-        if case.kind != Kind::OverBudget {
-            tester.all(&Searched::new(case.file));
-        }
+        let searched = match case.kind {
+            Kind::OverBudget => searching::too_long(case.file),
+            _ => Searched::new(case.file),
+        };
+        tester.all(&searched);
         if let Some(failure) = tester.failure {
             return Err(failure);
         }
     }
+    searching::test(&mut tester)?;
     chosen::test(&mut tester)?;
-    writing::test(&mut tester)?;
-    catalogue::test(&mut tester)?;
+    writing::test(&mut tester);
+    catalogue::test(&mut tester);
     sheets::test(&mut tester)?;
     if let Some(failure) = tester.failure {
         return Err(failure);
@@ -229,7 +243,6 @@ fn test() -> Result<String, String> {
         ("door_step", stepping::test()?),
     ] {
         for (number, count) in met {
-            tester.calls += count;
             tester.met.insert((name, number), count);
         }
     }
@@ -237,19 +250,16 @@ fn test() -> Result<String, String> {
         println!("{count:7}  {name} {number}");
     }
     print!("{}", tester.rows.report());
+    let cut_short = tester.cut_short;
+    println!("budgets that run out with a best at hand: {cut_short}");
+    if cut_short < searching::LEAST_CUT_SHORT {
+        return Err("too few budgets run out with a best at hand".to_string());
+    }
     println!("looser windows: {}", looser::test()?);
-    let is_met = |number: &u8| tester.met.keys().any(|(_, met)| met == number);
-    let missed: Vec<u8> = NUMBERS
-        .chain(FURTHER)
-        .filter(|number| !is_met(number))
-        .collect();
-    if !missed.is_empty() {
-        return Err(format!("never met: {missed:?}"));
-    }
-    if tester.calls < LEAST_CALLS {
-        return Err(format!("only {} calls", tester.calls));
-    }
-    Ok(format!("{} calls agree", tester.calls))
+    answers::hold(&tester.met)?;
+    let calls = tester.met.values().sum();
+    readme::hold(calls, "calls of the library's operations")?;
+    Ok(format!("{calls} calls agree"))
 }
 
 fn main() -> ExitCode {
