@@ -1,19 +1,30 @@
 //! Calling the command, and what has come of it.
 
 use outside::runner::{piped, run, Feed, Printed};
-use std::path::PathBuf;
+use std::cell::Cell;
+use std::path::{Path, PathBuf};
 use std::process::Command;
 
 /// How many runs were as they must be, or the first that was not.
 pub type Tried = Result<u64, String>;
 
+/// The program, and how often it was called.
 pub struct Floe {
     program: PathBuf,
+    made: Cell<u64>,
 }
 
 impl Floe {
     pub fn new(program: PathBuf) -> Floe {
-        Floe { program }
+        let made = Cell::new(0);
+        Floe { program, made }
+    }
+
+    /// What a test says that it has run is what it has run.
+    pub fn counted(&self, tried: Tried) -> Tried {
+        let (said, made) = (tried?, self.made.get());
+        same(said, made, || "runs made, and runs counted".to_string())?;
+        Ok(made)
     }
 
     pub fn program(&self) -> &PathBuf {
@@ -21,9 +32,15 @@ impl Floe {
     }
 
     pub fn command(&self, words: &[&str]) -> Command {
-        let mut command = piped(&self.program);
+        let mut command = self.called_by(&self.program);
         command.args(words);
         command
+    }
+
+    /// A call by another program, such as a shell, which calls this one once.
+    pub fn called_by(&self, program: &Path) -> Command {
+        self.made.set(self.made.get() + 1);
+        piped(program)
     }
 
     /// A run with these bytes on standard input.

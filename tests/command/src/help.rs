@@ -32,8 +32,8 @@ const WRONG: [&[&str]; 22] = [
 ];
 
 pub fn test(floe: &Floe) -> Tried {
-    let mut runs = 0;
     let overview = floe.output(&["--help"], b"")?;
+    let mut runs = 1;
     let text = String::from_utf8_lossy(&overview).into_owned();
     for help in ["-h", "help"] {
         same(floe.output(&[help], b"")?, overview.clone(), || {

@@ -2,7 +2,7 @@
 
 use crate::floe::{same, Floe, Tried};
 use crate::texts::is_text;
-use outside::cases::{draw, Kind};
+use outside::cases::{draw, Case, Kind};
 use outside::expect::{search, BUDGET};
 use outside::judge::judge;
 use outside::listing::uses;
@@ -28,11 +28,8 @@ pub fn verdicts(floe: &Floe) -> Tried {
         let Ok(request) = read(&case.file) else {
             continue;
         };
-        if case.kind == Kind::OverBudget {
-            continue;
-        }
         let random = &mut Random::new(SEED, number);
-        let starts = starts(random, &case.file, &request);
+        let starts = starts(random, &case, &request);
         // One word, or as many as there are starts.
         let list = joined(&starts);
         let mut words = vec!["verdict", "-"];
@@ -92,8 +89,13 @@ pub fn verdicts(floe: &Floe) -> Tried {
 }
 
 /// Those of the plan, or near the windows, or one too many.
-fn starts(random: &mut Random, file: &[u8], request: &Request) -> Vec<u32> {
-    let plan = search(file, BUDGET).plan.filter(|_| random.one_in(2));
+fn starts(random: &mut Random, case: &Case, request: &Request) -> Vec<u32> {
+    // Too long to list, and without a plan here.
+    let budget = match case.kind {
+        Kind::OverBudget => 0,
+        _ => BUDGET,
+    };
+    let plan = search(&case.file, budget).plan.filter(|_| random.one_in(2));
     let mut starts: Vec<u32> = match plan {
         Some((_, schedule)) => schedule.starts,
         None => {
@@ -125,7 +127,7 @@ fn number_after(line: &str, word: &str) -> Option<u32> {
 
 pub fn mends(floe: &Floe) -> Tried {
     const CALLS: u64 = 600;
-    let mut met = [0; 27];
+    let mut met = mend::Met::default();
     let failed = RefCell::new(None);
     for number in 0..CALLS {
         let mut call = mend::draw(&mut Random::new(SEED, number));
@@ -146,16 +148,13 @@ pub fn mends(floe: &Floe) -> Tried {
         if let Some(reason) = failed.take() {
             return Err(reason);
         }
-        met[usize::from(held?.number)] += 1;
+        met.add(&call.file, held?);
     }
-    let missed: Vec<usize> = [0, 14, 17]
-        .into_iter()
-        .filter(|&number| met[number] < 20)
-        .collect();
-    if !missed.is_empty() {
-        return Err(format!("hardly met: {missed:?}"));
+    let is_hardly_met = |number: &usize| met.numbers[*number] < 20;
+    if [0, 14, 17].iter().any(is_hardly_met) || met.mended.iter().any(|&mended| mended < 8) {
+        return Err(format!("hardly met: {met:?}"));
     }
-    Ok(met.iter().sum())
+    Ok(met.numbers.iter().sum())
 }
 
 /// What the command prints, as the numbers that the library writes.
@@ -218,17 +217,23 @@ pub fn possible(floe: &Floe) -> Tried {
             refused_outcome(255, 0, lent)
         })
     };
-    let met = possible::run(SEED, REQUESTS, ask);
-    if let Some(reason) = failed.take() {
-        return Err(reason);
+    let mut met = possible::Met::default();
+    for number in 0..REQUESTS {
+        let mut question = possible::draw(&mut Random::new(SEED, number));
+        // The command lends as much as is needed.
+        question.lent = vec![7; 17];
+        if is_text(&question.file) {
+            continue;
+        }
+        let held = question.hold(&ask, &mut met);
+        if let Some(reason) = failed.take() {
+            return Err(reason);
+        }
+        held?;
     }
-    let met = met?;
-    let missed: Vec<usize> = [0, 19, 20]
-        .into_iter()
-        .filter(|&number| met.numbers[number] < 20)
-        .collect();
-    if !missed.is_empty() {
-        return Err(format!("hardly met: {missed:?}"));
+    let is_hardly_met = |number: &usize| met.numbers[*number] < 20;
+    if [0, 19, 20].iter().any(is_hardly_met) || met.found.iter().any(|&found| found < 8) {
+        return Err(format!("hardly met: {met:?}"));
     }
     Ok(met.numbers.iter().sum())
 }
@@ -243,14 +248,8 @@ fn refused_outcome(number: u8, count: u32, lent: &[u16]) -> Outcome {
     }
 }
 
-/// What the command prints, as the library's outcome. The command lends what is needed, and may take
-/// a damaged file for text: the outcome of such calls is given.
+/// What the command prints, as the library's outcome.
 fn asked(floe: &Floe, file: &[u8], budget: u32, lent: &[u16]) -> Result<Outcome, String> {
-    match read(file) {
-        Ok(request) if lent.len() < request.jobs.len() => return Ok(refused_outcome(15, 0, lent)),
-        Err(number) if is_text(file) => return Ok(refused_outcome(number, 0, lent)),
-        _ => {}
-    }
     let budget = budget.to_string();
     let text = match floe.answer(&["possible", "-", "--budget", &budget], file)? {
         Ok(text) => String::from_utf8(text).map_err(|fault| fault.to_string())?,

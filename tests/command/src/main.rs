@@ -20,7 +20,8 @@ mod texts;
 mod third;
 
 use floe::{Floe, Tried};
-use std::path::PathBuf;
+use outside::readme;
+use std::path::Path;
 use std::process::ExitCode;
 use std::sync::Mutex;
 use std::thread;
@@ -49,7 +50,7 @@ const TESTS: [(&str, Test); 17] = [
 
 /// Two at a time, each in its own thread; what they say is printed in their order. How many runs were
 /// as they must be, if all were.
-fn run(floe: &Floe, tests: &[&(&str, Test)]) -> Option<u64> {
+fn run(program: &Path, tests: &[&(&str, Test)]) -> Option<u64> {
     let next = Mutex::new(tests.iter().enumerate());
     let found = Mutex::new(vec![None; tests.len()]);
     thread::scope(|scope| {
@@ -59,7 +60,8 @@ fn run(floe: &Floe, tests: &[&(&str, Test)]) -> Option<u64> {
                 let Some((place, (_, test))) = taken else {
                     return;
                 };
-                let tried = test(floe);
+                let floe = Floe::new(program.to_path_buf());
+                let tried = floe.counted(test(&floe));
                 found.lock().expect("no test has panicked")[place] = Some(tried);
             });
         }
@@ -85,24 +87,40 @@ fn run(floe: &Floe, tests: &[&(&str, Test)]) -> Option<u64> {
     passed
 }
 
-fn main() -> ExitCode {
-    let mut words = std::env::args().skip(1);
-    let Some(program) = words.next() else {
-        println!("usage: command PROGRAM [WORD]");
-        return ExitCode::FAILURE;
+/// The tests that have the word in their names, of which there has to be one.
+fn with_word(word: &str) -> Result<Vec<&'static (&'static str, Test)>, String> {
+    let named = TESTS.iter().filter(|(name, _)| name.contains(word));
+    let tests: Vec<&(&str, Test)> = named.collect();
+    match tests.is_empty() {
+        true => Err(format!("no test has {word:?} in its name")),
+        false => Ok(tests),
+    }
+}
+
+/// How many runs agree. What README says of them is for all tests.
+fn test() -> Result<u64, String> {
+    let words: Vec<String> = std::env::args().skip(1).collect();
+    let (program, word) = match &words[..] {
+        [program] => (program, ""),
+        [program, word] => (program, &word[..]),
+        _ => return Err("usage: command PROGRAM [WORD]".to_string()),
     };
-    let word = words.next().unwrap_or_default();
-    let tests: Vec<&(&str, Test)> = TESTS
-        .iter()
-        .filter(|(name, _)| name.contains(&word))
-        .collect();
-    match run(&Floe::new(PathBuf::from(program)), &tests) {
-        Some(count) => {
+    let tests = with_word(word)?;
+    let count = run(Path::new(program), &tests).ok_or("not all runs agree")?;
+    if tests.len() == TESTS.len() {
+        readme::hold(count, "runs of `floe`")?;
+    }
+    Ok(count)
+}
+
+fn main() -> ExitCode {
+    match test() {
+        Ok(count) => {
             println!("command: {count} runs agree");
             ExitCode::SUCCESS
         }
-        None => {
-            println!("command: FAILED");
+        Err(reason) => {
+            println!("{reason}\ncommand: FAILED");
             ExitCode::FAILURE
         }
     }

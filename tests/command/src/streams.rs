@@ -3,7 +3,7 @@
 
 use crate::floe::{same, Floe, Tried};
 use outside::pipes;
-use outside::runner::{piped, run, Feed};
+use outside::runner::{run, Feed};
 use outside::slow;
 use outside::tables::{device_a, job, Tables};
 use std::fs::{File, OpenOptions};
@@ -28,7 +28,7 @@ fn p3() -> Vec<u8> {
 
 /// The command by a line of shell, in which `$0` stands for it.
 fn by_shell(floe: &Floe, line: &str) -> Command {
-    let mut command = piped(Path::new("sh"));
+    let mut command = floe.called_by(Path::new("sh"));
     command.arg("-c").arg(line).arg(floe.program());
     command
 }

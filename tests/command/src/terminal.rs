@@ -2,7 +2,7 @@
 
 use crate::floe::{same, Floe, Tried};
 use crate::pty;
-use outside::runner::{piped, run, Feed};
+use outside::runner::{run, Feed};
 use std::fs;
 use std::os::unix::fs::symlink;
 use std::path::Path;
@@ -56,7 +56,7 @@ fn in_folder(floe: &Floe, folder: &Path) -> Tried {
     let link = folder.join("floe");
     symlink(&script, &link).map_err(|fault| fault.to_string())?;
     for program in [&script, &link] {
-        let mut command = piped(program);
+        let mut command = floe.called_by(program);
         command.args(["plan", "loose.txt"]).current_dir(folder);
         let printed = run(&mut command, &Feed::whole(b""))?;
         let output = String::from_utf8_lossy(&printed.output).into_owned();
