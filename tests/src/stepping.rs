@@ -5,17 +5,16 @@
 //! of a device are read from the bytes of its record, so that nothing here follows the proved code's
 //! bookkeeping. While a job runs its devices are watched: each has to work in every one of its ticks.
 
+pub mod ends;
+
 use crate::faults::damaged;
 use crate::judge::fault;
 use crate::random::Random;
-use crate::request::{read, Device, Request, LONGEST_HORIZON, MOST_JOBS};
+use crate::request::{read, Request};
 use crate::second::Second;
 use crate::tables::{job, task, DeviceRecord, Tables};
 use crate::third;
 use std::collections::BTreeMap;
-
-/// The longest round.
-const MOST_TICKS: u16 = LONGEST_HORIZON as u16;
 
 /// What the library answers, with what it leaves in the lent list.
 #[derive(Clone, Debug, Default, PartialEq, Eq)]
@@ -336,55 +335,6 @@ pub fn run(seed: u64, calls: u64, step: impl Stepping) -> Result<BTreeMap<u8, u6
     Ok(met)
 }
 
-/// Of the rounds that were stepped, how many have as many jobs as there may be, the slowest device, the
-/// longest horizon and the dearest work, and how many all four.
-#[derive(Clone, Debug, Default, PartialEq, Eq)]
-pub struct Ends {
-    pub jobs: u64,
-    pub slow: u64,
-    pub long: u64,
-    pub dear: u64,
-    pub all: u64,
-}
-
-impl Ends {
-    fn add(&mut self, request: &Request) {
-        let some = |is_at_end: fn(&Device) -> bool| request.devices.iter().any(is_at_end);
-        let jobs = request.jobs.len() == MOST_JOBS;
-        let slow = some(|device| device.shut.ticks == u8::MAX.into());
-        let long = request.horizon == MOST_TICKS.into();
-        let dear = some(|device| device.working == u16::MAX.into());
-        self.jobs += u64::from(jobs);
-        self.slow += u64::from(slow);
-        self.long += u64::from(long);
-        self.dear += u64::from(dear);
-        self.all += u64::from(jobs && slow && long && dear);
-    }
-
-    pub fn least(&self) -> u64 {
-        let all = [self.jobs, self.slow, self.long, self.dear, self.all];
-        all.into_iter().min().unwrap_or(0)
-    }
-}
-
-/// The same with calls at the ends of what can be stepped.
-pub fn run_at_ends(
-    seed: u64,
-    calls: u64,
-    step: impl Stepping,
-) -> Result<(BTreeMap<u8, u64>, Ends), String> {
-    let (mut met, mut ends) = (BTreeMap::new(), Ends::default());
-    for number in 0..calls {
-        let call = draw_at_ends(&mut Random::new(seed, number));
-        let number = call.hold(&step)?;
-        *met.entry(number).or_default() += 1;
-        if let (0, Ok(request)) = (number, read(&call.file)) {
-            ends.add(&request);
-        }
-    }
-    Ok((met, ends))
-}
-
 /// A request with starts and a lent list: mostly such as can be stepped, and sometimes a fault of
 /// the file, of the starts, of the list, of a device or of a job.
 pub fn draw(random: &mut Random) -> Call {
@@ -436,84 +386,6 @@ fn shift(random: &mut Random, starts: &mut [u16]) {
             _ => starts[place].saturating_add(by),
         };
     }
-}
-
-/// At the ends of what can be stepped: jobs as many, devices as slow and dear, and a round as long as there
-/// may be, or one below. As many jobs as there may be, each as long as the slowest device's move, fill the
-/// longest round but for 16 ticks.
-fn draw_at_ends(random: &mut Random) -> Call {
-    let (tables, mut starts) = match random.within(1, 4) {
-        1 => full_round(random),
-        _ => full_list(random),
-    };
-    shift(random, &mut starts);
-    let places = tables.devices.len() + random.index(3);
-    let lent = (0..places).map(|_| u32::from(random.u16(0, u16::MAX)) << 16 | 1);
-    Call {
-        file: tables.bytes(),
-        starts,
-        lent: lent.collect(),
-    }
-}
-
-fn end_device(random: &mut Random, slowest: u8) -> DeviceRecord {
-    let sleeping = random.pick(&[0, 0, 1, 30_000, u16::MAX - 2]);
-    let most = u16::MAX - 1;
-    DeviceRecord {
-        transition: random.pick(&[slowest, slowest, slowest - 1, slowest / 2, 1]),
-        working: u16::MAX,
-        sleeping,
-        moving: random.pick(&[most, sleeping + 1]),
-    }
-}
-
-fn end_devices(random: &mut Random) -> Vec<DeviceRecord> {
-    let slowest = random.pick(&[255, 255, 255, 255, 254, 127]);
-    let count = random.pick(&[1, 2, 3, 8]);
-    (0..count).map(|_| end_device(random, slowest)).collect()
-}
-
-/// Jobs in running order with pauses as far as there is room; their numbers are in any order.
-fn full_list(random: &mut Random) -> (Tables, Vec<u16>) {
-    let mut tables = Tables {
-        horizon: random.pick(&[MOST_TICKS, MOST_TICKS, MOST_TICKS, MOST_TICKS - 1]),
-        devices: end_devices(random),
-        ..Tables::default()
-    };
-    let least = longest(&tables.devices);
-    let jobs = random.pick(&[16, 16, 16, 16, 15, 11]);
-    let mut room = tables.horizon - jobs * least;
-    let mut placed = Vec::new();
-    let mut at = 0;
-    for _ in 0..jobs {
-        let before = pause(random, &tables.devices).min(room);
-        let longer = random.pick(&[0, 0, 0, 1, 200]).min(room - before);
-        room -= before + longer;
-        placed.push((at + before, least + longer));
-        at += before + least + longer;
-    }
-    shuffle(random, &mut placed);
-    let all = tables.all_devices();
-    for &(_, running) in &placed {
-        let set = random.u8(0, 255) & all;
-        let record = job(0, tables.horizon, running, set);
-        tables.jobs.push(record);
-    }
-    (tables, placed.iter().map(|&(start, _)| start).collect())
-}
-
-/// A task with as many jobs as there may be in the longest round.
-fn full_round(random: &mut Random) -> (Tables, Vec<u16>) {
-    let mut tables = Tables {
-        devices: end_devices(random),
-        ..Tables::default()
-    };
-    let period = MOST_TICKS / MOST_JOBS as u16;
-    let running = random.u16(longest(&tables.devices), period);
-    let set = random.u8(0, 255) & tables.all_devices();
-    tables.tasks.push(task(period, running, set));
-    let start = |number: u16| number * period + random.u16(0, period - running);
-    (tables, (0..MOST_JOBS as u16).map(start).collect())
 }
 
 fn shuffle(random: &mut Random, placed: &mut [(u16, u16)]) {
@@ -837,38 +709,6 @@ mod tests {
         for (name, rules) in wrong {
             assert!(run(SEED, CALLS, by(rules)).is_err(), "not found: {name}");
         }
-    }
-
-    /// Such as only the ends tell: a time of seven bits, an energy of 27, fifteen jobs at most.
-    #[test]
-    fn a_stepping_that_is_wrong_at_the_ends_is_found() {
-        const CALLS: u64 = 60;
-        let (met, ends) = run_at_ends(SEED, CALLS, stepped).unwrap();
-        assert!(met[&0] > CALLS / 2 && ends.least() > 5, "{met:?} {ends:?}");
-        let short_times = |file: &[u8], starts: &[u16], lent: &[u32]| {
-            let mut file = file.to_vec();
-            if stepped(&file, starts, lent).number == 0 {
-                for device in 0..usize::from(file[2]) {
-                    file[3 + 7 * device] = (file[3 + 7 * device] & 127).max(1);
-                }
-            }
-            by(RULES)(&file, starts, lent)
-        };
-        assert!(run_at_ends(SEED, CALLS, short_times).is_err());
-        let small_sums = |file: &[u8], starts: &[u16], lent: &[u32]| {
-            let mut outcome = stepped(file, starts, lent);
-            outcome.energy %= 1 << 27;
-            outcome
-        };
-        assert!(run(SEED, CALLS, small_sums).is_ok());
-        assert!(run_at_ends(SEED, CALLS, small_sums).is_err());
-        let few_jobs = |file: &[u8], starts: &[u16], lent: &[u32]| {
-            let mut outcome = stepped(file, starts, lent);
-            outcome.energy -= u32::from(outcome.number == 0 && starts.len() == MOST_JOBS);
-            outcome
-        };
-        assert!(run(SEED, CALLS, few_jobs).is_ok());
-        assert!(run_at_ends(SEED, CALLS, few_jobs).is_err());
     }
 
     #[test]

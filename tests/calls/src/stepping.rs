@@ -5,7 +5,7 @@ use crate::expected::{RESULT, SHUT};
 use crate::library;
 use crate::tails::{hand_back, is_blank, longer, BLANK};
 use outside::random::Random;
-use outside::stepping::{by_bytes, draw, run, run_at_ends};
+use outside::stepping::{by_bytes, draw, ends, run};
 use std::collections::BTreeMap;
 
 const SEED: u64 = 90;
@@ -97,7 +97,7 @@ pub fn test() -> Result<BTreeMap<u8, u64>, String> {
     if met[&0] < CALLS / 3 {
         return Err(format!("too few rounds are stepped: {met:?}"));
     }
-    let (met_at_ends, ends) = run_at_ends(SEED, AT_ENDS, by_bytes(with_tails))?;
+    let (met_at_ends, ends) = ends::run(SEED, AT_ENDS, by_bytes(with_tails))?;
     if ends.least() < AT_ENDS / 10 {
         return Err(format!("too few rounds are at the ends: {ends:?}"));
     }
