@@ -17,7 +17,7 @@ mod tails;
 mod writing;
 
 use expected::{pairs, Buffers, Outcome, Searched, RESULT};
-use outside::cases::{draw, Kind};
+use outside::cases::draw;
 use outside::random::Random;
 use outside::readme;
 use outside::tally::Rows;
@@ -219,12 +219,7 @@ fn test() -> Result<String, String> {
     }
     let mut tester = Tester::new(library::search);
     for number in 0..FILES {
-        let case = draw(SEED, number);
-        let searched = match case.kind {
-            Kind::OverBudget => searching::too_long(case.file),
-            _ => Searched::new(case.file),
-        };
-        tester.all(&searched);
+        tester.all(&searching::searched(draw(SEED, number)));
         if let Some(failure) = tester.failure {
             return Err(failure);
         }

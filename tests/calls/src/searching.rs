@@ -3,7 +3,7 @@
 
 use crate::expected::{pairs, Searched, RESULT};
 use crate::{library, Tester, SEED};
-use outside::cases::draw;
+use outside::cases::{draw, Case, Kind};
 use outside::long;
 use outside::random::Random;
 
@@ -32,9 +32,17 @@ pub fn test(tester: &mut Tester) -> Result<(), String> {
     Ok(())
 }
 
+/// What is known of a drawn case.
+pub fn searched(case: Case) -> Searched {
+    match case.kind {
+        Kind::OverBudget => too_long(case.file),
+        _ => Searched::new(case.file),
+    }
+}
+
 /// A request that is too long to list. Start times to be judged may come from anywhere: whether they are
 /// feasible is for the judge to say.
-pub fn too_long(file: Vec<u8>) -> Searched {
+fn too_long(file: Vec<u8>) -> Searched {
     const BUDGET: u32 = 1_000_000;
     let mut searched = Searched::long(file);
     let jobs = searched.read.as_ref().map_or(0, |read| read.jobs.len());
@@ -50,11 +58,11 @@ pub fn too_long(file: Vec<u8>) -> Searched {
 fn is_found(wrong: Search) -> bool {
     let mut tester = Tester::new(wrong);
     (0..FEW).any(|number| {
-        let searched = match number % 6 {
+        let known = match number % 6 {
             0 => too_long(long::draw(&mut Random::new(SEED, number))),
-            _ => Searched::new(draw(SEED, number).file),
+            _ => searched(draw(SEED, number)),
         };
-        tester.search(&searched);
+        tester.search(&known);
         tester.failure.is_some()
     })
 }
