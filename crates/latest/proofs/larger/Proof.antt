@@ -1,0 +1,14 @@
+-- `latest::larger` meets its contract. The prover would close it by itself; this file names the two facts, at which a wrong program is refused.
+-- Assumes nothing.
+use native.Mathlib.Omega.{arith}
+use Rattle.latest.proofs.larger.Statement.{statement}
+use Rattle.latest.proofs.larger.Tie as tie
+
+returns : tie.Need-returns
+returns c = omega arith
+
+returns-2 : tie.Need-returns-2
+returns-2 c = omega arith
+
+pub larger-spec : {M : Type 1} → statement M
+larger-spec = tie.close (tie.spec returns returns-2)
