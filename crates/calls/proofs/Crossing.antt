@@ -14,7 +14,7 @@ use Rattle.planner.specs.declared.Answer.{Answer}
 use Rattle.planner.specs.Promises.{refusal, Reads, OfFile, refused, read, SearchOf}
 use Rattle.planner.specs.Promises as P
 use Rattle.calls.specs.Bytes.{spread, startsIn}
-use Rattle.calls.specs.Calls.{told, Roomed, cramped, roomy, Called, called, blank, SearchCallOf, kept, given, RowsCallOf, RowsCalled}
+use Rattle.calls.specs.Calls.{told, Roomed, cramped, roomy, Called, called, blank, StartsOf, kept, given, RowsCallOf, RowsCalled}
 use Rattle.calls.specs.Cramped.{Cramped}
 use Rattle.calls.proofs.Digits.{told-none}
 
@@ -62,27 +62,41 @@ own-starts bytes z own n h e =
     let whole : own ≡ startsIn bytes n = e ∙ ap (startsIn bytes) (length-take-le n z h) in
     take-at own (drop n z) n (ap length whole ∙ length-upTo (λ j. pairAt bytes (j * 2)) n) ∙ whole
 
-pub search-short : (budget : ℕ) (lent : List ℕ) (R : Recorder) → length lent < jobs R * 2 → SearchCallOf budget lent R (refusal 15) lent
-search-short budget lent R h = kept (λ (z : _≡_ {A = ℕ} 15 0). omega arith) (P.SearchOf.short (rw length-replicate (omega arith)))
+-- What is planned is written to a list of its own, which has room for every job: what it leaves there goes to the bytes that are lent, if they have room too.
+-- `alike`: any list with room gets the same answer and the same starts.
+module _
+    (Plans : List ℕ → Recorder → Answer → List ℕ → Type 0) (lent : List ℕ) (R : Recorder)
+    (alike : (own own′ : List ℕ) (a : Answer) (after : List ℕ) → jobs R ≤ length own → jobs R ≤ length own′ → Plans own R a after
+    → (after′ : List ℕ) × Plans own′ R a after′ × (a .number ≡ 0 → take (jobs R) after′ ≡ take (jobs R) after))
+    (fits : jobs R * 2 ≤ length lent)
+  where
+    places : jobs R ≤ length (blank lent)
+    places = rw length-replicate (omega arith)
 
--- The search writes to a list of its own, which has room for every job: what it leaves there goes to the bytes that are lent, if they have room too.
-module _ (budget : ℕ) (lent : List ℕ) (R : Recorder) (fits : jobs R * 2 ≤ length lent) where
-  places : jobs R ≤ length (blank lent)
-  places = rw length-replicate (omega arith)
+    pub starts-kept : (own : List ℕ) {a : Answer} {after : List ℕ} → jobs R ≤ length own → (a .number ≡ 0 → ⊥) → Plans own R a after → StartsOf Plans lent R a lent
+    starts-kept own h n p = kept n (alike own (blank lent) _ _ h places p .1)
 
-  pub search-kept : (own : List ℕ) {a : Answer} {after : List ℕ} → jobs R ≤ length own → (a .number ≡ 0 → ⊥) → SearchOf budget own R a after
-      → SearchCallOf budget lent R a lent
-  search-kept own h n (P.SearchOf.short s) = absurd (omega arith)
-  search-kept own h n (P.SearchOf.over s b) = kept n (P.SearchOf.over places b)
-  search-kept own h n (P.SearchOf.none s b f) = kept n (P.SearchOf.none places b f)
-  search-kept own h n (P.SearchOf.found s b f) = absurd (n refl)
+    pub starts-given : (own : List ℕ) {a : Answer} {after : List ℕ} → jobs R ≤ length own → a .number ≡ 0 → Plans own R a after
+        → StartsOf Plans lent R a (spread (take (jobs R) after) ++ drop (jobs R * 2) lent)
+    starts-given own {a = a} h z p =
+        let q = alike own (blank lent) a _ h places p in
+        subst (λ (x : List ℕ). StartsOf Plans lent R a (spread x ++ drop (jobs R * 2) lent)) (q .2 z) (given z (q .1))
 
-  pub search-given : (own : List ℕ) {a : Answer} {after : List ℕ} → a .number ≡ 0 → SearchOf budget own R a after
-      → SearchCallOf budget lent R a (spread (take (jobs R) after) ++ drop (jobs R * 2) lent)
-  search-given own z (P.SearchOf.short s) = absurd (omega arith)
-  search-given own z (P.SearchOf.over s b) = absurd (omega arith)
-  search-given own z (P.SearchOf.none s b f) = absurd (omega arith)
-  search-given own {a = a} z (P.SearchOf.found {s = s} h b f) =
-      let front : (l : List ℕ) → take (jobs R) (s ++ l) ≡ s = λ l. take-at s l (jobs R) (f .feasible .one-each) in
-      subst (λ (x : List ℕ). SearchCallOf budget lent R a (spread x ++ drop (jobs R * 2) lent)) (front (drop (jobs R) (blank lent)) ∙ sym (front (drop (jobs R) own)))
-      (given z (P.SearchOf.found places b f))
+-- Where the lent bytes have too little room, so has a list of as many start times as they have pairs.
+pub starts-short : (Plans : List ℕ → Recorder → Answer → List ℕ → Type 0) (lent : List ℕ) (R : Recorder) → length lent < jobs R * 2
+    → (length (blank lent) < jobs R → Plans (blank lent) R (refusal 15) (blank lent)) → StartsOf Plans lent R (refusal 15) lent
+starts-short Plans lent R h short = kept (λ (z : _≡_ {A = ℕ} 15 0). omega arith) (short (rw length-replicate (omega arith)))
+
+-- A schedule at the front of a list.
+pub front-same : (R : Recorder) (s l l′ : List ℕ) → length s ≡ jobs R → take (jobs R) (s ++ l′) ≡ take (jobs R) (s ++ l)
+front-same R s l l′ e = take-at s l′ (jobs R) e ∙ sym (take-at s l (jobs R) e)
+
+-- ---- the search
+
+pub search-alike : (budget : ℕ) (R : Recorder) (own own′ : List ℕ) (a : Answer) (after : List ℕ) → jobs R ≤ length own → jobs R ≤ length own′
+    → SearchOf budget own R a after → (after′ : List ℕ) × SearchOf budget own′ R a after′ × (a .number ≡ 0 → take (jobs R) after′ ≡ take (jobs R) after)
+search-alike budget R own own′ a after h h′ (P.SearchOf.short s) = absurd (omega arith)
+search-alike budget R own own′ a after h h′ (P.SearchOf.over s b) = (own′, P.SearchOf.over h′ b, λ (z : _≡_ {A = ℕ} 20 0). absurd (omega arith))
+search-alike budget R own own′ a after h h′ (P.SearchOf.none s b f) = (own′, P.SearchOf.none h′ b f, λ (z : _≡_ {A = ℕ} 19 0). absurd (omega arith))
+search-alike budget R own own′ a after h h′ (P.SearchOf.found {s = s} r b f) =
+    (s ++ drop (jobs R) own′, P.SearchOf.found h′ b f, λ z. front-same R s (drop (jobs R) own) (drop (jobs R) own′) (f .feasible .one-each))

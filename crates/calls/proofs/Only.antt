@@ -8,10 +8,10 @@ use lib.ListN.{take, drop}
 use Rattle.schedule.specs.declared.Recorder.{Recorder}
 use Rattle.schedule.specs.Quantities.{jobs, Valid}
 use Rattle.planner.specs.declared.Answer.{Answer}
-use Rattle.planner.specs.Promises.{CheckOf, RowsOf}
+use Rattle.planner.specs.Promises.{CheckOf, RowsOf, SearchOf}
 use Rattle.planner.proofs.Only.{only-of-file, one-check, one-rows, one-search}
 use Rattle.calls.specs.Bytes.{spread, startsIn}
-use Rattle.calls.specs.Calls.{told, Roomed, cramped, roomy, Called, called, CheckCallOf, CheckCalled, SearchCallOf, kept, given, SearchCalled}
+use Rattle.calls.specs.Calls.{told, Roomed, cramped, roomy, Called, called, CheckCallOf, CheckCalled, blank, StartsOf, kept, given, StartsCalled, SearchCalled}
 use Rattle.calls.specs.Calls.{RowsCallOf, RowsCalled}
 
 -- The law of every call: what has one outcome for each valid recorder has one for each file and result buffer.
@@ -37,21 +37,29 @@ only-check-called file result p p′ =
     (λ R v a a′ u u′. one-roomed {L = Unit {0}} result tt (λ b w. CheckOf R b) (λ b b′ w w′ x x′. (one-check R x x′, refl))) p p′ in
     (e .0, e .1)
 
--- What the search gives or keeps goes by the number of its answer.
-one-search-call : (budget : ℕ) (lent : List ℕ) (R : Recorder) → Valid R → {a a′ : Answer} {l l′ : List ℕ}
-    → SearchCallOf budget lent R a l → SearchCallOf budget lent R a′ l′ → (a ≡ a′) × (l ≡ l′)
-one-search-call budget lent R v (kept n x) (kept n′ x′) = (one-search budget _ R v x x′ .0, refl)
-one-search-call budget lent R v (kept n x) (given z′ x′) = absurd (n (ap (λ (a : Answer). a .number) (one-search budget _ R v x x′ .0) ∙ z′))
-one-search-call budget lent R v (given z x) (kept n′ x′) = absurd (n′ (sym (ap (λ (a : Answer). a .number) (one-search budget _ R v x x′ .0)) ∙ z))
-one-search-call budget lent R v (given z x) (given z′ x′) =
-    let e = one-search budget _ R v x x′ in
+-- What is planned is given or kept by the number of its answer.
+one-starts : (Plans : List ℕ → Recorder → Answer → List ℕ → Type 0) (lent : List ℕ) (R : Recorder)
+    → ((a a′ : Answer) (l l′ : List ℕ) → Plans (blank lent) R a l → Plans (blank lent) R a′ l′ → (a ≡ a′) × (l ≡ l′))
+    → {a a′ : Answer} {l l′ : List ℕ} → StartsOf Plans lent R a l → StartsOf Plans lent R a′ l′ → (a ≡ a′) × (l ≡ l′)
+one-starts Plans lent R one (kept n x) (kept n′ x′) = (one _ _ _ _ x x′ .0, refl)
+one-starts Plans lent R one (kept n x) (given z′ x′) = absurd (n (ap (λ (a : Answer). a .number) (one _ _ _ _ x x′ .0) ∙ z′))
+one-starts Plans lent R one (given z x) (kept n′ x′) = absurd (n′ (sym (ap (λ (a : Answer). a .number) (one _ _ _ _ x x′ .0)) ∙ z))
+one-starts Plans lent R one (given z x) (given z′ x′) =
+    let e = one _ _ _ _ x x′ in
     (e .0, ap (λ (s : List ℕ). spread (take (jobs R) s) ++ drop (jobs R * 2) lent) (e .1))
+
+-- The law of every call that gives a plan's start times.
+pub only-starts-called : (Plans : List ℕ → Recorder → Answer → List ℕ → Type 0)
+    → ((lent : List ℕ) (R : Recorder) → Valid R → (a a′ : Answer) (l l′ : List ℕ) → Plans lent R a l → Plans lent R a′ l′ → (a ≡ a′) × (l ≡ l′))
+    → (file lent result : List ℕ) {n n′ : ℕ} {l l′ r r′ : List ℕ}
+    → StartsCalled Plans file lent result n l r → StartsCalled Plans file lent result n′ l′ r′ → (n ≡ n′) × (r ≡ r′) × (l ≡ l′)
+only-starts-called Plans one file lent result =
+    only-called file result lent (λ R a l. Roomed result lent (StartsOf Plans lent R) a l)
+    (λ R v a a′ l l′. one-roomed result lent (StartsOf Plans lent R) (λ b b′ m m′. one-starts Plans lent R (one (blank lent) R v)))
 
 pub only-search-called : (file : List ℕ) (budget : ℕ) (lent result : List ℕ) {n n′ : ℕ} {l l′ r r′ : List ℕ}
     → SearchCalled file budget lent result n l r → SearchCalled file budget lent result n′ l′ r′ → (n ≡ n′) × (r ≡ r′) × (l ≡ l′)
-only-search-called file budget lent result =
-    only-called file result lent (λ R a l. Roomed result lent (SearchCallOf budget lent R) a l)
-    (λ R v a a′ l l′. one-roomed result lent (SearchCallOf budget lent R) (λ b b′ m m′. one-search-call budget lent R v))
+only-search-called file budget = only-starts-called (SearchOf budget) (λ lent R v a a′ l l′. one-search budget lent R v) file
 
 one-rows-call : (starts lent result : List ℕ) (R : Recorder) → Valid R → {a a′ : Answer} {l l′ : List ℕ}
     → RowsCallOf starts lent result R a l → RowsCallOf starts lent result R a′ l′ → (a ≡ a′) × (l ≡ l′)

@@ -36,19 +36,25 @@ CheckCallOf result R a u = Roomed {L = Unit {0}} result tt (λ b v. CheckOf R b)
 abbrev pub CheckCalled : List ℕ → List ℕ → ℕ → List ℕ → Type 0
 CheckCalled file result n after = Called {L = Unit {0}} file result tt (CheckCallOf result) n after tt
 
--- ---- `floe_search`: the lent bytes hold as many start times as they have pairs; a plan's go to the first of them, and nothing else is written (rule 73)
+-- ---- a plan's start times: the lent bytes hold as many as they have pairs; the plan's go to the first of them, and nothing else is written (rule 73)
 
 abbrev pub blank : List ℕ → List ℕ
 blank lent = replicate (length lent / 2) 0
 
-pub data SearchCallOf (budget : ℕ) (lent : List ℕ) (R : Recorder) : Answer → List ℕ → Type 0 where
-  kept : {a : Answer} {starts : List ℕ} → (a .number ≡ 0 → ⊥) → SearchOf budget (blank lent) R a starts → SearchCallOf budget lent R a lent
-  given : {a : Answer} {starts : List ℕ} → a .number ≡ 0 → SearchOf budget (blank lent) R a starts
-      → SearchCallOf budget lent R a (spread (take (jobs R) starts) ++ drop (jobs R * 2) lent)
+-- `Plans` says what is planned where numbers are lent.
+pub data StartsOf (Plans : List ℕ → Recorder → Answer → List ℕ → Type 0) (lent : List ℕ) (R : Recorder) : Answer → List ℕ → Type 0 where
+  kept : {a : Answer} {starts : List ℕ} → (a .number ≡ 0 → ⊥) → Plans (blank lent) R a starts → StartsOf Plans lent R a lent
+  given : {a : Answer} {starts : List ℕ} → a .number ≡ 0 → Plans (blank lent) R a starts
+      → StartsOf Plans lent R a (spread (take (jobs R) starts) ++ drop (jobs R * 2) lent)
+
+abbrev pub StartsCalled : (List ℕ → Recorder → Answer → List ℕ → Type 0) → List ℕ → List ℕ → List ℕ → ℕ → List ℕ → List ℕ → Type 0
+StartsCalled Plans file lent result n lent′ result′ =
+    Called file result lent (λ R a l. Roomed result lent (StartsOf Plans lent R) a l) n result′ lent′
+
+-- ---- `floe_search`
 
 abbrev pub SearchCalled : List ℕ → ℕ → List ℕ → List ℕ → ℕ → List ℕ → List ℕ → Type 0
-SearchCalled file budget lent result n lent′ result′ =
-    Called file result lent (λ R a l. Roomed result lent (SearchCallOf budget lent R) a l) n result′ lent′
+SearchCalled file budget lent result n lent′ result′ = StartsCalled (SearchOf budget) file lent result n lent′ result′
 
 -- ---- `floe_rows`: two bytes a job, neither more nor fewer (rule 73)
 

@@ -4,7 +4,6 @@
 ghost use Rattle.calls.specs.Calls.{CheckCalled, SearchCalled, RowsCalled};
 use crate::paired::rows_bytes;
 use crate::paired::search_bytes;
-use crate::results::cramped;
 use planner::check;
 use planner::refusal;
 use request::read;
@@ -17,6 +16,7 @@ pub use crate::bytes::get_starts;
 pub use crate::bytes::put;
 pub use crate::bytes::put_starts;
 pub use crate::results::RESULT;
+pub use crate::results::cramped;
 pub use crate::results::tell;
 
 // Whether the file is accepted, and its horizon.

@@ -2,9 +2,9 @@
 ghost use mathlib.Core.Path.{_≡_};
 ghost use Prim.Native.Nat.{_*_, _≤_};
 ghost use lib.ListN.{length};
-ghost use Rattle.planner.specs.Promises.{OfFile, Rowed};
+ghost use Rattle.planner.specs.Promises.{OfFile, SearchOf, Rowed};
 ghost use Rattle.calls.specs.Bytes.{startsIn};
-ghost use Rattle.calls.specs.Calls.{SearchCallOf};
+ghost use Rattle.calls.specs.Calls.{StartsOf};
 use crate::bytes::get_starts;
 use crate::bytes::put_starts;
 use planner::Answer;
@@ -15,7 +15,7 @@ use request::read;
 
 // The start times of a plan go to the first bytes; a refusal writes nothing.
 pub fn search_bytes(file: &[u8], budget: u32, bytes: &mut [u8]) -> Answer
-    ensures { λ a. ⌜ OfFile (now (file .entry)) (now (bytes .entry)) (SearchCallOf budget (now (bytes .entry))) a (now (bytes .exit)) ⌝ }
+    ensures { λ a. ⌜ OfFile (now (file .entry)) (now (bytes .entry)) (StartsOf (SearchOf budget) (now (bytes .entry))) a (now (bytes .exit)) ⌝ }
 {
     let request = read(file);
     if request.number != 0 {

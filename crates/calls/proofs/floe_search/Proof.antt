@@ -1,6 +1,7 @@
 -- `calls::floe_search` meets its contract.
 -- Assumes nothing.
-use Rattle.calls.specs.Calls.{SearchCallOf}
+use Rattle.planner.specs.Promises.{SearchOf}
+use Rattle.calls.specs.Calls.{StartsOf}
 use Rattle.calls.proofs.Crossing.{cramped-call, roomy-call}
 use borrow.Author.Needs.{needs}
 use Rattle.calls.proofs.floe_search.Statement.{statement}
@@ -10,7 +11,7 @@ cramped-requires : tie.Need-cramped-requires
 cramped-requires c κs = search needs
 
 returns : tie.Need-returns
-returns c = let s = c .before .before .before .before .before .args in cramped-call _ _ (s .starts .now) (SearchCallOf (s .budget) (s .starts .now)) (c .before .if1 .taken) (c .cramped .ensures)
+returns c = let s = c .before .before .before .before .before .args in cramped-call _ _ (s .starts .now) (StartsOf (SearchOf (s .budget)) (s .starts .now)) (c .before .if1 .taken) (c .cramped .ensures)
 
 search-bytes-requires : tie.Need-search-bytes-requires
 search-bytes-requires c κs = search needs
@@ -25,7 +26,7 @@ same-length-2 : tie.Need-same-length-2
 same-length-2 c = search needs
 
 returns-2 : tie.Need-returns-2
-returns-2 c = let s = c .before .before .before .before .before .before .before .before .before .before .before .before .args in let told = c .before .before .tell .ensures in rw (told .0, told .1) (roomy-call _ _ (s .starts .now) (SearchCallOf (s .budget) (s .starts .now)) (c .before .before .before .before .before .before .before .before .if1 .left) (c .before .before .before .before .before .before .search-bytes .ensures))
+returns-2 c = let s = c .before .before .before .before .before .before .before .before .before .before .before .before .args in let told = c .before .before .tell .ensures in rw (told .0, told .1) (roomy-call _ _ (s .starts .now) (StartsOf (SearchOf (s .budget)) (s .starts .now)) (c .before .before .before .before .before .before .before .before .if1 .left) (c .before .before .before .before .before .before .search-bytes .ensures))
 
 pub floe-search-spec : {M : Type 1} → statement M
 floe-search-spec =

@@ -9,7 +9,7 @@ use Rattle.schedule.specs.Quantities.{jobs}
 use Rattle.request.proofs.Accepted.{read-accepted, read-refused, accepted-valid}
 use Rattle.planner.specs.Promises as P
 use Rattle.planner.specs.Promises.{Reads}
-use Rattle.calls.proofs.Crossing.{outcome-of, search-short, search-kept, search-given}
+use Rattle.calls.proofs.Crossing.{outcome-of, starts-short, starts-kept, starts-given, search-alike}
 use borrow.Author.Needs.{needs}
 use Rattle.calls.proofs.paired.search_bytes.Statement.{statement}
 use Rattle.calls.proofs.paired.search_bytes.Tie as tie
@@ -37,7 +37,7 @@ refusal-requires-2 : tie.Need-refusal-requires-2
 refusal-requires-2 c κs = search needs
 
 returns-2 : tie.Need-returns-2
-returns-2 c = rw (c .refusal2 .ensures) (P.OfFile.read (recorded (c .before .before)) (search-short _ _ _ (c .before .if2 .taken)))
+returns-2 c = rw (c .refusal2 .ensures) (P.OfFile.read (recorded (c .before .before)) (starts-short _ _ _ (c .before .if2 .taken) P.SearchOf.short))
 
 slice-aggregate-search : tie.Need-slice-aggregate-search
 slice-aggregate-search c = search needs
@@ -61,10 +61,10 @@ returns-3 : tie.Need-returns-3
 returns-3 c =
     let room : jobs (c .before .before .before .before .before .before .before .before .before .before .before .before .before .read .result .recorder) ≤ length (c .before .before .before .before .before .before .before .before .search .last .1 .1 .0) = omega (arith, few (c .before .before .before .before .before .before .before .before .before .before .before), c .before .before .before .before .before .before .before .before .search .kept) in
     rw (c .before .before .put-starts .ensures, length-take-le _ _ room)
-    (P.OfFile.read (recorded (c .before .before .before .before .before .before .before .before .before .before .before)) (search-given _ _ _ (c .before .before .before .before .before .before .before .before .before .before .if2 .left) _ (c .before .before .before .before .before .if3 .taken) (outcome-of _ _ _ (recorded (c .before .before .before .before .before .before .before .before .before .before .before)) (c .before .before .before .before .before .before .before .before .search .ensures))))
+    (P.OfFile.read (recorded (c .before .before .before .before .before .before .before .before .before .before .before)) (starts-given _ _ _ (search-alike _ _) (c .before .before .before .before .before .before .before .before .before .before .if2 .left) _ (omega (arith, few (c .before .before .before .before .before .before .before .before .before .before .before))) (c .before .before .before .before .before .if3 .taken) (outcome-of _ _ _ (recorded (c .before .before .before .before .before .before .before .before .before .before .before)) (c .before .before .before .before .before .before .before .before .search .ensures))))
 
 returns-4 : tie.Need-returns-4
-returns-4 c = P.OfFile.read (recorded (c .before .before .before .before .before .before)) (search-kept _ _ _ (c .before .before .before .before .before .if2 .left) _ (omega (arith, few (c .before .before .before .before .before .before))) (c .if3 .left) (outcome-of _ _ _ (recorded (c .before .before .before .before .before .before)) (c .before .before .before .search .ensures)))
+returns-4 c = P.OfFile.read (recorded (c .before .before .before .before .before .before)) (starts-kept _ _ _ (search-alike _ _) (c .before .before .before .before .before .if2 .left) _ (omega (arith, few (c .before .before .before .before .before .before))) (c .if3 .left) (outcome-of _ _ _ (recorded (c .before .before .before .before .before .before)) (c .before .before .before .search .ensures)))
 
 pub search-bytes-spec : {M : Type 1} → statement M
 search-bytes-spec =
