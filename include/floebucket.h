@@ -11,6 +11,9 @@
  * What does not apply is 0. The result buffer is the one place that a refusal writes to, and bytes after the eleventh stay as they were. A shorter one is a
  * refusal 15, after the file's own refusals and after 14, and then nothing at all is written.
  *
+ * Stack that a call needs in all, measured as the least with which a thread that makes it still ends (x86-64; it changes a little with the request): floe_search
+ * 144 KiB, floe_first 139 KiB, the others at most the 16 KiB that every thread has.
+ *
  * A null pointer, a length that is not the buffer's, or buffers that overlap: then nothing is promised. An empty buffer may have any pointer. */
 #ifndef FLOEBUCKET_H
 #define FLOEBUCKET_H
@@ -28,8 +31,12 @@ extern "C" {
 uint8_t floe_check(const uint8_t *file, size_t file_len, uint8_t *result, size_t result_len);
 
 /* The plan of least energy: its start times by job number, two bytes each, if the budget covers the vertices of the search. `starts` has at least two bytes
- * for each job; what follows the last job's stays as it was. The search keeps 129 KiB on the stack. */
+ * for each job; what follows the last job's stays as it was. */
 uint8_t floe_search(const uint8_t *file, size_t file_len, uint32_t budget, uint8_t *starts, size_t starts_len, uint8_t *result, size_t result_len);
+
+/* Whether there is any plan: the start times of the first of all, whatever it costs, or 19 if there is none. No request takes longer than some milliseconds, so
+ * that there is no budget, and count and energy are 0. `starts` as above. */
+uint8_t floe_first(const uint8_t *file, size_t file_len, uint8_t *starts, size_t starts_len, uint8_t *result, size_t result_len);
 
 /* For start times that are feasible, two bytes each and exactly one for each job: the row of every device, one letter a tick (W working, D going down,
  * S asleep, or in a file of the third kind 1 to 4 for the level, U coming up), that of device k from byte k x horizon on. `rows` has at least devices x horizon bytes; the rest stays as it was. */
