@@ -12,6 +12,7 @@ pub mod damage;
 pub mod example;
 pub mod expect;
 pub mod faults;
+pub mod first;
 pub mod fixed;
 pub mod judge;
 pub mod listing;

@@ -27,7 +27,7 @@ pub struct Outcome {
 
 impl Outcome {
     /// Energy and job are 0 in every outcome.
-    fn new(number: u8, horizon: u32, count: u32, starts: Vec<u16>) -> Outcome {
+    pub(crate) fn new(number: u8, horizon: u32, count: u32, starts: Vec<u16>) -> Outcome {
         let mut result = [0; 11];
         result[1..3].copy_from_slice(&(horizon as u16).to_be_bytes());
         result[7..].copy_from_slice(&count.to_be_bytes());
@@ -248,7 +248,7 @@ pub fn draw(random: &mut Random) -> Question {
 }
 
 /// Mostly good files of every shape, and some damaged ones.
-fn draw_file(random: &mut Random) -> Vec<u8> {
+pub(crate) fn draw_file(random: &mut Random) -> Vec<u8> {
     match random.within(1, 16) {
         1 => crowded_list(random).bytes(),
         2 => long_list(random).bytes(),
@@ -276,7 +276,7 @@ fn hopeless(random: &mut Random) -> Tables {
 }
 
 /// A lent list, mostly as long as needed or longer, filled with numbers that mean nothing.
-fn lent(random: &mut Random, needed: usize) -> Vec<u16> {
+pub(crate) fn lent(random: &mut Random, needed: usize) -> Vec<u16> {
     let length = match random.within(1, 12) {
         1 => random.within(0, needed as u64) as usize,
         2 => needed.saturating_sub(1),

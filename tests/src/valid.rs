@@ -289,7 +289,7 @@ pub fn crowded_list(random: &mut Random) -> Tables {
 }
 
 /// Job numbers must not say anything about the running order.
-fn shuffle(random: &mut Random, jobs: &mut [JobRecord]) {
+pub fn shuffle(random: &mut Random, jobs: &mut [JobRecord]) {
     for place in (1..jobs.len()).rev() {
         jobs.swap(place, random.index(place + 1));
     }

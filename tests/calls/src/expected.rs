@@ -2,7 +2,7 @@
 //! and every byte that is lent.
 
 use outside::judge::judge;
-use outside::listing::{first_of_the_least, uses, Schedule};
+use outside::listing::{self, first_of_the_least, uses, Schedule};
 use outside::long::{self, Found};
 use outside::request::{read, Request};
 use outside::rows::row_given;
@@ -138,6 +138,11 @@ pub fn pairs(bytes: &[u8]) -> Vec<u32> {
     bytes.chunks_exact(2).map(pair).collect()
 }
 
+fn two_bytes(starts: &[u32]) -> Vec<u8> {
+    let bytes = |start: &u32| (*start as u16).to_be_bytes();
+    starts.iter().flat_map(bytes).collect()
+}
+
 /// A file, with what its search comes to. Worked out once, for any budget.
 pub struct Searched {
     pub file: Vec<u8>,
@@ -232,11 +237,24 @@ impl Searched {
         assert!(self.is_whole, "what comes of this budget is not known");
         match &self.best {
             None => before.after(after(19, self.count as u32), &[]),
-            Some(schedule) => {
-                let start = |start: &u32| (*start as u16).to_be_bytes();
-                let written: Vec<u8> = schedule.starts.iter().flat_map(start).collect();
-                before.after(success(request, schedule.energy, self.count), &written)
-            }
+            Some(schedule) => before.after(
+                success(request, schedule.energy, self.count),
+                &two_bytes(&schedule.starts),
+            ),
+        }
+    }
+
+    pub fn first(&self, before: &Buffers) -> Outcome {
+        let request = match &self.read {
+            Err(number) => return before.refused(*number),
+            Ok(request) => request,
+        };
+        if before.is_short() || before.lent.len() < 2 * request.jobs.len() {
+            return before.refused(15);
+        }
+        match listing::first(request) {
+            None => before.refused(19),
+            Some(starts) => before.after(success(request, 0, 0), &two_bytes(&starts)),
         }
     }
 

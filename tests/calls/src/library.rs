@@ -12,6 +12,14 @@ mod c {
             r: *mut u8,
             r_len: usize,
         ) -> u8;
+        pub fn floe_first(
+            f: *const u8,
+            f_len: usize,
+            s: *mut u8,
+            s_len: usize,
+            r: *mut u8,
+            r_len: usize,
+        ) -> u8;
         pub fn floe_rows(
             f: *const u8,
             f_len: usize,
@@ -157,6 +165,19 @@ pub fn search(file: &[u8], budget: u32, starts: &mut [u8], result: &mut [u8]) ->
             file.as_ptr(),
             file.len(),
             budget,
+            starts.as_mut_ptr(),
+            starts.len(),
+            result.as_mut_ptr(),
+            result.len(),
+        )
+    }
+}
+
+pub fn first(file: &[u8], starts: &mut [u8], result: &mut [u8]) -> u8 {
+    unsafe {
+        c::floe_first(
+            file.as_ptr(),
+            file.len(),
             starts.as_mut_ptr(),
             starts.len(),
             result.as_mut_ptr(),

@@ -6,6 +6,7 @@ mod catalogue;
 mod chosen;
 mod expected;
 mod figures;
+mod first;
 mod library;
 mod looser;
 mod mend;
@@ -119,6 +120,14 @@ impl Tester {
         budgets
     }
 
+    fn first(&mut self, searched: &Searched, jobs: usize) {
+        let mut after = self.buffers(2 * jobs);
+        let expected = searched.first(&after);
+        let number = library::first(&searched.file, &mut after.lent, &mut after.result);
+        let got = outcome(number, after);
+        self.compare("floe_first", &searched.file, expected, got);
+    }
+
     /// Starts in the jobs' windows, or just outside, or anywhere; or those of the plan. As many as
     /// there are jobs, or not.
     fn starts(&mut self, searched: &Searched) -> Vec<u8> {
@@ -195,6 +204,7 @@ impl Tester {
         }
         self.check(searched);
         self.search(searched);
+        self.first(searched, jobs);
         for _ in 0..3 {
             self.rows(searched, size);
             self.verdict(searched);
@@ -235,10 +245,11 @@ fn test() -> Result<String, String> {
     for (name, met) in [
         ("door_mend", mend::test()?),
         ("door_possible", possible::test()?),
+        ("floe_first", first::test()?),
         ("door_step", stepping::test()?),
     ] {
         for (number, count) in met {
-            tester.met.insert((name, number), count);
+            *tester.met.entry((name, number)).or_default() += count;
         }
     }
     for ((name, number), count) in &tester.met {
