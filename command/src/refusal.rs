@@ -229,12 +229,12 @@ fn starts_fault(number: u8, at: usize, jobs: &[Job], starts: &[u16]) -> Option<S
     }
 }
 
-/// 19 or 20, of a search.
+/// 19 or 20, of a search, or 19 from where nothing is counted: a search counts one vertex at least.
 pub fn of_search(refused: Refused) -> Failure {
     let Refused { number, count, .. } = refused;
     let vertices = if count == 1 { "vertex" } else { "vertices" };
     let words = match number {
-        19 => format!("{} ({count} {vertices} searched)", meaning(19)),
+        19 if count > 0 => format!("{} ({count} {vertices} searched)", meaning(19)),
         20 => format!("the search has more than {count} {vertices}, which is the budget"),
         _ => meaning(number).to_string(),
     };

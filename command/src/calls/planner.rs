@@ -17,6 +17,14 @@ mod c {
             r: *mut u8,
             r_len: usize,
         ) -> u8;
+        pub fn floe_first(
+            f: *const u8,
+            f_len: usize,
+            s: *mut u8,
+            s_len: usize,
+            r: *mut u8,
+            r_len: usize,
+        ) -> u8;
         pub fn floe_rows(
             f: *const u8,
             f_len: usize,
@@ -211,7 +219,22 @@ pub fn search(file: &[u8], budget: u32) -> Answered<Found> {
     })
 }
 
-/// The first of all plans, whatever it costs.
+/// The first of all plans, whatever it costs, in some milliseconds: its start times.
+pub fn first_plan(file: &[u8]) -> Answered<Vec<u16>> {
+    let found = found(file, |starts, result| unsafe {
+        c::floe_first(
+            file.as_ptr(),
+            file.len(),
+            starts.as_mut_ptr(),
+            starts.len(),
+            result.as_mut_ptr(),
+            result.len(),
+        )
+    });
+    found.map(|found| found.starts)
+}
+
+/// The same by a visit that counts, if the budget covers its vertices.
 pub fn any_plan(file: &[u8], budget: u32) -> Answered<Found> {
     found(file, |starts, result| unsafe {
         c::door_possible(

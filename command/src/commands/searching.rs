@@ -21,46 +21,55 @@ pub fn plan(mut arguments: Arguments) -> Result<Vec<u8>, Failure> {
     Ok(plan.text().into_bytes())
 }
 
-/// The plan of least energy.
+/// The plan of least energy. Without a budget it is asked first whether there is any: that takes some
+/// milliseconds, where a search that finds none takes its longest.
 pub fn best(request: &Request, budget: Option<u32>) -> Result<Plan, Failure> {
     let file = &request.file;
-    let found = searched(budget, |budget| planner::search(file, budget));
+    let found = match budget {
+        Some(budget) => planner::search(file, budget),
+        None => planner::first_plan(file).and_then(|_| searched(file)),
+    };
     found
         .and_then(|found| Plan::of_starts(file, &found.starts, Some(found.count)))
         .map_err(|refused| request.not_found(refused))
 }
 
+/// Whether there is any plan: with a budget by the visit that it is for, else by the one answer that
+/// needs none.
 pub fn possible(mut arguments: Arguments) -> Result<Vec<u8>, Failure> {
     let path = arguments.next("REQUEST")?;
     arguments.end()?;
     let budget = arguments.budget()?;
     let request = Request::open(&path)?;
     let file = &request.file;
-    let found = searched(budget, |budget| planner::any_plan(file, budget));
-    let answer = found.and_then(|found| {
-        let margins = planner::margins(file, &found.starts)?;
-        Ok((found, margins))
+    let found = match budget {
+        Some(budget) => planner::any_plan(file, budget).map(|found| {
+            let vertices = format!("vertices {}\n", found.count);
+            (vertices, found.starts)
+        }),
+        None => planner::first_plan(file).map(|starts| (String::new(), starts)),
+    };
+    let answer = found.and_then(|(vertices, starts)| {
+        let margins = planner::margins(file, &starts)?;
+        Ok(format!("yes\n{vertices}{}", job_lines(&starts, &margins)))
     });
-    let (found, margins) = answer.map_err(|refused| request.not_found(refused))?;
-    let jobs = job_lines(&found.starts, &margins);
-    Ok(format!("yes\nvertices {}\n{jobs}", found.count).into_bytes())
+    answer
+        .map(String::into_bytes)
+        .map_err(|refused| request.not_found(refused))
 }
 
 const FIRST_BUDGET: u32 = 1_000_000;
 const STEP: u32 = 4;
 
-/// Searches with the budget given, or else with rising ones: a larger budget changes no answer but
-/// 20, which is proved (`larger-budget`), so that the first other answer is the answer.
-fn searched(
-    given: Option<u32>,
-    search: impl Fn(u32) -> Result<Found, Refused>,
-) -> Result<Found, Refused> {
-    let mut budget = given.unwrap_or(FIRST_BUDGET);
+/// Searches with rising budgets: a larger budget changes no answer but 20, which is proved
+/// (`larger-budget`), so that the first other answer is the answer.
+fn searched(file: &[u8]) -> Result<Found, Refused> {
+    let mut budget = FIRST_BUDGET;
     loop {
         let begun = Instant::now();
-        let found = search(budget);
+        let found = planner::search(file, budget);
         let is_spent = matches!(&found, Err(refused) if refused.number == 20);
-        if !is_spent || given.is_some() || budget == u32::MAX {
+        if !is_spent || budget == u32::MAX {
             streams::tell("");
             return found;
         }

@@ -4,6 +4,7 @@ use crate::floe::{same, Floe, Tried};
 use crate::texts::is_text;
 use outside::cases::{draw, Case, Kind};
 use outside::expect::{search, BUDGET};
+use outside::first;
 use outside::judge::judge;
 use outside::listing::uses;
 use outside::mend::{self, Answer};
@@ -11,7 +12,7 @@ use outside::possible::{self, Outcome};
 use outside::random::Random;
 use outside::request::{read, Request};
 use outside::rows::row_given;
-use std::cell::RefCell;
+use std::cell::{Cell, RefCell};
 
 const SEED: u64 = 22;
 const FILES: u64 = 700;
@@ -207,16 +208,22 @@ fn mended(
     })
 }
 
+/// With a budget by the visit that it is for; without one by the answer that needs none, to which
+/// large requests are put too.
 pub fn possible(floe: &Floe) -> Tried {
     const REQUESTS: u64 = 200;
+    const WITHOUT_BUDGET: u64 = 600;
+    const LARGE: u64 = 60;
     let failed = RefCell::new(None);
-    let ask = |file: &[u8], budget: u32, lent: &[u16]| {
-        let outcome = asked(floe, file, budget, lent);
+    let made = Cell::new(0);
+    let ask = |file: &[u8], budget: Option<u32>, lent: &[u16]| {
+        let outcome = asked(floe, file, budget, lent, &made);
         outcome.unwrap_or_else(|reason| {
             *failed.borrow_mut() = Some(reason);
             refused_outcome(255, 0, lent)
         })
     };
+    let by_visit = |file: &[u8], budget: u32, lent: &[u16]| ask(file, Some(budget), lent);
     let mut met = possible::Met::default();
     for number in 0..REQUESTS {
         let mut question = possible::draw(&mut Random::new(SEED, number));
@@ -225,7 +232,7 @@ pub fn possible(floe: &Floe) -> Tried {
         if is_text(&question.file) {
             continue;
         }
-        let held = question.hold(&ask, &mut met);
+        let held = question.hold(&by_visit, &mut met);
         if let Some(reason) = failed.take() {
             return Err(reason);
         }
@@ -235,7 +242,31 @@ pub fn possible(floe: &Floe) -> Tried {
     if [0, 19, 20].iter().any(is_hardly_met) || met.found.iter().any(|&found| found < 8) {
         return Err(format!("hardly met: {met:?}"));
     }
-    Ok(met.numbers.iter().sum())
+    let without = |file: &[u8], lent: &[u16]| ask(file, None, lent);
+    // Where there is no plan, the search for the cheapest is not begun: some would not end in a day.
+    let large = |file: &[u8], lent: &[u16]| {
+        let outcome = without(file, lent);
+        for word in ["plan", "draw"] {
+            if outcome.number == 19 && floe.refused(&[word, "-"], file).map(|told| told.0) != Ok(19)
+            {
+                *failed.borrow_mut() = Some(format!("{word} finds a plan for {file:?}"));
+            }
+        }
+        outcome
+    };
+    for met in [
+        first::run(SEED, WITHOUT_BUDGET, without),
+        first::run_large(SEED, LARGE, large),
+    ] {
+        if let Some(reason) = failed.take() {
+            return Err(reason);
+        }
+        let met = met?;
+        if [0, 19].iter().any(|&number| met.numbers[number] < 10) {
+            return Err(format!("hardly met: {:?}", met.numbers));
+        }
+    }
+    Ok(made.get())
 }
 
 fn refused_outcome(number: u8, count: u32, lent: &[u16]) -> Outcome {
@@ -248,10 +279,25 @@ fn refused_outcome(number: u8, count: u32, lent: &[u16]) -> Outcome {
     }
 }
 
-/// What the command prints, as the library's outcome.
-fn asked(floe: &Floe, file: &[u8], budget: u32, lent: &[u16]) -> Result<Outcome, String> {
-    let budget = budget.to_string();
-    let text = match floe.answer(&["possible", "-", "--budget", &budget], file)? {
+/// What the command prints, as the library's outcome. The command lends what is needed, and may take
+/// a damaged file for text: the outcome of such calls is given, and they are not among the runs that are
+/// made.
+fn asked(
+    floe: &Floe,
+    file: &[u8],
+    budget: Option<u32>,
+    lent: &[u16],
+    made: &Cell<u64>,
+) -> Result<Outcome, String> {
+    match read(file) {
+        Ok(request) if lent.len() < request.jobs.len() => return Ok(refused_outcome(15, 0, lent)),
+        Err(number) if is_text(file) => return Ok(refused_outcome(number, 0, lent)),
+        _ => {}
+    }
+    made.set(made.get() + 1);
+    let budget = budget.map(|budget| format!("--budget={budget}"));
+    let words = ["possible", "-"].into_iter().chain(budget.as_deref());
+    let text = match floe.answer(&words.collect::<Vec<_>>(), file)? {
         Ok(text) => String::from_utf8(text).map_err(|fault| fault.to_string())?,
         Err((number, said)) => {
             let before = said.split(" vert").next().unwrap_or_default();
@@ -264,7 +310,13 @@ fn asked(floe: &Floe, file: &[u8], budget: u32, lent: &[u16]) -> Result<Outcome,
     let unread = || format!("possible prints {text:?}");
     let mut lines = text.lines();
     same(lines.next(), Some("yes"), unread)?;
-    let count = number_after(lines.next().unwrap_or_default(), "vertices").ok_or_else(unread)?;
+    let count = match budget {
+        Some(_) => {
+            let line = lines.next().unwrap_or_default();
+            number_after(line, "vertices").ok_or_else(unread)?
+        }
+        None => 0,
+    };
     let mut outcome = refused_outcome(0, count, lent);
     for (job, line) in lines.enumerate() {
         let start = number_after(line, "start").ok_or_else(unread)?;

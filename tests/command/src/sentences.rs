@@ -5,7 +5,7 @@ use crate::floe::{same, Floe, Tried};
 const A: &str = "device 1 5 1 3\n";
 
 /// A text, the words after `floe COMMAND -`, and the line on standard error.
-const REFUSALS: [(&str, &str, &str); 56] = [
+const REFUSALS: [(&str, &str, &str); 58] = [
     (
         "9 of A",
         "check",
@@ -153,13 +153,23 @@ const REFUSALS: [(&str, &str, &str); 56] = [
     ),
     (
         "horizon 4\njob 0 2 2 -\njob 0 2 2 -",
-        "plan",
+        "plan --budget 3",
         "19: no schedule meets all deadlines (3 vertices searched)",
+    ),
+    (
+        "horizon 4\njob 0 2 2 -\njob 0 2 2 -",
+        "plan",
+        "19: no schedule meets all deadlines",
+    ),
+    (
+        "horizon 2\njob 0 2 2 -\njob 0 2 1 -",
+        "possible --budget 1",
+        "19: no schedule meets all deadlines (1 vertex searched)",
     ),
     (
         "horizon 2\njob 0 2 2 -\njob 0 2 1 -",
         "possible",
-        "19: no schedule meets all deadlines (1 vertex searched)",
+        "19: no schedule meets all deadlines",
     ),
     (
         "horizon 5\njob 0 5 2 -",
