@@ -68,7 +68,8 @@ fn is_listed(request: &Request) -> bool {
     listing::size(request) <= 20_000
 }
 
-fn expected(request: &Request) -> Option<Vec<u32>> {
+/// The first schedule, of a request of any size.
+pub fn expected(request: &Request) -> Option<Vec<u32>> {
     if is_listed(request) {
         listing::first(request)
     } else {

@@ -1,8 +1,9 @@
 //! What each call must leave, by the rules (70 to 74) and the oracle: its number, its result bytes,
 //! and every byte that is lent.
 
+use outside::first;
 use outside::judge::judge;
-use outside::listing::{self, first_of_the_least, uses, Schedule};
+use outside::listing::{first_of_the_least, uses, Schedule};
 use outside::long::{self, Found};
 use outside::request::{read, Request};
 use outside::rows::row_given;
@@ -252,7 +253,7 @@ impl Searched {
         if before.is_short() || before.lent.len() < 2 * request.jobs.len() {
             return before.refused(15);
         }
-        match listing::first(request) {
+        match first::expected(request) {
             None => before.refused(19),
             Some(starts) => before.after(success(request, 0, 0), &two_bytes(&starts)),
         }

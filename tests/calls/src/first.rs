@@ -3,7 +3,7 @@
 
 use crate::expected::RESULT;
 use crate::library;
-use crate::tails::{came, hand_back, longer, BLANK};
+use crate::tails::{hand_back, longer, met, BLANK};
 use outside::first::{by_bytes, run, run_large};
 use std::cell::Cell;
 use std::collections::BTreeMap;
@@ -15,7 +15,7 @@ const LARGE: u64 = 300;
 
 /// The numbers met and how often; or the first call that is not as it must be.
 pub fn test() -> Result<BTreeMap<u8, u64>, String> {
-    let mut numbers = run(SEED, REQUESTS, by_bytes(with_tails))?.numbers;
+    let mut came = run(SEED, REQUESTS, by_bytes(with_tails))?.numbers;
     let beside = Beside::default();
     let large = run_large(
         SEED,
@@ -23,8 +23,8 @@ pub fn test() -> Result<BTreeMap<u8, u64>, String> {
         by_bytes(|file, starts, result| beside.call(file, starts, result)),
     )?;
     beside.is_telling(large.numbers)?;
-    for (number, more) in numbers.iter_mut().zip(large.numbers) {
-        *number += more;
+    for (came, more) in came.iter_mut().zip(large.numbers) {
+        *came += more;
     }
     for (name, wrong) in WRONG {
         if run(SEED, REQUESTS, by_bytes(wrong)).is_ok() {
@@ -32,7 +32,7 @@ pub fn test() -> Result<BTreeMap<u8, u64>, String> {
         }
     }
     on_a_small_stack()?;
-    Ok(came(numbers))
+    Ok(met(came, 0))
 }
 
 /// The call on buffers that are longer by some bytes, which stay, and on a result buffer that is full

@@ -25,14 +25,8 @@ pub fn is_blank(bytes: &[u8]) -> bool {
     bytes.iter().all(|&byte| byte == BLANK)
 }
 
-/// How often each number came.
-pub fn came(counts: [u64; 27]) -> BTreeMap<u8, u64> {
-    (0..).zip(counts).filter(|&(_, count)| count > 0).collect()
-}
-
-/// The same of a door, which was shut so many times besides.
-pub fn met(counts: [u64; 27], shut: u64) -> BTreeMap<u8, u64> {
-    let mut met = came(counts);
-    met.insert(SHUT, shut);
-    met
+/// How often each number came; the door was shut so many times besides.
+pub fn met(came: [u64; 27], shut: u64) -> BTreeMap<u8, u64> {
+    let came = (0..).zip(came).chain([(SHUT, shut)]);
+    came.filter(|&(_, count)| count > 0).collect()
 }

@@ -20,6 +20,11 @@ impl Floe {
         Floe { program, made }
     }
 
+    /// How many calls there were so far.
+    pub fn made(&self) -> u64 {
+        self.made.get()
+    }
+
     /// What a test says that it has run is what it has run.
     pub fn counted(&self, tried: Tried) -> Tried {
         let (said, made) = (tried?, self.made.get());

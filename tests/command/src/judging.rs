@@ -12,7 +12,7 @@ use outside::possible::{self, Outcome};
 use outside::random::Random;
 use outside::request::{read, Request};
 use outside::rows::row_given;
-use std::cell::{Cell, RefCell};
+use std::cell::RefCell;
 
 const SEED: u64 = 22;
 const FILES: u64 = 700;
@@ -215,13 +215,24 @@ pub fn possible(floe: &Floe) -> Tried {
     const WITHOUT_BUDGET: u64 = 600;
     const LARGE: u64 = 60;
     let failed = RefCell::new(None);
-    let made = Cell::new(0);
     let ask = |file: &[u8], budget: Option<u32>, lent: &[u16]| {
-        let outcome = asked(floe, file, budget, lent, &made);
+        let outcome = asked(floe, file, budget, lent);
         outcome.unwrap_or_else(|reason| {
             *failed.borrow_mut() = Some(reason);
             refused_outcome(255, 0, lent)
         })
+    };
+    let without = |file: &[u8], lent: &[u16]| ask(file, None, lent);
+    // Where there is no plan, the search for the cheapest is not begun: some would not end in a day.
+    let large = |file: &[u8], lent: &[u16]| {
+        let outcome = without(file, lent);
+        for word in ["plan", "draw"] {
+            if outcome.number == 19 && floe.refused(&[word, "-"], file).map(|told| told.0) != Ok(19)
+            {
+                *failed.borrow_mut() = Some(format!("{word} finds a plan for {file:?}"));
+            }
+        }
+        outcome
     };
     let by_visit = |file: &[u8], budget: u32, lent: &[u16]| ask(file, Some(budget), lent);
     let mut met = possible::Met::default();
@@ -242,18 +253,6 @@ pub fn possible(floe: &Floe) -> Tried {
     if [0, 19, 20].iter().any(is_hardly_met) || met.found.iter().any(|&found| found < 8) {
         return Err(format!("hardly met: {met:?}"));
     }
-    let without = |file: &[u8], lent: &[u16]| ask(file, None, lent);
-    // Where there is no plan, the search for the cheapest is not begun: some would not end in a day.
-    let large = |file: &[u8], lent: &[u16]| {
-        let outcome = without(file, lent);
-        for word in ["plan", "draw"] {
-            if outcome.number == 19 && floe.refused(&[word, "-"], file).map(|told| told.0) != Ok(19)
-            {
-                *failed.borrow_mut() = Some(format!("{word} finds a plan for {file:?}"));
-            }
-        }
-        outcome
-    };
     for met in [
         first::run(SEED, WITHOUT_BUDGET, without),
         first::run_large(SEED, LARGE, large),
@@ -263,10 +262,11 @@ pub fn possible(floe: &Floe) -> Tried {
         }
         let met = met?;
         if [0, 19].iter().any(|&number| met.numbers[number] < 10) {
-            return Err(format!("hardly met: {:?}", met.numbers));
+            return Err(format!("hardly met: {met:?}"));
         }
     }
-    Ok(made.get())
+    // Some outcomes are given without a run: see `asked`.
+    Ok(floe.made())
 }
 
 fn refused_outcome(number: u8, count: u32, lent: &[u16]) -> Outcome {
@@ -280,21 +280,13 @@ fn refused_outcome(number: u8, count: u32, lent: &[u16]) -> Outcome {
 }
 
 /// What the command prints, as the library's outcome. The command lends what is needed, and may take
-/// a damaged file for text: the outcome of such calls is given, and they are not among the runs that are
-/// made.
-fn asked(
-    floe: &Floe,
-    file: &[u8],
-    budget: Option<u32>,
-    lent: &[u16],
-    made: &Cell<u64>,
-) -> Result<Outcome, String> {
+/// a damaged file for text: the outcome of such calls is given.
+fn asked(floe: &Floe, file: &[u8], budget: Option<u32>, lent: &[u16]) -> Result<Outcome, String> {
     match read(file) {
         Ok(request) if lent.len() < request.jobs.len() => return Ok(refused_outcome(15, 0, lent)),
         Err(number) if is_text(file) => return Ok(refused_outcome(number, 0, lent)),
         _ => {}
     }
-    made.set(made.get() + 1);
     let budget = budget.map(|budget| format!("--budget={budget}"));
     let words = ["possible", "-"].into_iter().chain(budget.as_deref());
     let text = match floe.answer(&words.collect::<Vec<_>>(), file)? {
