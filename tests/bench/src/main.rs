@@ -1,6 +1,7 @@
 //! Plans requests of some million vertices with three plain searches in Rust and, if it is linked, with
 //! the proved search, and prints vertices per second of each and the proved one's ratio to each plain one.
-//! Then how long it takes to say whether there is any plan, beside the search for the cheapest.
+//! Then how long it takes to say whether there is any plan, by a visit and by sets of jobs, beside the
+//! search for the cheapest; and of both by the number of jobs.
 //!
 //! `./bench` at the top builds the proved search and runs all; `./bench COMMIT` races that commit's
 //! proved search as well; `cargo run --release` here runs the plain searches alone.
@@ -15,6 +16,10 @@ use std::time::{Duration, Instant};
 
 /// Rounds per request. The best of them counts: whatever else the machine does only slows down.
 const ROUNDS: usize = 3;
+
+/// What takes a few milliseconds may be held up in each of three rounds.
+#[cfg(feature = "proved")]
+const QUICK_ROUNDS: usize = 20;
 
 /// Every request is planned to its end.
 const BUDGET: u32 = u32::MAX;
@@ -140,12 +145,12 @@ fn bench() -> Result<(), String> {
 
 /// The best time of some rounds, and what came out.
 #[cfg(feature = "proved")]
-fn timed(answer: fn(&[u8], u32) -> Outcome, file: &[u8]) -> (Outcome, Duration) {
+fn timed(answer: fn(&[u8], u32) -> Outcome, file: &[u8], rounds: usize) -> (Outcome, Duration) {
     let round = |_| {
         let begin = Instant::now();
         (answer(file, BUDGET), begin.elapsed())
     };
-    (0..ROUNDS)
+    (0..rounds)
         .map(round)
         .min_by_key(|(_, time)| *time)
         .expect("there are rounds")
@@ -156,8 +161,10 @@ fn timed(answer: fn(&[u8], u32) -> Outcome, file: &[u8]) -> (Outcome, Duration) 
 fn answers() {
     let others = [requests::long(), requests::none()];
     for request in requests::all().into_iter().chain(others) {
-        let (any, soon) = timed(proved::possible, &request.file);
-        let (_, late) = timed(proved::search, &request.file);
+        let (any, soon) = timed(proved::possible, &request.file, ROUNDS);
+        let (first, at_once) = timed(proved::first, &request.file, QUICK_ROUNDS);
+        assert_eq!(first.number, any.number, "{}", request.name);
+        let (_, late) = timed(proved::search, &request.file, ROUNDS);
         let vertices = any.count.into();
         let speed = Run {
             vertices,
@@ -165,18 +172,42 @@ fn answers() {
         }
         .speed();
         println!(
-            "{:30} {:>11} vertices  any plan: answer {:2} in {soon:>10.1?}  {speed:6.1} M/s  search {late:>8.1?}",
+            "{:30} {:>11} vertices  any plan: answer {:2} in {soon:>10.1?}  {speed:6.1} M/s  first plan {at_once:>8.1?}  search {late:>8.1?}",
             request.name, any.count, any.number
         );
+    }
+}
+
+/// The same by the number of jobs, with a plan and without.
+#[cfg(feature = "proved")]
+fn answers_by_jobs() {
+    for count in [4, 8, 10, 12, 14, 15, 16] {
+        for has_plan in [true, false] {
+            let file = requests::sliding(count, has_plan);
+            let (any, soon) = timed(proved::possible, &file, ROUNDS);
+            let (first, at_once) = timed(proved::first, &file, QUICK_ROUNDS);
+            assert_eq!((any.number == 0, first.number == 0), (has_plan, has_plan));
+            println!(
+                "{count:2} jobs, answer {:2}: any plan {:>11} vertices in {soon:>10.1?}  first plan in {at_once:>10.1?}",
+                any.number, any.count
+            );
+        }
     }
 }
 
 #[cfg(not(feature = "proved"))]
 fn answers() {}
 
+#[cfg(not(feature = "proved"))]
+fn answers_by_jobs() {}
+
 fn main() -> ExitCode {
-    match bench().map(|()| answers()) {
-        Ok(()) => ExitCode::SUCCESS,
+    match bench() {
+        Ok(()) => {
+            answers();
+            answers_by_jobs();
+            ExitCode::SUCCESS
+        }
         Err(reason) => {
             println!("bench: FAILED: {reason}");
             ExitCode::FAILURE

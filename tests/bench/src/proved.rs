@@ -1,5 +1,5 @@
-//! The proved search, and the proved word whether there is any plan, from the libraries that
-//! `./library` builds.
+//! The proved search, and the proved word whether there is any plan, by a visit and by sets of jobs,
+//! from the libraries that `./library` builds.
 
 use crate::Outcome;
 
@@ -7,7 +7,7 @@ use crate::Outcome;
 const STARTS: usize = 32;
 const RESULT: usize = 11;
 
-/// As all are declared: the file, the budget, the start times and the result buffer.
+/// As all but the last are declared: the file, the budget, the start times and the result buffer.
 type Call = unsafe extern "C" fn(*const u8, usize, u32, *mut u8, usize, *mut u8, usize) -> u8;
 
 extern "C" {
@@ -41,6 +41,28 @@ extern "C" {
         result: *mut u8,
         result_len: usize,
     ) -> u8;
+
+    fn floe_first(
+        file: *const u8,
+        file_len: usize,
+        starts: *mut u8,
+        starts_len: usize,
+        result: *mut u8,
+        result_len: usize,
+    ) -> u8;
+}
+
+/// It has no budget, which is passed over here.
+unsafe extern "C" fn first_call(
+    file: *const u8,
+    file_len: usize,
+    _budget: u32,
+    starts: *mut u8,
+    starts_len: usize,
+    result: *mut u8,
+    result_len: usize,
+) -> u8 {
+    floe_first(file, file_len, starts, starts_len, result, result_len)
 }
 
 pub fn search(file: &[u8], budget: u32) -> Outcome {
@@ -55,6 +77,10 @@ pub fn before(file: &[u8], budget: u32) -> Outcome {
 
 pub fn possible(file: &[u8], budget: u32) -> Outcome {
     called(door_possible, file, budget)
+}
+
+pub fn first(file: &[u8], budget: u32) -> Outcome {
+    called(first_call, file, budget)
 }
 
 fn called(call: Call, file: &[u8], budget: u32) -> Outcome {

@@ -102,6 +102,24 @@ pub fn none() -> Named {
     }
 }
 
+/// Jobs in windows that slide along; without a plan the last two want the same ticks, which a visit
+/// finds out behind every order and start of the others.
+pub fn sliding(count: u16, has_plan: bool) -> Vec<u8> {
+    let horizon = 2 * count + 4;
+    let wanted = if has_plan { 6 } else { 5 };
+    let mut jobs: Vec<JobRecord> = (0..count - 2)
+        .map(|n| job(2 * n, 2 * n + 4, 1, 0b01))
+        .collect();
+    jobs.extend(vec![job(horizon - wanted, horizon, 3, 0b10); 2]);
+    Tables {
+        horizon,
+        devices: vec![device_a(); 2],
+        tasks: Vec::new(),
+        jobs,
+    }
+    .bytes()
+}
+
 pub fn all() -> Vec<Named> {
     let named = |name, tables: Tables| Named {
         name,
