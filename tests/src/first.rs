@@ -33,13 +33,13 @@ fn soonest_end(jobs: &[&Job], time: u32) -> Option<u32> {
     ends[0] = Some(time);
     for set in 1..ends.len() {
         // Whichever of the set runs last, the others are over as soon as can be.
-        let last = |(place, job): (usize, &&Job)| {
-            let others = set & !(1 << place);
-            let begun = ends[others].filter(|_| others < set)?.max(job.release);
-            let end = begun + job.running;
+        let members = (0..jobs.len()).filter(|place| set >> place & 1 == 1);
+        let last = |place: usize| {
+            let (job, others) = (jobs[place], set ^ (1 << place));
+            let end = ends[others]?.max(job.release) + job.running;
             (end <= job.deadline).then_some(end)
         };
-        ends[set] = jobs.iter().enumerate().filter_map(last).min();
+        ends[set] = members.filter_map(last).min();
     }
     ends[(1 << jobs.len()) - 1]
 }
