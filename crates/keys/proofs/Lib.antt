@@ -1,0 +1,4 @@
+pub mod Extras
+pub mod Rises
+pub mod Laws
+pub mod Words

@@ -1,0 +1,11 @@
+pub mod Lesser
+pub mod Leasts
+pub mod Reading
+pub mod Limits
+pub mod Waits
+pub mod Tails
+pub mod Ticks
+pub mod Recalls
+pub mod Drops
+pub mod Steps
+pub mod Tries
