@@ -1,0 +1,58 @@
+-- `extras::laying::lay_extras` meets its contract. The loop's invariant: the devices passed are laid.
+-- Assumes nothing.
+use mathlib.Core.Path.{_≡_, subst}
+use Prim.Native.Nat.{ℕ, _-_, _≤_}
+use native.Mathlib.Omega.{arith}
+use borrow.Author.Needs.{needs}
+use Rattle.flat.specs.Flat.{recorderOf}
+use Rattle.extras.proofs.Laid.{Devices, devices-none, devices-next, devices-all}
+use Rattle.extras.proofs.laying.lay_extras.Statement.{statement}
+use Rattle.extras.proofs.laying.lay_extras.Tie as tie
+
+abbrev Inv-loop : tie.InvT-loop
+Inv-loop r extras₀ m k₀ extras k = (k ≤ m) × Devices (recorderOf r) k extras
+
+abbrev μ-loop : tie.MeasureT-loop
+μ-loop r extras₀ m k₀ extras k = m - k
+
+device-count-requires : tie.Need-device-count-requires Inv-loop μ-loop
+device-count-requires c κs = search needs
+
+loop-holds : tie.Need-loop-holds Inv-loop μ-loop
+loop-holds c = (omega arith, devices-none (c .before .pre .1))
+
+lay-device-requires : tie.Need-lay-device-requires Inv-loop μ-loop
+lay-device-requires c κs =
+    let l = c .before .before in
+    let s = l .before .before in
+    (s .pre .0, (omega (arith, c .before .loop-test .taken, l .before .device-count .ensures), l .loop .inv .1 .long))
+
+add-k : tie.Need-add-k Inv-loop μ-loop
+add-k c = search needs
+
+loop-less : tie.Need-loop-less Inv-loop μ-loop
+loop-less c = search needs
+
+loop-again : tie.Need-loop-again Inv-loop μ-loop
+loop-again c = (omega arith, devices-next (c .before .before .before .loop .inv .1) (c .lay-device .ensures))
+
+returns : tie.Need-returns Inv-loop μ-loop
+returns c =
+    let s = c .before .before .before in
+    let R = recorderOf (s .args .r .now) in
+    let all : c .before .loop .k ≡ R .devices .count = omega (arith, c .before .before .device-count .ensures) in
+    devices-all (s .pre .0) (subst (λ (n : ℕ). Devices R n (c .before .loop .extras)) all (c .before .loop .inv .1))
+
+pub lay-extras-spec : {M : Type 1} → statement M
+lay-extras-spec =
+    tie.close
+    (tie.spec
+    Inv-loop
+    μ-loop
+    device-count-requires
+    loop-holds
+    lay-device-requires
+    add-k
+    loop-less
+    loop-again
+    returns)
