@@ -1,0 +1,13 @@
+pub mod Showing
+pub mod Charging
+pub mod Rooting
+pub mod Keyed
+pub mod Idling
+pub mod Kept
+pub mod Counting
+pub mod Choosing
+pub mod Trials
+pub mod Going
+pub mod Hitting
+pub mod Seeking
+pub mod Settling

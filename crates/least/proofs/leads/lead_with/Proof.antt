@@ -1,0 +1,55 @@
+-- `least::leads::lead_with` meets its contract.
+-- Assumes nothing.
+use mathlib.Core.Path.{_≡_, _∙_}
+use Prim.Native.Nat.{_-_, _≤_}
+use native.Mathlib.Omega.{arith}
+use borrow.Author.Needs.{needs}
+use Rattle.schedule.specs.Quantities.{device}
+use Rattle.flat.specs.Flat.{recorderOf}
+use Rattle.keys.specs.Keys.{extra}
+use Rattle.least.proofs.leads.lead_with.Statement.{statement}
+use Rattle.least.proofs.leads.lead_with.Tie as tie
+
+is-used-requires : tie.Need-is-used-requires
+is-used-requires c κs = (omega (arith, c .pre .1 .0, c .pre .0 .valid .few-devices), c .pre .1 .1 .0)
+
+is-unused-requires : tie.Need-is-unused-requires
+is-unused-requires c κs = search needs
+
+returns : tie.Need-returns
+returns c = (rw (← c .before .before .before .is-used .ensures, c .before .before .if1 .taken, ← c .before .is-unused .ensures, c .if2 .taken), omega arith)
+
+sub-extra-of : tie.Need-sub-extra-of
+sub-extra-of c = omega (arith, c .before .before .before .before .pre .1 .1 .1 .0)
+
+-- The gap has room in the table.
+room : (s : tie.Start) → s .args .s - s .args .end ≤ recorderOf (s .args .r .now) .horizon
+room s = omega (arith, s .pre .1 .1 .1 .1)
+
+extra-of-requires : tie.Need-extra-of-requires
+extra-of-requires c κs =
+    let s = c .before .before .before .before in
+    (omega (arith, s .pre .1 .0, s .pre .0 .valid .few-devices), omega (arith, room s, s .pre .0 .valid .few-ticks))
+
+returns-2 : tie.Need-returns-2
+returns-2 c =
+    let s = c .before .before .before .before .before in
+    let a = s .args in
+    let is : c .extra-of .result ≡ extra (device (recorderOf (a .r .now)) (a .k)) (a .s - a .end)
+    = c .extra-of .ensures ∙ s .pre .0 .extras (a .k) (a .s - a .end) (s .pre .1 .0) (room s) in
+    (rw (← c .before .before .before .before .is-used .ensures, c .before .before .before .if1 .taken, ← c .before .before .is-unused .ensures, c .before .if2 .left) is, omega (arith, is, s .pre .0 .extra-most (a .k) (a .s - a .end) (s .pre .1 .0) (room s)))
+
+returns-3 : tie.Need-returns-3
+returns-3 c = (rw (← c .before .is-used .ensures, c .if1 .left), omega arith)
+
+pub lead-with-spec : {M : Type 1} → statement M
+lead-with-spec =
+    tie.close
+    (tie.spec
+    is-used-requires
+    is-unused-requires
+    returns
+    sub-extra-of
+    extra-of-requires
+    returns-2
+    returns-3)

@@ -1,0 +1,138 @@
+-- `least::leads::wait_of` meets its contract.
+-- Assumes nothing.
+use mathlib.Core.Path.{_≡_}
+use mathlib.Core.Logic.{⊎-elim}
+use Prim.Native.Nat.{ℕ, _≤_, _<_, _-_, min}
+use native.Mathlib.Omega.{arith}
+use borrow.Author.Needs.{needs}
+use Rattle.flat.specs.Flat.{recorderOf}
+use Rattle.extras.specs.Tabled.{capAt}
+use Rattle.least.proofs.leads.wait_of.Statement.{statement}
+use Rattle.least.proofs.leads.wait_of.Tie as tie
+
+abbrev Inv-loop : tie.InvT-loop
+Inv-loop r extras v time round m until₀ k₀ until k = (k ≤ m) × (m ≤ 8) × (time < until)
+
+abbrev μ-loop : tie.MeasureT-loop
+μ-loop r extras v time round m until₀ k₀ until k = m - k
+
+is-round-requires : tie.Need-is-round-requires Inv-loop μ-loop
+is-round-requires c κs = search needs
+
+device-count-requires : tie.Need-device-count-requires Inv-loop μ-loop
+device-count-requires c κs = search needs
+
+-- The time is one of the horizon's, which has at most 4,096 ticks.
+soon : (s : tie.Start Inv-loop μ-loop) → s .args .time ≤ 4096
+soon s = omega (arith, s .pre .1 .by, s .pre .0 .valid .few-ticks)
+
+loop-holds : tie.Need-loop-holds Inv-loop μ-loop
+loop-holds c = (omega arith, omega (arith, c .device-count .ensures, c .before .before .pre .0 .valid .few-devices), omega (arith, soon (c .before .before)))
+
+add-wait-with : tie.Need-add-wait-with Inv-loop μ-loop
+add-wait-with c = omega arith
+
+mul-wait-with : tie.Need-mul-wait-with Inv-loop μ-loop
+mul-wait-with c = omega arith
+
+element-copy-out-wait-with : tie.Need-element-copy-out-wait-with Inv-loop μ-loop
+element-copy-out-wait-with c = omega arith
+
+mul-is-unused : tie.Need-mul-is-unused Inv-loop μ-loop
+mul-is-unused c = omega arith
+
+element-copy-out-is-unused : tie.Need-element-copy-out-is-unused Inv-loop μ-loop
+element-copy-out-is-unused c = omega arith
+
+is-unused-requires : tie.Need-is-unused-requires Inv-loop μ-loop
+is-unused-requires c κs = search needs
+
+mul-wait-with-2 : tie.Need-mul-wait-with-2 Inv-loop μ-loop
+mul-wait-with-2 c = omega arith
+
+element-copy-out-wait-with-2 : tie.Need-element-copy-out-wait-with-2 Inv-loop μ-loop
+element-copy-out-wait-with-2 c = omega arith
+
+add-wait-with-2 : tie.Need-add-wait-with-2 Inv-loop μ-loop
+add-wait-with-2 c = omega arith
+
+mul-wait-with-3 : tie.Need-mul-wait-with-3 Inv-loop μ-loop
+mul-wait-with-3 c = omega arith
+
+element-copy-out-wait-with-3 : tie.Need-element-copy-out-wait-with-3 Inv-loop μ-loop
+element-copy-out-wait-with-3 c = omega arith
+
+wait-with-requires : tie.Need-wait-with-requires Inv-loop μ-loop
+unfolding capAt
+wait-with-requires c κs =
+    let l = c .before .before .before .before .before .before in
+    let start = l .before .before .before in
+    let few : l .loop .k < recorderOf (start .args .r .now) .devices .count = omega (arith, c .before .before .before .before .before .loop-test .taken, l .before .device-count .ensures) in
+    (start .pre .0 .cap-most (l .loop .k) few, (omega (arith, start .pre .1 .ends (l .loop .k) few, soon start), l .loop .inv .2))
+
+add-k : tie.Need-add-k Inv-loop μ-loop
+add-k c = omega arith
+
+loop-less : tie.Need-loop-less Inv-loop μ-loop
+loop-less c = omega arith
+
+loop-again : tie.Need-loop-again Inv-loop μ-loop
+loop-again c = (omega arith, c .before .before .before .before .before .before .before .loop .inv .1, c .wait-with .ensures)
+
+add-until : tie.Need-add-until Inv-loop μ-loop
+add-until c = omega (arith, soon (c .before .before .before .before .before))
+
+mul-until : tie.Need-mul-until Inv-loop μ-loop
+mul-until c = omega (arith, soon (c .before .before .before .before .before))
+
+horizon-of-requires : tie.Need-horizon-of-requires Inv-loop μ-loop
+horizon-of-requires c κs = search needs
+
+wide-requires : tie.Need-wide-requires Inv-loop μ-loop
+wide-requires c κs = search needs
+
+sooner-requires : tie.Need-sooner-requires Inv-loop μ-loop
+sooner-requires c κs = search needs
+
+-- With all devices at their caps the next step of 32 ticks is later too.
+after : (c : tie.Joined1 Inv-loop μ-loop) → c .before .before .before .before .before .args .time < c .if1 .until
+after c = ⊎-elim (λ x. omega (arith, x .1)) (λ x. omega (arith, x .1, c .before .before .loop .inv .2)) (c .if1 .came)
+
+of-two : (t u h x : ℕ) → x ≡ min u h → t < u → (x ≤ h) × (x < h → t < x)
+of-two t u h x e l = (omega arith, λ b. omega arith)
+
+returns : tie.Need-returns Inv-loop μ-loop
+returns c =
+    let made = rw (c .before .wide .ensures .0, c .before .before .horizon-of .ensures) at (c .sooner .ensures) in
+    of-two _ _ _ _ made (after (c .before .before .before))
+
+pub wait-of-spec : {M : Type 1} → statement M
+wait-of-spec =
+    tie.close
+    (tie.spec
+    Inv-loop
+    μ-loop
+    is-round-requires
+    device-count-requires
+    loop-holds
+    add-wait-with
+    mul-wait-with
+    element-copy-out-wait-with
+    mul-is-unused
+    element-copy-out-is-unused
+    is-unused-requires
+    mul-wait-with-2
+    element-copy-out-wait-with-2
+    add-wait-with-2
+    mul-wait-with-3
+    element-copy-out-wait-with-3
+    wait-with-requires
+    add-k
+    loop-less
+    loop-again
+    add-until
+    mul-until
+    horizon-of-requires
+    wide-requires
+    sooner-requires
+    returns)

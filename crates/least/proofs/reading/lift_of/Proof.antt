@@ -1,0 +1,61 @@
+-- `least::lift_of` meets its contract: any number will do.
+-- Assumes nothing.
+use Prim.Native.Nat.{_≤_, _-_}
+use native.Mathlib.Omega.{arith}
+use borrow.Author.Needs.{needs}
+use Rattle.least.proofs.reading.lift_of.Statement.{statement}
+use Rattle.least.proofs.reading.lift_of.Tie as tie
+
+abbrev Inv-loop : tie.InvT-loop
+Inv-loop extras most₀ k₀ most k =
+    k ≤ 8
+
+abbrev μ-loop : tie.MeasureT-loop
+μ-loop extras most₀ k₀ most k = 8 - k
+
+loop-holds : tie.Need-loop-holds Inv-loop μ-loop
+loop-holds c = omega arith
+
+add-later : tie.Need-add-later Inv-loop μ-loop
+add-later c = omega arith
+
+mul-later : tie.Need-mul-later Inv-loop μ-loop
+mul-later c = omega arith
+
+element-copy-out-later : tie.Need-element-copy-out-later Inv-loop μ-loop
+element-copy-out-later c = omega arith
+
+later-requires : tie.Need-later-requires Inv-loop μ-loop
+later-requires c κs = search needs
+
+add-k : tie.Need-add-k Inv-loop μ-loop
+add-k c = omega arith
+
+loop-less : tie.Need-loop-less Inv-loop μ-loop
+loop-less c = omega arith
+
+loop-again : tie.Need-loop-again Inv-loop μ-loop
+loop-again c = omega arith
+
+mul-result : tie.Need-mul-result Inv-loop μ-loop
+mul-result c = omega arith
+
+returns : tie.Need-returns Inv-loop μ-loop
+returns c = search needs
+
+pub lift-of-spec : {M : Type 1} → statement M
+lift-of-spec =
+    tie.close
+    (tie.spec
+    Inv-loop
+    μ-loop
+    loop-holds
+    add-later
+    mul-later
+    element-copy-out-later
+    later-requires
+    add-k
+    loop-less
+    loop-again
+    mul-result
+    returns)

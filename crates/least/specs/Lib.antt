@@ -1,0 +1,4 @@
+pub mod Shown
+pub mod Entries
+pub mod Outcome
+pub mod Readings
