@@ -1,0 +1,42 @@
+-- `cheapest::find` meets its contract.
+-- Assumes nothing.
+use borrow.Author.Needs.{needs}
+use Rattle.flat.specs.Flat.{recorderOf}
+use Rattle.extras.specs.Tabled.{capAt}
+use Rattle.least.specs.Outcome.{Recalls}
+use Rattle.least.proofs.Kept.{noKey, right-clear}
+use Rattle.least.proofs.Keyed.{recalls-none}
+use Rattle.cheapest.proofs.find.Statement.{statement}
+use Rattle.cheapest.proofs.find.Tie as tie
+
+lay-extras-requires : tie.Need-lay-extras-requires
+lay-extras-requires c κs = search needs
+
+clear-requires : tie.Need-clear-requires
+clear-requires c κs = search needs
+
+least-starts-requires : tie.Need-least-starts-requires
+least-starts-requires c κs =
+    let s = c .before .before .before .before .before .before .before .before .before .before in
+    let R = recorderOf (s .args .r .now) in
+    let cap = capAt (c .before .before .before .before .before .before .before .lay-extras .last .1 .0) in
+    let tabled = c .before .before .before .before .before .before .before .lay-extras .ensures in (
+      record {
+        tabled = tabled;
+        laid = s .pre .1 .0;
+        right = right-clear (Recalls R cap) (c .before .before .before .before .before .clear .last .0)
+            (recalls-none R (s .pre .0) cap (tabled .caps) (tabled .cap-most) noKey) (c .before .before .before .before .before .clear .ensures);
+      },
+      s .pre .1 .1,
+    )
+
+same-length : tie.Need-same-length
+same-length c = search needs
+
+returns : tie.Need-returns
+returns c = c .before .before .least-starts .ensures
+
+pub find-spec : {M : Type 1} → statement M
+find-spec =
+    tie.close
+    (tie.spec lay-extras-requires clear-requires least-starts-requires same-length returns)
