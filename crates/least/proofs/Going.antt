@@ -1,22 +1,20 @@
 -- What is known of a vertex, what it comes to where it waits, and what is remembered of it.
 -- Assumes nothing.
 use mathlib.Core.Path.{_≡_, refl, sym, ap, _∙_, subst}
-use mathlib.Core.Bool.{Bool, true, false, cond, _||_}
+use mathlib.Core.Bool.{Bool, true, false, _||_}
 use mathlib.Core.List.{List}
 use mathlib.Core.Logic.{_⊎_, inl, inr, ⊎-elim}
-use mathlib.Core.Option.{Option, none, some}
-use Prim.Native.Nat.{ℕ, zero, suc, _+_, _-_, _*_, _/_, _%_, _^_, _≤_, _<_, min, max}
+use mathlib.Core.Option.{Option, some}
+use Prim.Native.Nat.{ℕ, suc, _+_, _-_, _*_, _/_, _%_, _^_, _≤_, _<_, min, max}
 use native.Mathlib.Nat.{eq-or-lt-of-le}
 use native.Mathlib.Omega.{arith}
 use lib.Dec.{eqb, leb, ltb}
 use lib.ListN.{getD}
 use lib.Pow.{pow-pos}
-use borrow.Author.Tests.{eqb-true, leb-true, ltb-true, ltb-false}
+use borrow.Author.Tests.{eqb-true, leb-true, ltb-true}
 use Rattle.base.proofs.Cases.{cond-cases}
 use Rattle.schedule.specs.declared.Recorder.{Recorder}
-use Rattle.base.specs.Lists.{In}
 use Rattle.schedule.specs.Quantities.{jobs, release, deadline, run, Valid}
-use Rattle.schedule.specs.Listing.{Place}
 use Rattle.schedule.specs.Visiting.{Vertex, child, earliest}
 use Rattle.schedule.proofs.Runs.{Run}
 use Rattle.latest.specs.Sets.{has}
@@ -29,17 +27,16 @@ use Rattle.value.specs.Leasts.{closeOf, leastOf, waited}
 use Rattle.value.proofs.Limits.{answer-exact, answer-raise, answer-less, entry-answers}
 use Rattle.value.proofs.Waits.{leastTo, answer-waited}
 use Rattle.value.proofs.Steps.{wait-over, latest-gone}
-use Rattle.value.proofs.Tries.{most-zero}
 use Rattle.extras.specs.Tabled.{Tabled, capAt}
 use Rattle.least.specs.declared.naming.Key.{Key}
 use Rattle.least.specs.declared.memory.Spot.{Spot}
 use Rattle.least.specs.Shown.{closesBy, keyBy, Ordered, Placed, Shows, Held}
-use Rattle.least.specs.Entries.{Right, Looked, kept, knownOf}
-use Rattle.least.specs.Outcome.{Named, Recalls, Lent, Offers, Came, told, stopped, Tried, entered, mostOf}
+use Rattle.least.specs.Entries.{Looked, kept, knownOf}
+use Rattle.least.specs.Outcome.{Named, Recalls, Lent, Offers, Came, Tried, entered, mostOf}
 use Rattle.least.proofs.Showing.{ordered-later, shown-ordered, closes-shown, set-few, set-none, set-some, waited-shown, child-shown, job-in, in-job}
 use Rattle.least.proofs.Keyed.{key-named, named-recalls, recalls-none}
 use Rattle.least.proofs.Kept.{right-looked, right-kept}
-use Rattle.least.proofs.Counting.{came-stop, came-go, came-small, came-what, came-count, came-more, came-from, most-near, most-far, most-own}
+use Rattle.least.proofs.Counting.{came-stop, came-go, came-what, came-count, came-from, most-near, most-far, most-own}
 use Rattle.least.proofs.Choosing.{held-open, has-some}
 use Rattle.least.proofs.Trials.{slot-late}
 

@@ -1,22 +1,20 @@
 -- A start that has the goal, and the first of them: the loop over the starts of a job.
 -- Assumes nothing.
-use mathlib.Core.Path.{_≡_, refl, sym, ap, _∙_, subst}
+use mathlib.Core.Path.{_≡_, refl, ap, _∙_, subst}
 use mathlib.Core.Bool.{Bool, true, false, cond}
 use mathlib.Core.List.{List}
 use mathlib.Core.Logic.{_⊎_, ⊎-elim}
-use mathlib.Core.Option.{Option, none, some}
+use mathlib.Core.Option.{Option, some}
 use Prim.Native.Nat.{ℕ, suc, _+_, _-_, _*_, _^_, _≤_, _<_, min}
 use native.Mathlib.Nat.{mul-le-mul-right, eq-or-lt-of-le}
-use native.Mathlib.Decide.{decLt}
 use native.Mathlib.Numerals.{add-one}
 use native.Mathlib.Omega.{arith}
 use lib.Dec.{ltb}
 use borrow.Author.Tests.{ltb-true, ltb-false}
-use Rattle.base.specs.Lists.{In}
 use Rattle.base.proofs.Cases.{test-cases}
 use Rattle.schedule.specs.declared.Recorder.{Recorder}
 use Rattle.schedule.specs.Quantities.{jobs, release, deadline, run, Valid}
-use Rattle.schedule.specs.Visiting.{Vertex, child, earliest, starts}
+use Rattle.schedule.specs.Visiting.{Vertex, child, earliest}
 use Rattle.schedule.proofs.Tree.{in-starts, starts-in}
 use Rattle.latest.specs.Sets.{has}
 use Rattle.latest.specs.Latest.{slot, latestOf}

@@ -11,14 +11,14 @@ use native.Mathlib.Numerals.{add-one}
 use native.Mathlib.Omega.{arith}
 use Rattle.base.specs.Lists.{In}
 use Rattle.schedule.specs.declared.Recorder.{Recorder}
-use Rattle.schedule.specs.Quantities.{jobs, deadline, run, Valid}
+use Rattle.schedule.specs.Quantities.{jobs, Valid}
 use Rattle.schedule.specs.Visiting.{Vertex, starts}
 use Rattle.schedule.proofs.Tree.{in-starts}
 use Rattle.latest.specs.Sets.{has}
 use Rattle.value.specs.Leasts.{leastOf, viaChild, FirstChild}
 use Rattle.value.proofs.Reading.{no-hit}
 use Rattle.value.proofs.Steps.{first-by}
-use Rattle.least.specs.Shown.{Shows, Held}
+use Rattle.least.specs.Shown.{Shows}
 use Rattle.least.specs.Outcome.{Came, told, stopped, mostOf}
 use Rattle.least.specs.Readings.{FirstStart, first, nowhere}
 use Rattle.least.proofs.Showing.{job-in, in-job}

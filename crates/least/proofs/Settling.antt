@@ -2,32 +2,30 @@
 -- Assumes nothing.
 use mathlib.Core.Path.{_≡_, refl, sym, ap, _∙_, subst}
 use mathlib.Core.Bool.{true}
-use mathlib.Core.List.{List, [], _∷_, _++_}
+use mathlib.Core.List.{List, [], _∷_}
 use mathlib.Core.Option.{Option, none, some}
 use Prim.Native.Nat.{ℕ, zero, suc, _+_, _-_, _*_, _^_, _≤_, _<_}
-use native.Mathlib.Nat.{mul-le-mul-right}
 use native.Mathlib.Omega.{arith}
 use lib.ListN.{set, take, replicate, length, length-set, length-replicate}
-use lib.Pow.{pow-pos}
-use Rattle.base.specs.Lists.{In, upFrom}
+use Rattle.base.specs.Lists.{upFrom}
 use Rattle.base.specs.Sums.{total}
 use Rattle.schedule.specs.declared.Recorder.{Recorder}
-use Rattle.schedule.specs.Quantities.{device, jobs, deadline, run, Valid}
-use Rattle.schedule.specs.Listing.{Place, place, Feasible, FirstLeast}
-use Rattle.schedule.specs.Visiting.{Vertex, root, child, starts, startsOf, planEnergy, written}
+use Rattle.schedule.specs.Quantities.{jobs, deadline, run, Valid}
+use Rattle.schedule.specs.Listing.{Place, place, FirstLeast}
+use Rattle.schedule.specs.Visiting.{Vertex, root, child, startsOf, planEnergy, written}
 use Rattle.schedule.proofs.Tree.{Reached, in-starts, root-reached}
 use Rattle.latest.specs.Latest.{latestOf}
 use Rattle.latest.specs.Sparing.{setOf}
 use Rattle.latest.proofs.Feasibility.{latest-feasible}
 use Rattle.latest.proofs.Laying.{written-snoc}
 use Rattle.value.specs.Options.{Answers}
-use Rattle.value.specs.Leasts.{leadOf, leastOf, FirstChild}
+use Rattle.value.specs.Leasts.{leastOf, FirstChild}
 use Rattle.value.proofs.Lesser.{most-some}
 use Rattle.value.proofs.Reading.{settles-root, settles-child, settles-end, root-nothing}
 use Rattle.value.proofs.Steps.{child-goal, least-most}
 use Rattle.extras.specs.Tabled.{Tabled}
 use Rattle.least.specs.Shown.{leadsBy, Placed, Shows, Held}
-use Rattle.least.specs.Outcome.{Offers, Came, told, stopped, mostOf, mostVertices, ReadOff, read, over}
+use Rattle.least.specs.Outcome.{Offers, Came, told, stopped, mostOf, mostVertices, ReadOff, read}
 use Rattle.least.specs.Readings.{Reads}
 use Rattle.least.proofs.Showing.{leads-shown, set-none, set-some}
 use Rattle.least.proofs.Counting.{came-what, came-count, most-children}

@@ -1,6 +1,6 @@
 -- The loop over the starts of a job: `best` answers for those passed, and `ahead` is a bound of the next.
 -- Assumes nothing.
-use mathlib.Core.Path.{_≡_, refl, sym, ap, _∙_, subst}
+use mathlib.Core.Path.{_≡_, sym, ap, _∙_, subst}
 use mathlib.Core.Bool.{Bool, true, false, cond}
 use mathlib.Core.List.{List}
 use mathlib.Core.Option.{Option, none}
@@ -9,23 +9,20 @@ use native.Mathlib.Nat.{mul-le-mul-right}
 use native.Mathlib.Numerals.{add-one}
 use native.Mathlib.Omega.{arith}
 use lib.Dec.{ltb}
-use lib.ListN.{length}
 use borrow.Author.Tests.{ltb-true, ltb-false}
 use Rattle.base.specs.Lists.{In, upFrom, remove}
 use Rattle.base.proofs.Cases.{cond-cases}
 use Rattle.base.proofs.Numbers.{length-remove}
 use Rattle.schedule.specs.declared.Recorder.{Recorder}
 use Rattle.schedule.specs.Quantities.{jobs, release, deadline, run, Valid}
-use Rattle.schedule.specs.Listing.{Place}
 use Rattle.schedule.specs.Visiting.{Vertex, child, earliest}
 use Rattle.schedule.proofs.Runs.{Run}
-use Rattle.schedule.proofs.Tree.{Reached}
 use Rattle.latest.specs.Sets.{has}
 use Rattle.latest.specs.Latest.{slot, latestOf, jobsOf}
 use Rattle.latest.proofs.Feasibility.{run-latest, jobs-without}
 use Rattle.latest.proofs.Spared.{reached-set}
 use Rattle.value.specs.Options.{lesser, plus, leastIn, NoMore, Answers}
-use Rattle.value.specs.Leasts.{leadOf, leastOf, viaChild, startsTo, dropOf}
+use Rattle.value.specs.Leasts.{leadOf, leastOf, viaChild}
 use Rattle.value.proofs.Ticks.{one-tick}
 use Rattle.value.proofs.Steps.{least-span, latest-gone}
 use Rattle.value.proofs.Tries.{Trying, Falling, trying-start, trying-pass, trying-enter}

@@ -17,7 +17,7 @@ ghost use Rattle.schedule.specs.Quantities.{device, uses};
 ghost use Rattle.flat.specs.Flat.{recorderOf};
 ghost use Rattle.vertex.specs.Vertices.{unused};
 ghost use Rattle.keys.specs.Keys.{extra};
-ghost use Rattle.extras.specs.Tabled.{Tabled, capAt, riseAt, fallAt};
+ghost use Rattle.extras.specs.Tabled.{Tabled, riseAt, fallAt};
 ghost use Rattle.least.specs.Shown.{leadsBy, closesBy, fallsBy, Ordered};
 
 // What device k pays for the gap before job j, if it uses the device, where it starts at s.

@@ -5,7 +5,7 @@ ghost use mathlib.Core.Path.{_≡_};
 ghost use mathlib.Core.Bool.{true};
 ghost use Prim.Native.Nat.{ℕ, _+_, _*_, _<_, _≤_};
 ghost use lib.ListN.{getD, length};
-ghost use Rattle.least.specs.Entries.{keyAt, knownAt, Looked, kept, knownOf};
+ghost use Rattle.least.specs.Entries.{keyAt, Looked, kept, knownOf};
 
 const TWO29: u64 = 536870912;
 

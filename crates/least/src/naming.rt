@@ -12,7 +12,6 @@ ghost use mathlib.Core.Path.{_≡_};
 ghost use mathlib.Core.Bool.{cond};
 ghost use Prim.Native.Nat.{_+_, _-_, _*_, _<_, _≤_, min};
 ghost use lib.Dec.{ltb};
-ghost use Rattle.schedule.specs.Quantities.{jobs};
 ghost use Rattle.flat.specs.Flat.{recorderOf};
 ghost use Rattle.extras.specs.Tabled.{Tabled, capAt};
 ghost use Rattle.least.specs.Shown.{idleBy, firstBy, four, keyBy, Ordered};

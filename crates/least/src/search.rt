@@ -34,7 +34,7 @@ ghost use Rattle.flat.specs.Flat.{recorderOf};
 ghost use Rattle.latest.specs.Sets.{has};
 ghost use Rattle.latest.specs.Latest.{slot};
 ghost use Rattle.value.specs.Options.{lesser, leastIn, Answers};
-ghost use Rattle.value.specs.Leasts.{leadOf, leastOf, viaChild, startsTo};
+ghost use Rattle.value.specs.Leasts.{leastOf, viaChild, startsTo};
 ghost use Rattle.value.proofs.Waits.{leastTo};
 ghost use Rattle.extras.specs.Tabled.{capAt};
 ghost use Rattle.least.specs.Shown.{keyBy, Shows, Held};

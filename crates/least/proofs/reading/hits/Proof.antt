@@ -1,10 +1,7 @@
 -- `least::hits` meets its contract.
 -- Assumes nothing.
-use mathlib.Core.Path.{_≡_, refl, sym, ap, _∙_, subst}
-use Prim.Native.Nat.{ℕ, suc, _+_, _-_, _*_, _/_, _^_, _≤_, _<_, max}
+use Prim.Native.Nat.{_-_}
 use native.Mathlib.Omega.{arith}
-use borrow.Author.Needs.{needs}
-use Rattle.flat.specs.Flat.{recorderOf}
 use Rattle.least.specs.Outcome.{told}
 use Rattle.least.proofs.Counting.{came-stop, came-go, came-small}
 use Rattle.least.proofs.Hitting.{hit-far, hit-one, hit-none}

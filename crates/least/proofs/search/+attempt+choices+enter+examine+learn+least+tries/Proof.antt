@@ -2,9 +2,8 @@
 -- the time that is left. The loops' invariants: what is passed is answered for.
 -- Assumes nothing.
 use mathlib.Core.Path.{_≡_, refl, sym, ap, _∙_, subst}
-use mathlib.Core.List.{List}
 use mathlib.Core.Logic.{⊎-elim}
-use Prim.Native.Nat.{ℕ, suc, _+_, _-_, _*_, _/_, _^_, _≤_, _<_, min, max}
+use Prim.Native.Nat.{ℕ, suc, _+_, _-_, _*_, _/_, _^_, _≤_, _<_, max}
 use native.Mathlib.Numerals.{add-one}
 use native.Mathlib.Omega.{arith}
 use lib.ListN.{length}
@@ -13,20 +12,17 @@ use borrow.Author.Needs.{needs}
 use Rattle.flat.specs.Flat.{recorderOf}
 use Rattle.latest.proofs.Members.{has-le}
 use Rattle.latest.proofs.Tabled.{power-next, halved}
-use Rattle.least.specs.Shown.{keyBy, Shows, Held}
-use Rattle.least.specs.Outcome.{Lent, Came, told, stopped, passed, mostOf}
+use Rattle.least.specs.Outcome.{Lent, told, stopped, passed}
 use Rattle.least.proofs.Showing.{ordered-later, ticks-shown, waited-shown}
 use Rattle.least.proofs.Counting.{came-stop, came-go, came-small, came-more, came-from, most-less, most-near, most-own}
 use Rattle.least.proofs.Choosing.{held-open, Chosen, chosen-none, chosen-as, chosen-passed, chosen-tried, chosen-stopped, chosen-all, bit-is, bit-not}
 use Rattle.least.proofs.Trials.{Trial, trial-start, trial-as, trial-next, trial-stopped, trial-end}
 use Rattle.least.proofs.Going.{held-by, held-ordered, held-few, held-later, held-offers, some-left, offers-known, offers-end, offers-bit, child-shows, child-held, complete-answers, known-answers, head-few, learnt, learnt-kept, kept-lent, tried-entered, alive-early, near-comes, far-stops, far-comes, waits, starts-late, starts-to}
-use Rattle.schedule.specs.declared.Recorder.{Recorder}
-use Rattle.schedule.specs.Visiting.{Vertex, child}
+use Rattle.schedule.specs.Visiting.{child}
 use Rattle.least.specs.declared.naming.Key.{Key}
 use Rattle.least.specs.Entries.{Looked}
 use Rattle.extras.specs.Tabled.{capAt}
-use Rattle.value.specs.Leasts.{leastOf, waited}
-use Rattle.value.specs.Options.{Answers}
+use Rattle.value.specs.Leasts.{waited}
 use borrow.Fn.Kinds.{In}
 use borrow.Fn.PlainCycle.{Measures, is, falls, and}
 use Rattle.least.proofs.search.attempt.Reads as attempt
