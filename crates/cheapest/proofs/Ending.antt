@@ -18,7 +18,8 @@ use Rattle.latest.proofs.Feasibility.{feasible-latest, latest-feasible}
 use Rattle.planner.specs.declared.Answer.{Answer}
 use Rattle.planner.specs.Promises.{success, refusal, refusalAfter}
 use Rattle.least.specs.Outcome as O
-use Rattle.least.specs.Outcome.{mostVertices, ReadOff}
+use Rattle.least.specs.Effort.{mostVertices}
+use Rattle.least.specs.Outcome.{ReadOff}
 use Rattle.cheapest.specs.Promises as P
 use Rattle.cheapest.specs.Promises.{LeastOf}
 

@@ -15,7 +15,7 @@ use Rattle.planner.specs.declared.Answer.{Answer}
 use Rattle.planner.specs.Promises as Frame
 use Rattle.planner.specs.Promises.{success, refusal, refusalAfter, Reads, OfFile}
 use Rattle.planner.proofs.Only.{only-of-file, same-recorder, not-both}
-use Rattle.least.specs.Outcome.{mostVertices}
+use Rattle.least.specs.Effort.{mostVertices}
 use Rattle.cheapest.specs.Promises as P
 use Rattle.cheapest.specs.Promises.{LeastOf, LeastPlanned}
 

@@ -9,7 +9,7 @@ use Rattle.schedule.specs.Quantities.{jobs}
 use Rattle.schedule.specs.Listing.{Feasible, FirstLeast}
 use Rattle.planner.specs.declared.Answer.{Answer}
 use Rattle.planner.specs.Promises.{success, refusal, refusalAfter, OfFile}
-use Rattle.least.specs.Outcome.{mostVertices}
+use Rattle.least.specs.Effort.{mostVertices}
 
 -- Of all feasible schedules the first that costs least: the start of job j goes to place j, and what is lent beyond stays as it was. Where there is none, 19. It may
 -- be given up where there is one, after as many vertices as the budget has, but only if more of them can be needed.

@@ -32,7 +32,7 @@ pub(crate) fn larger(x: u16, y: u16) -> u16
 }
 
 // The latest start of a job that is over by x and by its deadline.
-fn slot_of(a: u16, d: u16, c: u16, x: u16) -> u16
+pub fn slot_of(a: u16, d: u16, c: u16, x: u16) -> u16
     ensures { λ s. ⌜ s ≡ slot a d c x ⌝ }
 {
     let e = capped(d, x);

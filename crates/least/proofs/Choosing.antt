@@ -22,7 +22,8 @@ use Rattle.value.specs.Leasts.{viaChild, startsTo}
 use Rattle.value.proofs.Waits.{leastTo}
 use Rattle.value.proofs.Tries.{ChosenTo, choosing-start, choosing-placed, choosing-tried, choosing-done}
 use Rattle.least.specs.Shown.{Shows, Held}
-use Rattle.least.specs.Outcome.{Came, told, stopped, mostOf}
+use Rattle.least.specs.Effort.{mostOf}
+use Rattle.least.specs.Outcome.{Came, told, stopped}
 use Rattle.least.proofs.Showing.{set-some, job-in, in-job}
 use Rattle.least.proofs.Counting.{came-stop, came-small, came-from}
 

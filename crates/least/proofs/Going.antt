@@ -32,7 +32,8 @@ use Rattle.least.specs.declared.naming.Key.{Key}
 use Rattle.least.specs.declared.memory.Spot.{Spot}
 use Rattle.least.specs.Shown.{closesBy, keyBy, Ordered, Placed, Shows, Held}
 use Rattle.least.specs.Entries.{Looked, kept, knownOf}
-use Rattle.least.specs.Outcome.{Named, Recalls, Lent, Offers, Came, Tried, entered, mostOf}
+use Rattle.least.specs.Effort.{mostOf}
+use Rattle.least.specs.Outcome.{Named, Recalls, Lent, Offers, Came, Tried, entered}
 use Rattle.least.proofs.Showing.{ordered-later, shown-ordered, closes-shown, set-few, set-none, set-some, waited-shown, child-shown, job-in, in-job}
 use Rattle.least.proofs.Keyed.{key-named, named-recalls, recalls-none}
 use Rattle.least.proofs.Kept.{right-looked, right-kept}

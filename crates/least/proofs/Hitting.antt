@@ -22,7 +22,8 @@ use Rattle.value.specs.Options.{plus, Answers}
 use Rattle.value.specs.Leasts.{leadOf, leastOf, viaChild}
 use Rattle.value.proofs.Steps.{answer-hits, hits-answer, lead-misses, none-misses}
 use Rattle.least.specs.Shown.{leadsBy, Shows}
-use Rattle.least.specs.Outcome.{Came, told, stopped, mostOf}
+use Rattle.least.specs.Effort.{mostOf}
+use Rattle.least.specs.Outcome.{Came, told, stopped}
 use Rattle.least.specs.Readings.{Hit, hit, missed, FirstStart, first, nowhere}
 use Rattle.least.proofs.Showing.{leads-shown, job-in}
 use Rattle.least.proofs.Counting.{came-stop, came-go, came-from}

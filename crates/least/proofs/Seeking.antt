@@ -19,7 +19,8 @@ use Rattle.value.specs.Leasts.{leastOf, viaChild, FirstChild}
 use Rattle.value.proofs.Reading.{no-hit}
 use Rattle.value.proofs.Steps.{first-by}
 use Rattle.least.specs.Shown.{Shows}
-use Rattle.least.specs.Outcome.{Came, told, stopped, mostOf}
+use Rattle.least.specs.Effort.{mostOf}
+use Rattle.least.specs.Outcome.{Came, told, stopped}
 use Rattle.least.specs.Readings.{FirstStart, first, nowhere}
 use Rattle.least.proofs.Showing.{job-in, in-job}
 use Rattle.least.proofs.Counting.{came-from}

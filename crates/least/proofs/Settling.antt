@@ -25,7 +25,8 @@ use Rattle.value.proofs.Reading.{settles-root, settles-child, settles-end, root
 use Rattle.value.proofs.Steps.{child-goal, least-most}
 use Rattle.extras.specs.Tabled.{Tabled}
 use Rattle.least.specs.Shown.{leadsBy, Placed, Shows, Held}
-use Rattle.least.specs.Outcome.{Offers, Came, told, stopped, mostOf, mostVertices, ReadOff, read}
+use Rattle.least.specs.Effort.{mostOf, mostVertices}
+use Rattle.least.specs.Outcome.{Offers, Came, told, stopped, ReadOff, read}
 use Rattle.least.specs.Readings.{Reads}
 use Rattle.least.proofs.Showing.{leads-shown, set-none, set-some}
 use Rattle.least.proofs.Counting.{came-what, came-count, most-children}

@@ -28,7 +28,8 @@ use Rattle.value.proofs.Steps.{least-span, latest-gone}
 use Rattle.value.proofs.Tries.{Trying, Falling, trying-start, trying-pass, trying-enter}
 use Rattle.extras.specs.Tabled.{Tabled, riseAt, fallAt}
 use Rattle.least.specs.Shown.{leadsBy, fallsBy, Shows, Held}
-use Rattle.least.specs.Outcome.{Came, told, stopped, Tried, passed, entered, mostOf}
+use Rattle.least.specs.Effort.{mostOf}
+use Rattle.least.specs.Outcome.{Came, told, stopped, Tried, passed, entered}
 use Rattle.least.proofs.Showing.{leads-shown, falls-shown, job-in, in-job}
 use Rattle.least.proofs.Counting.{came-stop, came-small, came-from}
 use Rattle.least.proofs.Choosing.{held-open, has-some, before}

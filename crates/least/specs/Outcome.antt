@@ -4,7 +4,7 @@ use mathlib.Core.Path.{_≡_}
 use mathlib.Core.Bool.{Bool, true, false, cond}
 use mathlib.Core.List.{List}
 use mathlib.Core.Option.{Option}
-use Prim.Native.Nat.{ℕ, zero, suc, _+_, _-_, _*_, _/_, _%_, _≤_, _<_, max}
+use Prim.Native.Nat.{ℕ, suc, _+_, _-_, _*_, _/_, _%_, _≤_, _<_, max}
 use lib.Dec.{eqb, ltb}
 use lib.ListN.{take}
 use Rattle.schedule.specs.declared.Recorder.{Recorder}
@@ -22,6 +22,7 @@ use Rattle.extras.specs.Tabled.{Tabled, capAt}
 use Rattle.least.specs.declared.naming.Key.{Key}
 use Rattle.least.specs.Shown.{four, Shows}
 use Rattle.least.specs.Entries.{Right}
+use Rattle.least.specs.Effort.{mostVertices}
 
 -- ---- what is remembered
 
@@ -59,11 +60,6 @@ pub record Offers (R : Recorder) (l : List ℕ) (unplaced j s : ℕ) : Type 0 wh
 
 -- ---- the budget
 
--- No more vertices than this are entered below one with m jobs unplaced at the time t, itself among them: at each tick from t on it may wait, and each job may start.
-unfoldable pub mostOf : Recorder → ℕ → ℕ → ℕ
-mostOf R zero t = 0
-mostOf R (suc m) t = suc ((R .horizon - t) * suc (jobs R * mostOf R m 0))
-
 -- A call answered x: with P, after at most n vertices more; or the budget is used up, which is less than n more.
 pub data Came (budget before after n x : ℕ) (P : Type 0) : Type 0 where
   told : x ≤ 2147483647 → after ≤ before + n → P → Came budget before after n x P
@@ -78,10 +74,6 @@ pub data Tried (most lead ahead : ℕ) (o : Option ℕ) : ℕ → Type 0 where
   entered : {x : ℕ} → lead ≤ most → Answers (most - lead) o x → Tried most lead ahead o (max x ahead)
 
 -- ---- all of it
-
--- No more vertices than this are entered in all: below the root, and again below it for each job that is read off.
-unfoldable pub mostVertices : Recorder → ℕ
-mostVertices R = suc (jobs R) * mostOf R (jobs R) 0
 
 -- The starts of the first of the least-energy schedules stand in l, by job number; or the budget was used up.
 pub data ReadOff (R : Recorder) (budget : ℕ) (l : List ℕ) : Bool → Type 0 where

@@ -29,7 +29,8 @@ ghost use Rattle.latest.specs.Sets.{has};
 ghost use Rattle.latest.specs.Latest.{latestOf};
 ghost use Rattle.value.specs.Leasts.{leadOf, leastOf, viaChild, FirstChild};
 ghost use Rattle.least.specs.Shown.{Shows, Held};
-ghost use Rattle.least.specs.Outcome.{Lent, Offers, Came, mostOf, ReadOff};
+ghost use Rattle.least.specs.Effort.{mostOf};
+ghost use Rattle.least.specs.Outcome.{Lent, Offers, Came, ReadOff};
 ghost use Rattle.least.specs.Readings.{Hit, FirstStart, Reads};
 
 // A job and its start.

@@ -39,7 +39,8 @@ ghost use Rattle.value.proofs.Waits.{leastTo};
 ghost use Rattle.extras.specs.Tabled.{capAt};
 ghost use Rattle.least.specs.Shown.{keyBy, Shows, Held};
 ghost use Rattle.least.specs.Entries.{Looked};
-ghost use Rattle.least.specs.Outcome.{Lent, Offers, Came, Tried, mostOf};
+ghost use Rattle.least.specs.Effort.{mostOf};
+ghost use Rattle.least.specs.Outcome.{Lent, Offers, Came, Tried};
 
 // More than any extras: 8 devices, 4,096 ticks, 65,535 a tick are 2,147,450,880.
 pub const NEVER: u32 = 2147483647;
