@@ -52,10 +52,18 @@ pub fn search(file: &[u8], budget: u32) -> Outcome {
 
 /// The program's whole output for an outcome.
 pub fn text(outcome: &Outcome) -> String {
-    let Some((request, schedule)) = &outcome.plan else {
-        return format!("refused {}\n", outcome.number);
-    };
-    let mut text = format!("energy {}\nvertices {}\n", schedule.energy, outcome.count);
+    match &outcome.plan {
+        Some((request, schedule)) => plan_text(request, schedule, Some(outcome.count)),
+        None => format!("refused {}\n", outcome.number),
+    }
+}
+
+/// A plan in lines, with the vertices that were counted, if any were.
+pub fn plan_text(request: &Request, schedule: &Schedule, count: Option<u64>) -> String {
+    let mut text = format!("energy {}\n", schedule.energy);
+    if let Some(count) = count {
+        text += &format!("vertices {count}\n");
+    }
     for (number, (job, start)) in request.jobs.iter().zip(&schedule.starts).enumerate() {
         let margin = job.margin(*start);
         text += &format!("job {number} start {start} margin {margin}\n");

@@ -64,6 +64,12 @@ fn by_sets(request: &Request) -> Option<Vec<u32>> {
     Some(starts)
 }
 
+/// Whether all jobs can be in time.
+pub fn has_plan(request: &Request) -> bool {
+    let jobs: Vec<&Job> = request.jobs.iter().collect();
+    soonest_end(&jobs, 0).is_some()
+}
+
 fn is_listed(request: &Request) -> bool {
     listing::size(request) <= 20_000
 }

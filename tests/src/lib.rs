@@ -2,9 +2,10 @@
 //! try it with.
 //!
 //! The oracle shares nothing with the proved code but the rules: the reader, the row energies, the
-//! listing and the visit are made a second time, by other means. `plain` is no part of it. Its three
-//! searches are the benchmark's other side: they share with the proved search the visit, and one of
-//! them its shape too, so that the race is between makers of the same work.
+//! listing and the visit are made a second time, by other means. `plain` is no part of it. Its
+//! searches are the benchmark's other side: three share with the proved search the visit, and one of
+//! them its shape too; the fourth has the shape of the proved `least_plan`. So the race is between
+//! makers of the same work.
 
 pub mod cases;
 pub mod catalogue;
@@ -15,6 +16,8 @@ pub mod faults;
 pub mod first;
 pub mod fixed;
 pub mod judge;
+pub mod layers;
+pub mod least;
 pub mod listing;
 pub mod long;
 pub mod looser;
@@ -24,6 +27,7 @@ pub mod plain;
 pub mod possible;
 pub mod random;
 pub mod readme;
+pub mod recorders;
 pub mod request;
 pub mod rows;
 pub mod runner;

@@ -6,7 +6,8 @@
 
 use crate::cases::{draw_of, Kind};
 use crate::random::Random;
-use crate::request::{read, Job};
+use crate::recorders::{self, Fitted, List};
+use crate::request::{read, Job, Request};
 
 /// What a search gives, as far as it is compared.
 #[derive(Clone, Copy, Debug, PartialEq, Eq)]
@@ -75,13 +76,38 @@ fn pair(seed: u64, number: u64) -> (Vec<u8>, Vec<u8>) {
         if request.round || request.jobs.is_empty() {
             continue;
         }
-        let mut wider = file.clone();
-        let records = file.len() - RECORD * request.jobs.len();
-        for (record, job) in wider[records..].chunks_mut(RECORD).zip(&request.jobs) {
-            widen(&mut random, record, job, request.horizon);
-        }
+        let wider = widened(&mut random, &file, &request);
         return (file, wider);
     }
+}
+
+/// The same of a recorder's size.
+fn large_pair(seed: u64, number: u64) -> (Vec<u8>, Vec<u8>) {
+    let mut random = Random::new(seed, number);
+    let fitted = Fitted {
+        devices: random.within(2, 4),
+        transition: random.pick(&[4, 10, 20]),
+    };
+    let list = List {
+        horizon: random.u16(100, 600),
+        jobs: random.within(6, 12),
+        load: random.within(30, 70),
+        window: random.within(5, 15),
+    };
+    let file = recorders::list(&mut random, fitted, list).bytes();
+    let request = read(&file).expect("an accepted file");
+    let wider = widened(&mut random, &file, &request);
+    (file, wider)
+}
+
+/// The file with some windows wider.
+fn widened(random: &mut Random, file: &[u8], request: &Request) -> Vec<u8> {
+    let mut wider = file.to_vec();
+    let records = file.len() - RECORD * request.jobs.len();
+    for (record, job) in wider[records..].chunks_mut(RECORD).zip(&request.jobs) {
+        widen(random, record, job, request.horizon);
+    }
+    wider
 }
 
 /// Releases and deadlines each stay, move by a tick or two, or go anywhere on their side.
@@ -100,9 +126,23 @@ fn widen(random: &mut Random, record: &mut [u8], job: &Job, horizon: u32) {
 /// Holds the searches of so many pairs to rule 99. A pair of which one comes to no end is left out;
 /// the first that breaks the rule ends it.
 pub fn run(seed: u64, pairs: u64, search: impl Fn(&[u8]) -> Found) -> Result<Met, String> {
+    run_of(pair, seed, pairs, search)
+}
+
+/// The same with lists of a recorder's size.
+pub fn run_large(seed: u64, pairs: u64, search: impl Fn(&[u8]) -> Found) -> Result<Met, String> {
+    run_of(large_pair, seed, pairs, search)
+}
+
+fn run_of(
+    draw: fn(u64, u64) -> (Vec<u8>, Vec<u8>),
+    seed: u64,
+    pairs: u64,
+    search: impl Fn(&[u8]) -> Found,
+) -> Result<Met, String> {
     let mut met = Met::default();
     for number in 0..pairs {
-        let (file, wider) = pair(seed, number);
+        let (file, wider) = draw(seed, number);
         let (first, second) = (search(&file), search(&wider));
         for (file, found) in [(&file, first), (&wider, second)] {
             if ![0, 19, 20].contains(&found.number) {

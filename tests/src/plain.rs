@@ -1,14 +1,16 @@
-//! The benchmark's plain searches: the same visit as the proved search, written as fast Rust without a
-//! proof, in three shapes.
+//! The benchmark's plain searches, written as fast Rust without a proof. Three make the same visit as the
+//! proved search; the fourth counts nothing, and works out what the proved `least_plan` does.
 //!
 //! - `anew` adds both sums (rules 43 and 46) anew at every vertex: the running times of all unplaced
 //!   jobs, and for each device the ticks that unplaced jobs will use it.
 //! - `carried` keeps both sums in one vertex: placing a job and taking it back keep them right.
 //! - `shaped` takes the steps of the proved search: it reads the parent, knows cut A by one
 //!   comparison, and makes the child only where no cut drops it.
+//! - `remembering` takes the steps of the proved `least_plan`, with a memory that is lent.
 
 pub mod anew;
 pub mod carried;
+pub mod remembering;
 pub mod shaped;
 
 use crate::request::{read, MOST_DEVICES, MOST_JOBS, MOST_LEVELS};
@@ -257,6 +259,27 @@ mod tests {
                 assert_eq!(anew::search(&file, budget), expected, "case {number}");
                 assert_eq!(carried::search(&file, budget), expected, "case {number}");
                 assert_eq!(shaped::search(&file, budget), expected, "case {number}");
+            }
+        }
+    }
+
+    /// It finds the same and counts nothing, whatever the memory is and holds.
+    #[test]
+    fn the_remembering_search_finds_what_the_oracle_finds() {
+        for number in 0..800 {
+            let file = draw(33, number).file;
+            let expected = by_the_oracle(&file, 100_000);
+            if expected.number == 20 {
+                continue;
+            }
+            let expected = Found {
+                count: 0,
+                ..expected
+            };
+            for words in [0, 1, 7, 64, 4_096] {
+                let mut memory = vec![u64::MAX / 3; words];
+                let (found, _) = remembering::search(&file, u32::MAX, &mut memory);
+                assert_eq!(found, expected, "case {number}, {words} words");
             }
         }
     }

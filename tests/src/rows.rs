@@ -199,6 +199,17 @@ pub fn least_energy(device: &Device, uses: &[Use], length: u32) -> u64 {
     ways_of(false, device, uses, length).energy
 }
 
+/// The least energy of a gap, from work to work, by its length from 0 on.
+pub fn gap_energies(device: &Device, longest: u32) -> Vec<u64> {
+    let mut column = Column::before_the_row(device);
+    let mut energies = vec![column.at_the_end().energy];
+    for _ in 0..longest {
+        column = column.step(device, false);
+        energies.push(column.at_the_end().energy);
+    }
+    energies
+}
+
 /// The least energy of a row that is legal repeated for ever.
 pub fn round_energy(device: &Device, uses: &[Use], length: u32) -> u64 {
     ways_of(true, device, uses, length).energy
