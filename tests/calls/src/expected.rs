@@ -259,6 +259,24 @@ impl Searched {
         }
     }
 
+    /// With a budget that is enough.
+    pub fn least(&self, before: &Buffers) -> Outcome {
+        let request = match &self.read {
+            Err(number) => return before.refused(*number),
+            Ok(request) => request,
+        };
+        if before.is_short() || before.lent.len() < 2 * request.jobs.len() {
+            return before.refused(15);
+        }
+        match &self.best {
+            None => before.refused(19),
+            Some(best) => {
+                let answer = success(request, best.energy, 0);
+                before.after(answer, &two_bytes(&best.starts))
+            }
+        }
+    }
+
     pub fn rows(&self, starts: &[u8], before: &Buffers) -> Outcome {
         let request = match &self.read {
             Err(number) => return before.refused(*number),

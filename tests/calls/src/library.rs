@@ -20,6 +20,17 @@ mod c {
             r: *mut u8,
             r_len: usize,
         ) -> u8;
+        pub fn floe_least(
+            f: *const u8,
+            f_len: usize,
+            budget: u32,
+            m: *mut u64,
+            m_len: usize,
+            s: *mut u8,
+            s_len: usize,
+            r: *mut u8,
+            r_len: usize,
+        ) -> u8;
         pub fn floe_rows(
             f: *const u8,
             f_len: usize,
@@ -178,6 +189,28 @@ pub fn first(file: &[u8], starts: &mut [u8], result: &mut [u8]) -> u8 {
         c::floe_first(
             file.as_ptr(),
             file.len(),
+            starts.as_mut_ptr(),
+            starts.len(),
+            result.as_mut_ptr(),
+            result.len(),
+        )
+    }
+}
+
+pub fn least(
+    file: &[u8],
+    budget: u32,
+    memory: &mut [u64],
+    starts: &mut [u8],
+    result: &mut [u8],
+) -> u8 {
+    unsafe {
+        c::floe_least(
+            file.as_ptr(),
+            file.len(),
+            budget,
+            memory.as_mut_ptr(),
+            memory.len(),
             starts.as_mut_ptr(),
             starts.len(),
             result.as_mut_ptr(),

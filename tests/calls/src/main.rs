@@ -7,6 +7,7 @@ mod chosen;
 mod expected;
 mod figures;
 mod first;
+mod least;
 mod library;
 mod looser;
 mod mend;
@@ -128,6 +129,17 @@ impl Tester {
         self.compare("floe_first", &searched.file, expected, got);
     }
 
+    fn least(&mut self, searched: &Searched, jobs: usize) {
+        let mut after = self.buffers(2 * jobs);
+        let expected = searched.least(&after);
+        let words = self.random.pick(&[0, 1, 7, 64, 1_000]);
+        let mut memory: Vec<u64> = (0..words).map(|_| self.random.within(0, 1 << 62)).collect();
+        let (lent, result) = (&mut after.lent, &mut after.result);
+        let number = library::least(&searched.file, u32::MAX, &mut memory, lent, result);
+        let got = outcome(number, after);
+        self.compare("floe_least", &searched.file, expected, got);
+    }
+
     /// Starts in the jobs' windows, or just outside, or anywhere; or those of the plan. As many as
     /// there are jobs, or not.
     fn starts(&mut self, searched: &Searched) -> Vec<u8> {
@@ -205,6 +217,7 @@ impl Tester {
         self.check(searched);
         self.search(searched);
         self.first(searched, jobs);
+        self.least(searched, jobs);
         for _ in 0..3 {
             self.rows(searched, size);
             self.verdict(searched);
@@ -246,6 +259,7 @@ fn test() -> Result<String, String> {
         ("door_mend", mend::test()?),
         ("door_possible", possible::test()?),
         ("floe_first", first::test()?),
+        ("floe_least", least::test()?),
         ("door_step", stepping::test()?),
     ] {
         for (number, count) in met {
