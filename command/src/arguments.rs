@@ -21,6 +21,10 @@ pub const BUDGET: Opt = Opt {
     name: "--budget",
     has_value: true,
 };
+pub const MEMORY: Opt = Opt {
+    name: "--memory",
+    has_value: true,
+};
 pub const STARTS: Opt = Opt {
     name: "--starts",
     has_value: true,
@@ -126,6 +130,17 @@ impl Arguments {
         self.option(&BUDGET).map(number).transpose()
     }
 
+    /// Mebibytes that are lent to the search.
+    pub fn memory(&self) -> Result<Option<usize>, Failure> {
+        const MOST: u64 = 1 << 20;
+        let number = |text| {
+            let value = digits(text).filter(|&value| value <= MOST);
+            let wrong = || usage(format!("--memory {}: a number up to {MOST}", quoted(text)));
+            value.map(|value| value as usize).ok_or_else(wrong)
+        };
+        self.option(&MEMORY).map(number).transpose()
+    }
+
     /// The ticks of the round, where they are no line of a text.
     pub fn horizon(&self) -> Result<Option<u16>, Failure> {
         let number = |text| {
@@ -163,7 +178,8 @@ mod tests {
     use super::*;
 
     fn parsed(words: &[&str]) -> Result<Arguments, Failure> {
-        Arguments::new(words.iter().map(OsString::from), &[BUDGET, STARTS, CSV])
+        let known = [BUDGET, MEMORY, STARTS, CSV];
+        Arguments::new(words.iter().map(OsString::from), &known)
     }
 
     #[test]
@@ -190,6 +206,7 @@ mod tests {
             };
             let parts = [
                 arguments.budget().map(|_| ()),
+                arguments.memory().map(|_| ()),
                 arguments.given_starts().map(|_| ()),
                 arguments.end(),
             ];
@@ -204,6 +221,8 @@ mod tests {
             message(&["--budget=1", "--budget=2"]),
             "--budget is given twice"
         );
+        assert!(message(&["--memory=1048577"]).contains("a number up to 1048576"));
+        assert_eq!(message(&["--memory=0"]), "");
         assert!(message(&["--starts", "1,,2"]).contains("not a start time"));
         assert!(message(&["--starts", "65536"]).contains("up to 65535"));
         assert_eq!(message(&["a"]), "'a' is a word too many");

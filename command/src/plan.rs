@@ -3,10 +3,20 @@
 use crate::calls::planner::{self, Refused, Rows};
 use std::fmt::Write;
 
+/// How start times came to be.
+#[derive(Clone, Copy, Debug, PartialEq, Eq)]
+pub enum Origin {
+    /// Whoever asks has given them.
+    Given,
+    /// They are those of least energy.
+    Least,
+    /// They are too, and so many vertices were counted till that was certain.
+    Counted(u32),
+}
+
 pub struct Plan {
     pub energy: u32,
-    /// How many vertices were searched, if the start times were found so.
-    pub count: Option<u32>,
+    pub origin: Origin,
     pub starts: Vec<u16>,
     pub margins: Vec<i32>,
     pub rows: Vec<Vec<u8>>,
@@ -14,21 +24,21 @@ pub struct Plan {
 
 impl Plan {
     /// The plan of feasible start times.
-    pub fn of_starts(file: &[u8], starts: &[u16], count: Option<u32>) -> Result<Plan, Refused> {
+    pub fn of_starts(file: &[u8], starts: &[u16], origin: Origin) -> Result<Plan, Refused> {
         let Rows { energy, rows } = planner::rows(file, starts)?;
         Ok(Plan {
             energy,
-            count,
+            origin,
             starts: starts.to_vec(),
             margins: planner::margins(file, starts)?,
             rows,
         })
     }
 
-    /// As the printing program prints it, to the byte.
+    /// One that was counted as the printing program prints it, to the byte.
     pub fn text(&self) -> String {
         let mut text = format!("energy {}\n", self.energy);
-        if let Some(count) = self.count {
+        if let Origin::Counted(count) = self.origin {
             let _ = writeln!(text, "vertices {count}");
         }
         text + &job_lines(&self.starts, &self.margins) + &row_lines(&self.rows)

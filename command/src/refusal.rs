@@ -240,3 +240,12 @@ pub fn of_search(refused: Refused) -> Failure {
     };
     failure(number, None, words)
 }
+
+/// 20 of a search that remembers: it has entered as many vertices as it may, and has no answer.
+pub fn given_up(refused: Refused) -> Failure {
+    let Refused { number, count, .. } = refused;
+    let words = format!(
+        "given up after entering {count} vertices; with more memory (--memory) there are fewer"
+    );
+    failure(number, None, words)
+}

@@ -88,6 +88,14 @@ impl Request {
         }
     }
 
+    /// A refusal by the search that remembers.
+    pub fn not_remembered(&self, refused: Refused) -> Failure {
+        match refused.number {
+            20 => refusal::given_up(refused),
+            _ => self.not_found(refused),
+        }
+    }
+
     /// A refusal by an operation on these start times.
     pub fn not_judged(&self, refused: Refused, starts: &[u16]) -> Failure {
         match (refused.number, self.jobs()) {

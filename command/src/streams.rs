@@ -60,9 +60,14 @@ pub fn complain(message: &str) {
     let _ = writeln!(io::stderr(), "{message}");
 }
 
+/// Whether what goes on is told.
+pub fn is_told() -> bool {
+    io::stderr().is_terminal()
+}
+
 /// One line on a terminal that the next one replaces; elsewhere nothing is said.
 pub fn tell(message: &str) {
-    if io::stderr().is_terminal() {
+    if is_told() {
         let _ = write!(io::stderr(), "\r{message}\x1b[K");
     }
 }

@@ -1,5 +1,5 @@
 //! All that is called outside Rust, and the only module with unsafe code: the proved library, and
-//! one question to the system.
+//! what is asked of the system.
 
 pub mod planner;
 pub mod system;

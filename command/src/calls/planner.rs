@@ -25,6 +25,17 @@ mod c {
             r: *mut u8,
             r_len: usize,
         ) -> u8;
+        pub fn floe_least(
+            f: *const u8,
+            f_len: usize,
+            budget: u32,
+            m: *mut u64,
+            m_len: usize,
+            s: *mut u8,
+            s_len: usize,
+            r: *mut u8,
+            r_len: usize,
+        ) -> u8;
         pub fn floe_rows(
             f: *const u8,
             f_len: usize,
@@ -219,6 +230,25 @@ pub fn search(file: &[u8], budget: u32) -> Answered<Found> {
     })
 }
 
+/// The plan of least energy, with a memory that is lent and a budget of vertices entered: its start
+/// times. Nothing is counted.
+pub fn least_plan(file: &[u8], budget: u32, memory: &mut [u64]) -> Answered<Vec<u16>> {
+    let found = found(file, |starts, result| unsafe {
+        c::floe_least(
+            file.as_ptr(),
+            file.len(),
+            budget,
+            memory.as_mut_ptr(),
+            memory.len(),
+            starts.as_mut_ptr(),
+            starts.len(),
+            result.as_mut_ptr(),
+            result.len(),
+        )
+    });
+    found.map(|found| found.starts)
+}
+
 /// The first of all plans, whatever it costs, in some milliseconds: its start times.
 pub fn first_plan(file: &[u8]) -> Answered<Vec<u16>> {
     let found = found(file, |starts, result| unsafe {
@@ -249,7 +279,7 @@ pub fn any_plan(file: &[u8], budget: u32) -> Answered<Found> {
     })
 }
 
-fn found(file: &[u8], call: impl Fn(&mut [u8], &mut [u8]) -> u8) -> Answered<Found> {
+fn found(file: &[u8], call: impl FnOnce(&mut [u8], &mut [u8]) -> u8) -> Answered<Found> {
     let mut starts = [0; 2 * JOBS];
     let mut result = [0; RESULT];
     let number = call(&mut starts, &mut result);

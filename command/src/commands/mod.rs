@@ -4,8 +4,9 @@ mod files;
 mod judging;
 mod picture;
 mod searching;
+mod work;
 
-use crate::arguments::{Arguments, Opt, BUDGET, CSV, HORIZON, STARTS};
+use crate::arguments::{Arguments, Opt, BUDGET, CSV, HORIZON, MEMORY, STARTS};
 use crate::failure::Failure;
 use std::ffi::OsString;
 use std::fmt::Write;
@@ -22,16 +23,16 @@ pub struct Command {
 pub static COMMANDS: [Command; 10] = [
     Command {
         name: "plan",
-        arguments: "REQUEST [--budget N] [--csv]",
+        arguments: "REQUEST [--memory N] [--csv]",
         help: "the plan of least energy, or its jobs as a sheet",
-        options: &[BUDGET, CSV],
+        options: &[BUDGET, MEMORY, CSV],
         run: searching::plan,
     },
     Command {
         name: "draw",
         arguments: "REQUEST [--starts S,..]",
         help: "a picture of the plan, or of given start times, in SVG",
-        options: &[BUDGET, STARTS],
+        options: &[BUDGET, MEMORY, STARTS],
         run: picture::draw,
     },
     Command {
@@ -119,6 +120,8 @@ After a first line `kind 2` waking and shutting down have times and powers of th
   device 1 3 9 1 4 2    wake time, shut time, Pw, Ps, wake power, shut power\n
 After `kind 3` a device has one to four sleep levels:\n
   device 1 10 4 2 3 1   T, Pw, P0, how many levels, the power of each\n
+plan and draw lend the search 64 MiB to remember in, with --memory N so many: more is faster, and
+never another plan. With --budget N they count the vertices of the search instead, N at most.\n
 START is a start time for each job, in job order. CATALOGUE has lines `part NUMBER T Pw Ps P0`;
 build takes the horizon, the tasks and the jobs from its REQUEST. Both may be comma-separated sheets
 instead, NUMBER,T,Pw,Ps,P0 and release,deadline,running time,device set; then --horizon N gives the

@@ -1,19 +1,43 @@
 //! plan and possible.
 
+use super::work::at_work;
 use crate::arguments::{Arguments, CSV};
-use crate::calls::planner::{self, Found, Refused};
+use crate::calls::planner::{self, Refused};
 use crate::failure::Failure;
-use crate::plan::{job_lines, Plan};
+use crate::plan::{job_lines, Origin, Plan};
 use crate::request::Request;
-use crate::streams;
-use std::time::Instant;
+
+/// How the plan of least energy is looked for.
+#[derive(Clone, Copy)]
+pub enum Way {
+    /// With so many mebibytes to remember in.
+    Remembering(usize),
+    /// By counting vertices, so many at most.
+    Counting(u32),
+}
+
+/// Mebibytes, where none are given.
+const MEMORY: usize = 64;
+
+impl Way {
+    pub fn given(arguments: &Arguments) -> Result<Way, Failure> {
+        match (arguments.budget()?, arguments.memory()?) {
+            (None, memory) => Ok(Way::Remembering(memory.unwrap_or(MEMORY))),
+            (Some(budget), None) => Ok(Way::Counting(budget)),
+            (Some(_), Some(_)) => {
+                let message = "with --budget nothing is remembered, so that --memory means nothing";
+                Err(Failure::Usage(message.to_string()))
+            }
+        }
+    }
+}
 
 pub fn plan(mut arguments: Arguments) -> Result<Vec<u8>, Failure> {
     let path = arguments.next("REQUEST")?;
     arguments.end()?;
-    let budget = arguments.budget()?;
+    let way = Way::given(&arguments)?;
     let request = Request::open(&path)?;
-    let plan = best(&request, budget)?;
+    let plan = best(&request, way)?;
     if arguments.has(&CSV) {
         let sheet = planner::export_plan(&request.file, &plan.starts);
         return sheet.map_err(|refused| request.not_judged(refused, &plan.starts));
@@ -21,17 +45,50 @@ pub fn plan(mut arguments: Arguments) -> Result<Vec<u8>, Failure> {
     Ok(plan.text().into_bytes())
 }
 
-/// The plan of least energy. Without a budget it is asked first whether there is any: that takes some
-/// milliseconds, where a search that finds none takes its longest.
-pub fn best(request: &Request, budget: Option<u32>) -> Result<Plan, Failure> {
+/// The plan of least energy.
+pub fn best(request: &Request, way: Way) -> Result<Plan, Failure> {
     let file = &request.file;
-    let found = match budget {
-        Some(budget) => planner::search(file, budget),
-        None => planner::first_plan(file).and_then(|_| searched(file)),
+    let of_starts = |starts: &[u16], origin| {
+        Plan::of_starts(file, starts, origin).map_err(|refused| request.not_found(refused))
     };
-    found
-        .and_then(|found| Plan::of_starts(file, &found.starts, Some(found.count)))
-        .map_err(|refused| request.not_found(refused))
+    match way {
+        Way::Counting(budget) => {
+            let found = planner::search(file, budget);
+            let found = found.map_err(|refused| request.not_found(refused))?;
+            of_starts(&found.starts, Origin::Counted(found.count))
+        }
+        Way::Remembering(mebibytes) => {
+            let mut memory = memory(mebibytes)?;
+            let found = at_work(|| remembered(file, &mut memory))?;
+            let starts = found.map_err(|refused| request.not_remembered(refused))?;
+            of_starts(&starts, Origin::Least)
+        }
+    }
+}
+
+/// Zeros, of which the system gives a page only where it is touched.
+fn memory(mebibytes: usize) -> Result<Vec<u64>, Failure> {
+    let words = mebibytes << 17;
+    match Vec::<u64>::new().try_reserve_exact(words) {
+        Ok(()) => Ok(vec![0; words]),
+        Err(_) => Err(Failure::Usage(format!(
+            "--memory {mebibytes}: there is not so much to be had"
+        ))),
+    }
+}
+
+/// The first try: in little memory, with a budget that takes some hundredths of a second.
+const LITTLE: usize = 1 << 17;
+const SHORT: u32 = 20_000;
+
+/// Most requests are answered by the first try, before a large memory is cleared. More memory and a
+/// larger budget change no answer but 20, which is proved.
+fn remembered(file: &[u8], memory: &mut [u64]) -> Result<Vec<u16>, Refused> {
+    let little = memory.len().min(LITTLE);
+    match planner::least_plan(file, SHORT, &mut memory[..little]) {
+        Err(refused) if refused.number == 20 => planner::least_plan(file, u32::MAX, memory),
+        found => found,
+    }
 }
 
 /// Whether there is any plan: with a budget by the visit that it is for, else by the one answer that
@@ -56,28 +113,4 @@ pub fn possible(mut arguments: Arguments) -> Result<Vec<u8>, Failure> {
     answer
         .map(String::into_bytes)
         .map_err(|refused| request.not_found(refused))
-}
-
-const FIRST_BUDGET: u32 = 1_000_000;
-const STEP: u32 = 4;
-
-/// Searches with rising budgets: a larger budget changes no answer but 20, which is proved
-/// (`larger-budget`), so that the first other answer is the answer.
-fn searched(file: &[u8]) -> Result<Found, Refused> {
-    let mut budget = FIRST_BUDGET;
-    loop {
-        let begun = Instant::now();
-        let found = planner::search(file, budget);
-        let is_spent = matches!(&found, Err(refused) if refused.number == 20);
-        if !is_spent || budget == u32::MAX {
-            streams::tell("");
-            return found;
-        }
-        let next = budget.saturating_mul(STEP);
-        let seconds = begun.elapsed().as_secs_f64() * f64::from(next) / f64::from(budget);
-        streams::tell(&format!(
-            "floe: {budget} vertices searched, more to come: on to {next} (up to {seconds:.0} s)"
-        ));
-        budget = next;
-    }
 }

@@ -5,6 +5,7 @@ use super::scale::Scale;
 use super::style::STYLE;
 use super::svg::{finish, grouped, text_width, Area, Svg};
 use super::{DeviceLine, JobLine, Round, Run, Stretch};
+use crate::plan::Origin;
 use crate::refusal::plural;
 
 const EDGE: f64 = 24.0;
@@ -128,13 +129,14 @@ impl Chart<'_> {
         self.svg.text("title", EDGE, self.y, &title);
         self.y += 20.0;
         let (jobs, devices) = (round.jobs.len(), round.devices.len());
-        let how = match round.count {
-            Some(count) => format!(
+        let how = match round.origin {
+            Origin::Least => "the least energy of all plans".to_string(),
+            Origin::Counted(count) => format!(
                 "the least energy of all plans, found with {} {}",
                 grouped(u64::from(count)),
                 if count == 1 { "vertex" } else { "vertices" }
             ),
-            None => "for given start times".to_string(),
+            Origin::Given => "for given start times".to_string(),
         };
         let what = format!(
             "{jobs} {} on one processor, {devices} {}; {how}",

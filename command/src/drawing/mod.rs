@@ -10,7 +10,7 @@ mod svg;
 use crate::failure::Failure;
 use crate::jobs::{jobs, Job};
 use crate::kinds::Kind;
-use crate::plan::Plan;
+use crate::plan::{Origin, Plan};
 use crate::tables::Tables;
 
 pub use chart::picture;
@@ -54,8 +54,7 @@ pub struct Round {
     pub jobs: Vec<JobLine>,
     pub devices: Vec<DeviceLine>,
     pub energy: u64,
-    /// How many vertices were searched, if the plan was found so.
-    pub count: Option<u32>,
+    pub origin: Origin,
     /// What the letters of sleep are.
     pub asleep: &'static str,
 }
@@ -99,7 +98,7 @@ impl Round {
                     jobs: lines,
                     devices,
                     energy,
-                    count: plan.count,
+                    origin: plan.origin,
                     asleep: tables.kind.asleep,
                 })
             }

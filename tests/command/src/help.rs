@@ -6,7 +6,7 @@ const COMMANDS: [&str; 10] = [
     "plan", "check", "possible", "verdict", "rows", "mend", "write", "show", "draw", "build",
 ];
 
-const WRONG: [&[&str]; 22] = [
+const WRONG: [&[&str]; 27] = [
     &[],
     &["planx"],
     &["Plan"],
@@ -19,12 +19,17 @@ const WRONG: [&[&str]; 22] = [
     &["plan", "-", "--budget", "4294967296"],
     &["plan", "-", "--budget=1", "--budget=2"],
     &["plan", "-", "--starts", "0"],
+    &["plan", "-", "--memory", "x"],
+    &["plan", "-", "--memory", "1048577"],
+    &["plan", "-", "--memory", "1", "--budget", "9"],
+    &["check", "-", "--memory", "1"],
     &["check", "-", "--budget", "1"],
     &["verdict"],
     &["verdict", "-", "x"],
     &["rows", "-", "0,,1"],
     &["mend", "-", "65536"],
     &["draw", "-", "--starts", "0", "--budget", "9"],
+    &["draw", "-", "--starts", "0", "--memory", "9"],
     &["build", "-"],
     &["show", "-", "--text"],
     &["plan", "-", "--csv=1"],

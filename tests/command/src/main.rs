@@ -28,8 +28,9 @@ use std::thread;
 
 type Test = fn(&Floe) -> Tried;
 
-const TESTS: [(&str, Test); 17] = [
+const TESTS: [(&str, Test); 18] = [
     ("plans and refusals of files", planning::test),
+    ("plans of recorders", planning::recorders),
     ("write and show", both_ways::test),
     ("the second kind", second::test),
     ("the third kind", third::test),

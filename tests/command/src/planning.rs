@@ -1,11 +1,14 @@
 //! plan and check on random files, valid and damaged: the plan to the byte, a refusal with its
-//! number and its place.
+//! number and its place. Then plan on requests of a recorder's size.
 
 use crate::floe::{same, Floe, Tried};
 use crate::texts::{end_of_fault, is_text, part_before, parts};
 use outside::cases::{draw, Kind};
 use outside::example;
-use outside::expect::{search, text, BUDGET};
+use outside::expect::{plan_text, search, text, BUDGET};
+use outside::layers::first_of_the_least;
+use outside::random::Random;
+use outside::recorders::{self, Fitted, List, Round};
 use outside::request::read;
 use outside::runner::{run, Feed};
 
@@ -43,8 +46,8 @@ pub fn test(floe: &Floe) -> Tried {
             let printed = run(&mut floe.command(&words), &feed)?;
             let got = (printed.status, printed.output, printed.errors);
             same(got, (Some(0), plan.clone(), Vec::new()), || named("plan"))?;
-            same(floe.output(&["plan", "-"], file)?, plan, || {
-                named("plan with a rising budget")
+            same(floe.output(&["plan", "-"], file)?, uncounted(&plan), || {
+                named("plan without a budget")
             })?;
             same(floe.output(&["check", "-"], file)?, checked(file), || {
                 named("check")
@@ -65,9 +68,9 @@ pub fn test(floe: &Floe) -> Tried {
             })?;
             runs += 1;
         } else if case.kind != Kind::OverBudget {
-            // With a rising budget only 19 is left.
+            // Without a budget only 19 is left.
             same(floe.refused(&["plan", "-"], file)?.0, 19, || {
-                named("rising")
+                named("without a budget")
             })?;
             runs += 1;
         }
@@ -77,6 +80,58 @@ pub fn test(floe: &Floe) -> Tried {
     if !missed.is_empty() {
         return Err(format!("never met: {missed:?}"));
     }
+    Ok(runs)
+}
+
+/// The lines of a plan without the one of the vertices.
+fn uncounted(plan: &[u8]) -> Vec<u8> {
+    let lines = plan.split_inclusive(|&byte| byte == b'\n');
+    let others = lines.filter(|line| !line.starts_with(b"vertices "));
+    others.collect::<Vec<_>>().concat()
+}
+
+/// Lists and rounds that are beyond any listing and, all but a few, beyond the counted search too: held
+/// to the layers.
+pub fn recorders(floe: &Floe) -> Tried {
+    const REQUESTS: u64 = 30;
+    const MOST_CASES: usize = 300_000;
+    let mut runs = 0;
+    for number in 0..REQUESTS {
+        let mut random = Random::new(SEED, number);
+        let fitted = Fitted {
+            devices: random.within(2, 4),
+            transition: random.pick(&[3, 6]),
+        };
+        let tables = if number % 3 == 0 {
+            let round = Round {
+                period: random.u16(10, 40),
+                multiples: &[1, 2, 4],
+                load: random.within(30, 60),
+            };
+            recorders::round(&mut random, fitted, round)
+        } else {
+            let list = List {
+                horizon: random.u16(100, 1_000),
+                jobs: random.within(10, 16),
+                load: random.within(40, 70),
+                window: random.within(4, 10),
+            };
+            recorders::list(&mut random, fitted, list)
+        };
+        let file = tables.bytes();
+        let request = read(&file).map_err(|number| format!("refused {number}"))?;
+        let Ok(Some(best)) = first_of_the_least(&request, MOST_CASES) else {
+            continue;
+        };
+        let expected = plan_text(&request, &best, None).into_bytes();
+        for words in [&["plan", "-"][..], &["plan", "-", "--memory", "2"]] {
+            same(floe.output(words, &file)?, expected.clone(), || {
+                format!("recorder {number}")
+            })?;
+            runs += 1;
+        }
+    }
+    same(runs > REQUESTS, true, || format!("only {runs} runs"))?;
     Ok(runs)
 }
 

@@ -6,7 +6,8 @@ use std::fs::{File, OpenOptions};
 use std::io::{self, Read};
 use std::os::fd::AsRawFd;
 use std::os::unix::fs::OpenOptionsExt;
-use std::process::Command;
+use std::os::unix::process::ExitStatusExt;
+use std::process::{Command, Stdio};
 use std::thread;
 
 /// Linux's number: the terminal does not become that of the tests.
@@ -15,6 +16,7 @@ const O_NOCTTY: i32 = 0o400;
 extern "C" {
     fn unlockpt(terminal: c_int) -> c_int;
     fn ptsname_r(terminal: c_int, name: *mut c_char, room: usize) -> c_int;
+    fn kill(process: c_int, signal: c_int) -> c_int;
 }
 
 fn open(path: &str) -> io::Result<File> {
@@ -59,4 +61,30 @@ pub fn shown(mut command: Command) -> Result<(Printed, String), String> {
     let shown = reader.join().map_err(|_| "the reading thread failed")?;
     let shown = String::from_utf8_lossy(&shown).replace("\r\n", "\n");
     Ok((printed?, shown))
+}
+
+/// A run that is interrupted as soon as these words are shown: the signal that it has ended by, if any,
+/// and all that is shown.
+pub fn interrupted(mut command: Command, words: &str) -> Result<(Option<i32>, String), String> {
+    const SIGINT: c_int = 2;
+    let said = |fault: io::Error| format!("a terminal: {fault}");
+    let (mut ours, theirs) = terminal().map_err(said)?;
+    command.stdin(Stdio::null());
+    command.stdout(theirs.try_clone().map_err(said)?);
+    command.stderr(theirs);
+    let mut child = command.spawn().map_err(said)?;
+    drop(command);
+    let (mut shown, mut piece, mut is_sent) = (String::new(), [0; 256], false);
+    // Where nobody has the other side any more, reading fails: that is the end.
+    while let Ok(length @ 1..) = ours.read(&mut piece) {
+        shown += &String::from_utf8_lossy(&piece[..length]);
+        if !is_sent && shown.contains(words) {
+            // SAFETY: it takes numbers alone, and the child has not been waited for, so that its number
+            // is still its own.
+            unsafe { kill(child.id() as c_int, SIGINT) };
+            is_sent = true;
+        }
+    }
+    let status = child.wait().map_err(said)?;
+    Ok((status.signal(), shown.replace("\r\n", "\n")))
 }

@@ -14,13 +14,13 @@ const FIGURES: [(u8, &str, &str, &str); 5] = [
         9,
         "device 1 3 9 1 4 2\njob 2 7 2 0",
         "plan",
-        "energy 47\nvertices 5\njob 0 start 2 margin 3\ndevice 0 WWWWDDDSU\n",
+        "energy 47\njob 0 start 2 margin 3\ndevice 0 WWWWDDDSU\n",
     ),
     (
         5,
         "device 1 1 5 1 3 3\njob 0 5 2 0",
         "plan",
-        "energy 17\nvertices 5\njob 0 start 0 margin 3\ndevice 0 WWDSU\n",
+        "energy 17\njob 0 start 0 margin 3\ndevice 0 WWDSU\n",
     ),
 ];
 

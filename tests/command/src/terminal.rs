@@ -1,4 +1,5 @@
-//! How far the search has come, on a terminal and only there; and the script at the top.
+//! For how long a search has been at work, on a terminal and only there, and how it is ended; and the
+//! script at the top.
 
 use crate::floe::{same, Floe, Tried};
 use crate::pty;
@@ -6,8 +7,9 @@ use outside::runner::{run, Feed};
 use std::fs;
 use std::os::unix::fs::symlink;
 use std::path::Path;
+use std::process::Command;
 
-/// Ten loose jobs: 59,184,591 vertices.
+/// Ten loose jobs: 59,184,591 vertices. Without a memory that takes some seconds.
 fn loose() -> String {
     "horizon 14\ndevice 1 5 1 3\n".to_string() + &"job 0 14 1 0\n".repeat(10)
 }
@@ -27,11 +29,9 @@ fn in_folder(floe: &Floe, folder: &Path) -> Tried {
     // Without a terminal the plan alone.
     let plan = floe.output(&["plan", &request], b"")?;
     let plan = String::from_utf8_lossy(&plan);
-    same(
-        plan.starts_with("energy 58\nvertices 59184591\n"),
-        true,
-        || plan.to_string(),
-    )?;
+    same(plan.starts_with("energy 58\njob 0 start 0"), true, || {
+        plan.to_string()
+    })?;
     same(
         floe.refused(&["plan", &request, "--budget", "59184590"], b"")?
             .0,
@@ -39,17 +39,22 @@ fn in_folder(floe: &Floe, folder: &Path) -> Tried {
         || "a budget that is one too small".to_string(),
     )?;
     let enough = floe.output(&["plan", &request, "--budget", "59184591"], b"")?;
-    same(String::from_utf8_lossy(&enough), plan.clone(), || {
+    let counted = plan.replacen("\n", "\nvertices 59184591\n", 1);
+    same(String::from_utf8_lossy(&enough), counted.into(), || {
         "a budget that is just enough".to_string()
     })?;
-    let mut runs = 3;
+    let forgetful = || floe.command(&["plan", &request, "--memory", "0"]);
+    let unseen = run(&mut forgetful(), &Feed::whole(b""))?;
+    same(unseen.clean()?, plan.as_bytes().to_vec(), || {
+        "without a memory".to_string()
+    })?;
+    let mut runs = 4;
 
-    let (printed, said) = pty::shown(floe.command(&["plan", &request]))?;
-    let is_told = said.contains("\rfloe: 1000000 vertices searched")
-        && said.contains("on to 64000000")
+    let (printed, said) = pty::shown(forgetful())?;
+    let is_told = said.contains("\rfloe: at work for 1 s; Ctrl-C ends it")
         && said.ends_with(&format!("\r\x1b[K{plan}"));
     same((printed.status, is_told), (Some(0), true), || said.clone())?;
-    runs += 1;
+    runs += 1 + interrupted(forgetful())?;
 
     // The script finds its house from anywhere, through a link too.
     let script = Path::new(env!("CARGO_MANIFEST_DIR")).join("../../floe");
@@ -68,4 +73,15 @@ fn in_folder(floe: &Floe, folder: &Path) -> Tried {
         runs += 1;
     }
     Ok(runs)
+}
+
+/// Interrupted while it is at work: the line is wiped, a word is said, there is no plan, and the signal is
+/// what it has ended by.
+fn interrupted(forgetful: Command) -> Tried {
+    const SIGINT: i32 = 2;
+    let (signal, said) = pty::interrupted(forgetful, "at work for 1 s")?;
+    let is_told =
+        said.contains("\r\x1b[Kfloe: ended after ") && said.ends_with(" s, without a plan\n");
+    same((signal, is_told), (Some(SIGINT), true), || said.clone())?;
+    Ok(1)
 }

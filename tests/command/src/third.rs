@@ -23,13 +23,13 @@ const FIGURES: [(&str, &str, &str); 6] = [
     (
         "horizon 10\nSENSOR\nSENSOR\njob 0 10 2 0\njob 3 9 1 0,1",
         "plan",
-        "energy 86\nvertices 58\njob 0 start 8 margin 0\njob 1 start 7 margin 1\n\
+        "energy 86\njob 0 start 8 margin 0\njob 1 start 7 margin 1\n\
          device 0 DD222UUWWW\ndevice 1 DD222UUWDU\n",
     ),
     (
         "horizon 5\ndevice 1 5 3 1 1\njob 0 5 2 0",
         "plan",
-        "energy 17\nvertices 5\njob 0 start 0 margin 3\ndevice 0 WWD1U\n",
+        "energy 17\njob 0 start 0 margin 3\ndevice 0 WWD1U\n",
     ),
 ];
 
