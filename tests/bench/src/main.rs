@@ -4,10 +4,12 @@
 //! search for the cheapest; and of both by the number of jobs.
 //!
 //! `./bench` at the top builds the proved search and runs all; `./bench COMMIT` races that commit's
-//! proved search as well; `cargo run --release` here runs the plain searches alone.
+//! proved search as well; `./bench recorders` runs the least plans of recorders instead (`recorders`);
+//! `cargo run --release` here runs the plain searches alone.
 
 #[cfg(feature = "proved")]
 mod proved;
+mod recorders;
 mod requests;
 
 use outside::plain;
@@ -202,6 +204,13 @@ fn answers() {}
 fn answers_by_jobs() {}
 
 fn main() -> ExitCode {
+    if std::env::args()
+        .nth(1)
+        .is_some_and(|word| word == "recorders")
+    {
+        recorders::bench();
+        return ExitCode::SUCCESS;
+    }
     match bench() {
         Ok(()) => {
             answers();

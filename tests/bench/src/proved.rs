@@ -42,6 +42,18 @@ extern "C" {
         result_len: usize,
     ) -> u8;
 
+    fn floe_least(
+        file: *const u8,
+        file_len: usize,
+        budget: u32,
+        memory: *mut u64,
+        words: usize,
+        starts: *mut u8,
+        starts_len: usize,
+        result: *mut u8,
+        result_len: usize,
+    ) -> u8;
+
     fn floe_first(
         file: *const u8,
         file_len: usize,
@@ -83,10 +95,30 @@ pub fn first(file: &[u8], budget: u32) -> Outcome {
     called(first_call, file, budget)
 }
 
+// SAFETY, of both calls below: each pointer comes from a live buffer and goes with its own length; no
+// two of them overlap, and the library keeps none.
+
+/// With a memory that is lent.
+pub fn least(file: &[u8], budget: u32, memory: &mut [u64]) -> Outcome {
+    let (mut starts, mut result) = ([0u8; STARTS], [0u8; RESULT]);
+    let number = unsafe {
+        floe_least(
+            file.as_ptr(),
+            file.len(),
+            budget,
+            memory.as_mut_ptr(),
+            memory.len(),
+            starts.as_mut_ptr(),
+            starts.len(),
+            result.as_mut_ptr(),
+            result.len(),
+        )
+    };
+    outcome(number, result)
+}
+
 fn called(call: Call, file: &[u8], budget: u32) -> Outcome {
     let (mut starts, mut result) = ([0u8; STARTS], [0u8; RESULT]);
-    // SAFETY: each pointer comes from a live buffer and goes with its own length; no two of them
-    // overlap, and the library keeps none.
     let number = unsafe {
         call(
             file.as_ptr(),
@@ -98,6 +130,10 @@ fn called(call: Call, file: &[u8], budget: u32) -> Outcome {
             result.len(),
         )
     };
+    outcome(number, result)
+}
+
+fn outcome(number: u8, result: [u8; RESULT]) -> Outcome {
     let [_, _, _, a, b, c, d, e, f, g, h] = result;
     Outcome {
         number,
