@@ -5,10 +5,10 @@
  *
  *     byte 0        job        of 16, 17 and 18: the job at fault
  *     bytes 1, 2    horizon    on success
- *     bytes 3 - 6   energy     on success of the search and of the rows
- *     bytes 7 - 10  count      of the search: its vertices; of 20: the budget
+ *     bytes 3 - 6   energy     on success of both searches and of the rows
+ *     bytes 7 - 10  count      of floe_search: its vertices; of 20: the budget
  *
- * What does not apply is 0. The result buffer is the one place that a refusal writes to, and bytes after the eleventh stay as they were. A shorter one is a
+ * What does not apply is 0. The result buffer is the one place that a refusal writes to, besides the memory lent to floe_least, and bytes after the eleventh stay as they were. A shorter one is a
  * refusal 15, after the file's own refusals and after 14, and then nothing at all is written.
  *
  * Stack that a call needs in all, measured as the least with which a thread that makes it still ends (x86-64; it changes a little with the request): floe_search
@@ -33,6 +33,13 @@ uint8_t floe_check(const uint8_t *file, size_t file_len, uint8_t *result, size_t
 /* The plan of least energy: its start times by job number, two bytes each, if the budget covers the vertices of the search. `starts` has at least two bytes
  * for each job; what follows the last job's stays as it was. */
 uint8_t floe_search(const uint8_t *file, size_t file_len, uint32_t budget, uint8_t *starts, size_t starts_len, uint8_t *result, size_t result_len);
+
+/* The same plan, for requests of any size, with a memory of so many words that may be of any length, 0 too, and may hold anything: what it holds afterwards means
+ * nothing. More memory is faster and gives no other plan; 8,388,608 words (64 MiB) are enough for most requests of 1,000 ticks to take under a second. Nothing is
+ * counted, so that the count is 0. It may be given up, 20, after entering as many vertices as the budget has: UINT32_MAX of them take hours. Then there is a plan,
+ * and `starts` is as it was. `starts` as above. */
+uint8_t floe_least(const uint8_t *file, size_t file_len, uint32_t budget, uint64_t *memory, size_t words, uint8_t *starts, size_t starts_len, uint8_t *result,
+                   size_t result_len);
 
 /* Whether there is any plan: the start times of the first of all, whatever it costs, or 19 if there is none. No request takes longer than some milliseconds, so
  * that there is no budget, and count and energy are 0. `starts` as above. */

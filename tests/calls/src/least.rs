@@ -4,7 +4,7 @@
 
 use crate::expected::RESULT;
 use crate::library;
-use crate::tails::{hand_back, longer, only_these, BLANK};
+use crate::tails::{hand_back, longer, met, BLANK};
 use outside::least::{by_bytes, run, run_large};
 use outside::looser::{self, Found};
 use outside::random::Random;
@@ -23,18 +23,15 @@ const LOOSER: u64 = 120;
 /// One mebibyte.
 const WORDS: usize = 1 << 17;
 
-/// Those of a file, of the lent list, no plan, and given up.
-const NUMBERS: [u8; 18] = [0, 1, 2, 3, 4, 5, 6, 7, 8, 9, 10, 11, 12, 13, 15, 19, 20, 26];
-
 /// The numbers met and how often; or the first call that is not as it must be.
 pub fn test() -> Result<BTreeMap<u8, u64>, String> {
     let mut came = run(SEED, REQUESTS, by_bytes(with_tails))?.numbers;
     let large = run_large(SEED, LARGE, by_bytes(with_tails))?;
     println!(
-        "large requests by layers: {} with a plan, {} of them rounds; {} beyond the layers",
+        "large requests by layers: {} plans, {} requests of them rounds; {} beyond the layers",
         large.numbers[0], large.rounds, large.beyond
     );
-    if large.numbers[0] < LARGE / 2 || large.rounds < LARGE / 10 {
+    if large.numbers[0] < LARGE || large.rounds < LARGE / 10 {
         return Err("large requests that tell too little".to_string());
     }
     for (came, more) in came.iter_mut().zip(large.numbers) {
@@ -48,7 +45,7 @@ pub fn test() -> Result<BTreeMap<u8, u64>, String> {
         }
     }
     on_a_small_stack()?;
-    only_these("floe_least", came, &NUMBERS)
+    Ok(met(came, 0))
 }
 
 /// The call on buffers that are longer by some bytes, which stay, and on a result buffer that is full
