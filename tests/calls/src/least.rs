@@ -198,7 +198,7 @@ fn looser_windows() -> Result<(), String> {
 /// What include/floebucket.h says of the stack, with room for what a thread of this program needs
 /// itself: a call that needs more ends the program.
 fn on_a_small_stack() -> Result<(), String> {
-    const STACK: usize = 4 << 20;
+    const STACK: usize = 440 * 1024;
     // Sixteen jobs at the end of the longest round, so that each waits for long.
     let mut file = vec![16, 0, 1, 20, 0, 9, 0, 1, 0, 4, 0, 16];
     for job in 0u16..16 {
