@@ -14,7 +14,7 @@ use std::time::Duration;
 const SEED: u64 = 33;
 
 /// Of each kind.
-const REQUESTS: u64 = 4;
+const REQUESTS: u64 = 8;
 
 /// 64 MiB.
 const WORDS: usize = 64 << 17;
@@ -22,7 +22,7 @@ const WORDS: usize = 64 << 17;
 /// Where a request takes more vertices than this, it is said and left.
 const BUDGET: u32 = 20_000_000;
 #[cfg(feature = "proved")]
-const COUNTED: u32 = 100_000_000;
+const COUNTED: u32 = 20_000_000;
 
 /// What answers in less than this is asked again, and its best time taken.
 const QUICK: Duration = Duration::from_millis(500);

@@ -2,6 +2,7 @@
 //! its reason, and nothing that was read in part is taken for the whole.
 
 use crate::floe::{same, Floe, Tried};
+use outside::expect::BUDGET;
 use outside::pipes;
 use outside::runner::{run, Feed};
 use outside::slow;
@@ -148,8 +149,10 @@ fn unreadable(floe: &Floe) -> Tried {
 pub fn slow(floe: &Floe) -> Tried {
     let mut runs = 0;
     for slow in slow::all() {
+        // As the printing program prints it, vertices and all.
         let expected = slow.expected();
-        let printed = run(&mut floe.command(&["plan", "-"]), &slow.feed())?;
+        let budget = format!("--budget={BUDGET}");
+        let printed = run(&mut floe.command(&["plan", "-", &budget]), &slow.feed())?;
         let got = match printed.status {
             Some(0) => String::from_utf8_lossy(&printed.output).into_owned(),
             _ => {
