@@ -249,3 +249,22 @@ pub fn given_up(refused: Refused) -> Failure {
     );
     failure(number, None, words)
 }
+
+#[cfg(test)]
+mod tests {
+    use super::*;
+
+    /// No request that a test can wait for comes to this.
+    #[test]
+    fn a_search_that_is_given_up_says_what_helps() {
+        let refused = Refused {
+            number: 20,
+            job: 0,
+            count: u32::MAX,
+        };
+        assert_eq!(
+            given_up(refused).message(),
+            "refused 20: given up after entering 4294967295 vertices; with more memory (--memory) there are fewer"
+        );
+    }
+}
