@@ -3,10 +3,11 @@
 //! with the oracle; then on streams that fail.
 
 use outside::cases::draw;
-use outside::expect::{search, text, BUDGET};
-use outside::runner::{piped, run, Feed, Printed};
-use outside::tally::{Mismatch, Tally};
-use outside::{example, fixed, slow, streams};
+use outside::cases::{example, fixed, slow};
+use outside::oracle::expect::{search, text, BUDGET};
+use outside::running::runner::{piped, run, Feed, Printed};
+use outside::running::streams;
+use outside::running::tally::{Mismatch, Tally};
 use std::path::{Path, PathBuf};
 use std::process::{Command, ExitCode};
 use std::sync::atomic::{AtomicU64, Ordering};

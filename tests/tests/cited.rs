@@ -8,7 +8,12 @@ use std::collections::BTreeSet;
 use std::fs;
 use std::path::{Path, PathBuf};
 
-const PAPERS: [&str; 4] = ["docs/RULES.md", "docs/PROMISES.md", "docs/DECISIONS.md", "docs/PROVING.md"];
+const PAPERS: [&str; 4] = [
+    "docs/RULES.md",
+    "docs/PROMISES.md",
+    "docs/DECISIONS.md",
+    "docs/PROVING.md",
+];
 
 fn root() -> PathBuf {
     Path::new(env!("CARGO_MANIFEST_DIR")).join("..")
@@ -26,7 +31,9 @@ fn text_below(path: &Path) -> String {
     let mut all = String::new();
     for entry in fs::read_dir(path).unwrap() {
         let inner = entry.unwrap().path();
-        let code = inner.extension().is_some_and(|e| e == "antt" || e == "rt" || e == "rs");
+        let code = inner
+            .extension()
+            .is_some_and(|e| e == "antt" || e == "rt" || e == "rs");
         if inner.is_dir() || code {
             all += &text_below(&inner);
             all.push('\n');
@@ -61,9 +68,15 @@ enum Piece {
 
 /// The end of a place that begins at the front of a text, such as `crate/specs/File` or `crate/proofs/{A, B}`; 0 if there is none.
 fn place_end(text: &str) -> usize {
-    let crate_end = text.find(|c: char| !(c.is_ascii_lowercase() || c == '_')).unwrap_or(text.len());
+    let crate_end = text
+        .find(|c: char| !(c.is_ascii_lowercase() || c == '_'))
+        .unwrap_or(text.len());
     let rest = &text[crate_end..];
-    if crate_end == 0 || !["/specs", "/proofs", "/src"].iter().any(|p| rest.starts_with(p)) {
+    if crate_end == 0
+        || !["/specs", "/proofs", "/src"]
+            .iter()
+            .any(|p| rest.starts_with(p))
+    {
         return 0;
     }
     let mut end = crate_end;
@@ -97,7 +110,11 @@ fn pieces(text: &str) -> Vec<Piece> {
             rest = inner;
             continue;
         }
-        let end = if in_a_word || other.ends_with('/') { 0 } else { place_end(rest) };
+        let end = if in_a_word || other.ends_with('/') {
+            0
+        } else {
+            place_end(rest)
+        };
         if end > 0 {
             all.push(Piece::Other(std::mem::take(&mut other)));
             all.push(Piece::Place(rest[..end].to_string()));
@@ -114,7 +131,11 @@ fn pieces(text: &str) -> Vec<Piece> {
 /// The files that a place names: one, or those in its braces.
 fn files_of(place: &str) -> Vec<PathBuf> {
     let names: Vec<String> = match place.split_once('{') {
-        Some((front, list)) => list.trim_end_matches('}').split(',').map(|n| format!("{front}{}", n.trim())).collect(),
+        Some((front, list)) => list
+            .trim_end_matches('}')
+            .split(',')
+            .map(|n| format!("{front}{}", n.trim()))
+            .collect(),
         None => vec![place.to_string()],
     };
     // Of the crates, or of the tests and the command line, which are Rust.
@@ -124,7 +145,10 @@ fn files_of(place: &str) -> Vec<PathBuf> {
         let of_top = ["", ".rs"].map(|e| top.join(format!("{n}{e}")));
         of_house.into_iter().chain(of_top).find(|p| p.exists())
     };
-    names.iter().map(|n| places(n).unwrap_or_else(|| house.join(n))).collect()
+    names
+        .iter()
+        .map(|n| places(n).unwrap_or_else(|| house.join(n)))
+        .collect()
 }
 
 /// Whether a text between two pieces only joins names into a list.
@@ -154,7 +178,9 @@ fn cited(paper: &str) -> Vec<(String, Option<String>)> {
         // Backwards: the list so far, then a place and a colon.
         let mut k = i;
         while place.is_none() && k >= 2 {
-            let (Piece::Other(gap), before) = (&all[k - 1], &all[k - 2]) else { break };
+            let (Piece::Other(gap), before) = (&all[k - 1], &all[k - 2]) else {
+                break;
+            };
             match before {
                 Piece::Name(_) if joins(gap) => k -= 2,
                 Piece::Place(p) if gap.trim() == ":" => place = Some(p.clone()),
@@ -168,8 +194,13 @@ fn cited(paper: &str) -> Vec<(String, Option<String>)> {
 
 /// A law or a type, by the form of its name: words joined by hyphens, or capitals and small letters.
 fn is_telling(name: &str) -> bool {
-    let law = name.contains('-') && !name.starts_with('-') && name.chars().all(|c| c.is_ascii_lowercase() || c.is_ascii_digit() || c == '-');
-    let kind = name.starts_with(|c: char| c.is_ascii_uppercase()) && name.contains(|c: char| c.is_ascii_lowercase());
+    let law = name.contains('-')
+        && !name.starts_with('-')
+        && name
+            .chars()
+            .all(|c| c.is_ascii_lowercase() || c.is_ascii_digit() || c == '-');
+    let kind = name.starts_with(|c: char| c.is_ascii_uppercase())
+        && name.contains(|c: char| c.is_ascii_lowercase());
     law || kind
 }
 
@@ -189,11 +220,17 @@ fn cited_names_and_files_exist() {
         }
         for (name, place) in cited(&text) {
             let there = match &place {
-                Some(place) => files_of(place).iter().filter(|f| f.exists()).any(|f| has_word(&text_below(f), &name)),
+                Some(place) => files_of(place)
+                    .iter()
+                    .filter(|f| f.exists())
+                    .any(|f| has_word(&text_below(f), &name)),
                 None => !is_telling(&name) || has_word(&house, &name),
             };
             if !there {
-                wrong.push(format!("{paper}: `{name}` is not in {}", place.as_deref().unwrap_or("any crate")));
+                wrong.push(format!(
+                    "{paper}: `{name}` is not in {}",
+                    place.as_deref().unwrap_or("any crate")
+                ));
             }
         }
     }
@@ -205,12 +242,21 @@ fn wrong_programs() -> BTreeSet<String> {
     let mut all = BTreeSet::new();
     for entry in fs::read_dir(root().join("crates")).unwrap() {
         let folder = entry.unwrap().path();
-        let Ok(edits) = fs::read_dir(folder.join("must-fail")) else { continue };
+        let Ok(edits) = fs::read_dir(folder.join("must-fail")) else {
+            continue;
+        };
         for edit in edits {
             let path = edit.unwrap().path();
-            assert!(path.extension().is_some_and(|e| e == "wrong"), "{} is tried by nobody", path.display());
+            assert!(
+                path.extension().is_some_and(|e| e == "wrong"),
+                "{} is tried by nobody",
+                path.display()
+            );
             let label = path.file_stem().unwrap().to_str().unwrap().to_string();
-            all.insert(format!("{}/{label}", folder.file_name().unwrap().to_str().unwrap()));
+            all.insert(format!(
+                "{}/{label}",
+                folder.file_name().unwrap().to_str().unwrap()
+            ));
         }
     }
     all
@@ -219,12 +265,21 @@ fn wrong_programs() -> BTreeSet<String> {
 /// The wrong programs that the table of promises lists: `crate/label, label; crate/label` in its third column.
 fn listed_programs() -> BTreeSet<String> {
     let text = read(&root().join("docs/PROMISES.md"));
-    let (_, table) = text.split_once("\n## Wrong programs").expect("PROMISES has a section on wrong programs");
+    let (_, table) = text
+        .split_once("\n## Wrong programs")
+        .expect("PROMISES has a section on wrong programs");
     let mut all = BTreeSet::new();
-    for line in table.lines().filter(|l| l.starts_with('|') && l.contains('/')) {
+    for line in table
+        .lines()
+        .filter(|l| l.starts_with('|') && l.contains('/'))
+    {
         let column = line.split('|').nth(3).unwrap();
         let mut folder = "";
-        for word in column.split([',', ';']).map(str::trim).filter(|w| !w.is_empty()) {
+        for word in column
+            .split([',', ';'])
+            .map(str::trim)
+            .filter(|w| !w.is_empty())
+        {
             let label = match word.split_once('/') {
                 Some((front, label)) => {
                     folder = front;
@@ -243,7 +298,10 @@ fn wrong_programs_are_listed() {
     let (there, listed) = (wrong_programs(), listed_programs());
     let missing: Vec<_> = there.difference(&listed).collect();
     let gone: Vec<_> = listed.difference(&there).collect();
-    assert!(missing.is_empty() && gone.is_empty(), "not in the table: {missing:?}; only in the table: {gone:?}");
+    assert!(
+        missing.is_empty() && gone.is_empty(),
+        "not in the table: {missing:?}; only in the table: {gone:?}"
+    );
 }
 
 #[test]

@@ -1,148 +1,9 @@
-//! The operations of the proved library, with Rust's types: include/floebucket.h and include/doors.h
-//! declare them.
+//! The operations of the proved library, with Rust's types.
 //!
 //! Every buffer that is lent here has room for the largest answer, so that 15 does not occur.
 
 use crate::tables::Tables;
-
-mod c {
-    extern "C" {
-        pub fn floe_check(f: *const u8, f_len: usize, r: *mut u8, r_len: usize) -> u8;
-        pub fn floe_search(
-            f: *const u8,
-            f_len: usize,
-            budget: u32,
-            s: *mut u8,
-            s_len: usize,
-            r: *mut u8,
-            r_len: usize,
-        ) -> u8;
-        pub fn floe_first(
-            f: *const u8,
-            f_len: usize,
-            s: *mut u8,
-            s_len: usize,
-            r: *mut u8,
-            r_len: usize,
-        ) -> u8;
-        pub fn floe_least(
-            f: *const u8,
-            f_len: usize,
-            budget: u32,
-            m: *mut u64,
-            m_len: usize,
-            s: *mut u8,
-            s_len: usize,
-            r: *mut u8,
-            r_len: usize,
-        ) -> u8;
-        pub fn floe_rows(
-            f: *const u8,
-            f_len: usize,
-            s: *const u8,
-            s_len: usize,
-            o: *mut u8,
-            o_len: usize,
-            r: *mut u8,
-            r_len: usize,
-        ) -> u8;
-        pub fn door_verdict(
-            f: *const u8,
-            f_len: usize,
-            s: *const u8,
-            s_len: usize,
-            r: *mut u8,
-            r_len: usize,
-        ) -> u8;
-        pub fn door_margins(
-            f: *const u8,
-            f_len: usize,
-            s: *const u8,
-            s_len: usize,
-            o: *mut u8,
-            o_len: usize,
-            r: *mut u8,
-            r_len: usize,
-        ) -> u8;
-        pub fn door_write(
-            t: *const u8,
-            t_len: usize,
-            o: *mut u8,
-            o_len: usize,
-            r: *mut u8,
-            r_len: usize,
-        ) -> u8;
-        pub fn door_tables(
-            f: *const u8,
-            f_len: usize,
-            o: *mut u8,
-            o_len: usize,
-            r: *mut u8,
-            r_len: usize,
-        ) -> u8;
-        pub fn door_build(
-            c: *const u8,
-            c_len: usize,
-            w: *const u8,
-            w_len: usize,
-            t: *const u8,
-            t_len: usize,
-            o: *mut u8,
-            o_len: usize,
-            r: *mut u8,
-            r_len: usize,
-        ) -> u8;
-        pub fn door_possible(
-            f: *const u8,
-            f_len: usize,
-            budget: u32,
-            s: *mut u8,
-            s_len: usize,
-            r: *mut u8,
-            r_len: usize,
-        ) -> u8;
-        pub fn door_mend(
-            f: *const u8,
-            f_len: usize,
-            s: *const u8,
-            s_len: usize,
-            o: *mut u8,
-            o_len: usize,
-            m: *mut u8,
-            m_len: usize,
-            r: *mut u8,
-            r_len: usize,
-        ) -> u8;
-        pub fn door_import_devices(
-            t: *const u8,
-            t_len: usize,
-            o: *mut u8,
-            o_len: usize,
-            r: *mut u8,
-            r_len: usize,
-        ) -> u8;
-        pub fn door_import_jobs(
-            t: *const u8,
-            t_len: usize,
-            o: *mut u8,
-            o_len: usize,
-            r: *mut u8,
-            r_len: usize,
-        ) -> u8;
-        pub fn door_export_plan(
-            f: *const u8,
-            f_len: usize,
-            s: *const u8,
-            s_len: usize,
-            o: *mut u8,
-            o_len: usize,
-            r: *mut u8,
-            r_len: usize,
-        ) -> u8;
-    }
-}
-
-const RESULT: usize = 11;
+use linked::RESULT;
 
 /// The most jobs, devices and ticks that a request has, and more bytes than any file or table.
 const JOBS: usize = 16;
@@ -197,14 +58,10 @@ fn numbers(bytes: &[u8]) -> impl Iterator<Item = u16> + '_ {
         .map(|pair| u16::from_be_bytes([pair[0], pair[1]]))
 }
 
-// SAFETY, of every call below: each pointer comes from a live slice and goes with that slice's own
-// length, no two of a call overlap, and the library keeps none of them.
-
 /// The horizon of a request that is accepted.
 pub fn check(file: &[u8]) -> Answered<usize> {
     let mut result = [0; RESULT];
-    let number =
-        unsafe { c::floe_check(file.as_ptr(), file.len(), result.as_mut_ptr(), result.len()) };
+    let number = linked::check(file, &mut result);
     Ok(answer(number, &result)?.horizon)
 }
 
@@ -217,65 +74,30 @@ pub struct Found {
 
 /// The plan of least energy.
 pub fn search(file: &[u8], budget: u32) -> Answered<Found> {
-    found(file, |starts, result| unsafe {
-        c::floe_search(
-            file.as_ptr(),
-            file.len(),
-            budget,
-            starts.as_mut_ptr(),
-            starts.len(),
-            result.as_mut_ptr(),
-            result.len(),
-        )
+    found(file, |starts, result| {
+        linked::search(file, budget, starts, result)
     })
 }
 
 /// The plan of least energy, with a memory that is lent and a budget of vertices entered: its start
 /// times. Nothing is counted.
 pub fn least_plan(file: &[u8], budget: u32, memory: &mut [u64]) -> Answered<Vec<u16>> {
-    let found = found(file, |starts, result| unsafe {
-        c::floe_least(
-            file.as_ptr(),
-            file.len(),
-            budget,
-            memory.as_mut_ptr(),
-            memory.len(),
-            starts.as_mut_ptr(),
-            starts.len(),
-            result.as_mut_ptr(),
-            result.len(),
-        )
+    let found = found(file, |starts, result| {
+        linked::least(file, budget, memory, starts, result)
     });
     found.map(|found| found.starts)
 }
 
 /// The first of all plans, whatever it costs, in some milliseconds: its start times.
 pub fn first_plan(file: &[u8]) -> Answered<Vec<u16>> {
-    let found = found(file, |starts, result| unsafe {
-        c::floe_first(
-            file.as_ptr(),
-            file.len(),
-            starts.as_mut_ptr(),
-            starts.len(),
-            result.as_mut_ptr(),
-            result.len(),
-        )
-    });
+    let found = found(file, |starts, result| linked::first(file, starts, result));
     found.map(|found| found.starts)
 }
 
 /// The same by a visit that counts, if the budget covers its vertices.
 pub fn any_plan(file: &[u8], budget: u32) -> Answered<Found> {
-    found(file, |starts, result| unsafe {
-        c::door_possible(
-            file.as_ptr(),
-            file.len(),
-            budget,
-            starts.as_mut_ptr(),
-            starts.len(),
-            result.as_mut_ptr(),
-            result.len(),
-        )
+    found(file, |starts, result| {
+        linked::possible(file, budget, starts, result)
     })
 }
 
@@ -306,16 +128,7 @@ pub fn job_count(file: &[u8]) -> Answered<usize> {
 pub fn verdict(file: &[u8], starts: &[u16]) -> Answered<u32> {
     let starts = pairs(starts);
     let mut result = [0; RESULT];
-    let number = unsafe {
-        c::door_verdict(
-            file.as_ptr(),
-            file.len(),
-            starts.as_ptr(),
-            starts.len(),
-            result.as_mut_ptr(),
-            result.len(),
-        )
-    };
+    let number = linked::verdict(file, &starts, &mut result);
     Ok(answer(number, &result)?.energy)
 }
 
@@ -324,18 +137,7 @@ pub fn margins(file: &[u8], starts: &[u16]) -> Answered<Vec<i32>> {
     let bytes = pairs(starts);
     let mut out = [0; 4 * JOBS];
     let mut result = [0; RESULT];
-    let number = unsafe {
-        c::door_margins(
-            file.as_ptr(),
-            file.len(),
-            bytes.as_ptr(),
-            bytes.len(),
-            out.as_mut_ptr(),
-            out.len(),
-            result.as_mut_ptr(),
-            result.len(),
-        )
-    };
+    let number = linked::margins(file, &bytes, &mut out, &mut result);
     answer(number, &result)?;
     let margin = |four: &[u8]| i32::from_be_bytes([four[0], four[1], four[2], four[3]]);
     Ok(out.chunks_exact(4).map(margin).take(starts.len()).collect())
@@ -352,18 +154,7 @@ pub fn rows(file: &[u8], starts: &[u16]) -> Answered<Rows> {
     let starts = pairs(starts);
     let mut out = vec![0; DEVICES * TICKS];
     let mut result = [0; RESULT];
-    let number = unsafe {
-        c::floe_rows(
-            file.as_ptr(),
-            file.len(),
-            starts.as_ptr(),
-            starts.len(),
-            out.as_mut_ptr(),
-            out.len(),
-            result.as_mut_ptr(),
-            result.len(),
-        )
-    };
+    let number = linked::rows(file, &starts, &mut out, &mut result);
     let success = answer(number, &result)?;
     let devices = tables(file)?.devices.count;
     // An accepted request has a horizon of at least 1.
@@ -388,20 +179,7 @@ pub fn mend(file: &[u8], starts: &[u16]) -> Answered<(Vec<u16>, Vec<Move>)> {
     let mut out = [0; 2 * JOBS];
     let mut moved = [0; 6 * JOBS];
     let mut result = [0; RESULT];
-    let number = unsafe {
-        c::door_mend(
-            file.as_ptr(),
-            file.len(),
-            given.as_ptr(),
-            given.len(),
-            out.as_mut_ptr(),
-            out.len(),
-            moved.as_mut_ptr(),
-            moved.len(),
-            result.as_mut_ptr(),
-            result.len(),
-        )
-    };
+    let number = linked::mend(file, &given, &mut out, &mut moved, &mut result);
     let success = answer(number, &result)?;
     let listed: Vec<u16> = numbers(&moved).collect();
     let moves = listed.chunks_exact(3).map(|three| Move {
@@ -420,16 +198,7 @@ pub fn write(tables: &Tables) -> Answered<Vec<u8>> {
     let tables = tables.bytes();
     let mut out = [0; BYTES];
     let mut result = [0; RESULT];
-    let number = unsafe {
-        c::door_write(
-            tables.as_ptr(),
-            tables.len(),
-            out.as_mut_ptr(),
-            out.len(),
-            result.as_mut_ptr(),
-            result.len(),
-        )
-    };
+    let number = linked::write(&tables, &mut out, &mut result);
     let written = answer(number, &result)?.count as usize;
     Ok(out.iter().copied().take(written).collect())
 }
@@ -438,16 +207,7 @@ pub fn write(tables: &Tables) -> Answered<Vec<u8>> {
 pub fn tables(file: &[u8]) -> Answered<Tables> {
     let mut out = [0; BYTES];
     let mut result = [0; RESULT];
-    let number = unsafe {
-        c::door_tables(
-            file.as_ptr(),
-            file.len(),
-            out.as_mut_ptr(),
-            out.len(),
-            result.as_mut_ptr(),
-            result.len(),
-        )
-    };
+    let number = linked::tables(file, &mut out, &mut result);
     let length = answer(number, &result)?.count as usize;
     Ok(Tables::of_bytes(out.get(..length).unwrap_or(&out)))
 }
@@ -457,40 +217,19 @@ pub fn build(catalogue: &[u8], wanted: &[u8], tables: &Tables) -> Answered<Vec<u
     let tables = tables.bytes();
     let mut out = [0; BYTES];
     let mut result = [0; RESULT];
-    let number = unsafe {
-        c::door_build(
-            catalogue.as_ptr(),
-            catalogue.len(),
-            wanted.as_ptr(),
-            wanted.len(),
-            tables.as_ptr(),
-            tables.len(),
-            out.as_mut_ptr(),
-            out.len(),
-            result.as_mut_ptr(),
-            result.len(),
-        )
-    };
+    let number = linked::build(catalogue, wanted, &tables, &mut out, &mut result);
     let written = answer(number, &result)?.count as usize;
     Ok(out.iter().copied().take(written).collect())
 }
 
-/// The records of a sheet, a line each.
-type Import = unsafe extern "C" fn(*const u8, usize, *mut u8, usize, *mut u8, usize) -> u8;
+/// Takes a sheet, an output and a result buffer.
+type Import = fn(&[u8], &mut [u8], &mut [u8]) -> u8;
 
+/// The records of a sheet, a line each.
 fn imported(import: Import, sheet: &[u8], size: usize) -> Answered<Vec<Vec<u8>>> {
     let mut out = [0; BYTES];
     let mut result = [0; RESULT];
-    let number = unsafe {
-        import(
-            sheet.as_ptr(),
-            sheet.len(),
-            out.as_mut_ptr(),
-            out.len(),
-            result.as_mut_ptr(),
-            result.len(),
-        )
-    };
+    let number = import(sheet, &mut out, &mut result);
     let lines = answer(number, &result)?.count as usize;
     let records = out.chunks_exact(size).take(lines);
     Ok(records.map(<[u8]>::to_vec).collect())
@@ -498,12 +237,12 @@ fn imported(import: Import, sheet: &[u8], size: usize) -> Answered<Vec<Vec<u8>>>
 
 /// The parts of a sheet of devices, as a catalogue has them.
 pub fn import_devices(sheet: &[u8]) -> Answered<Vec<Vec<u8>>> {
-    imported(c::door_import_devices, sheet, 15)
+    imported(linked::import_devices, sheet, 15)
 }
 
 /// The job records of a sheet of jobs.
 pub fn import_jobs(sheet: &[u8]) -> Answered<Vec<Vec<u8>>> {
-    imported(c::door_import_jobs, sheet, 7)
+    imported(linked::import_jobs, sheet, 7)
 }
 
 /// The sheet of a plan.
@@ -511,18 +250,7 @@ pub fn export_plan(file: &[u8], starts: &[u16]) -> Answered<Vec<u8>> {
     let starts = pairs(starts);
     let mut out = [0; BYTES];
     let mut result = [0; RESULT];
-    let number = unsafe {
-        c::door_export_plan(
-            file.as_ptr(),
-            file.len(),
-            starts.as_ptr(),
-            starts.len(),
-            out.as_mut_ptr(),
-            out.len(),
-            result.as_mut_ptr(),
-            result.len(),
-        )
-    };
+    let number = linked::export_plan(file, &starts, &mut out, &mut result);
     let written = answer(number, &result)?.count as usize;
     Ok(out.iter().copied().take(written).collect())
 }

@@ -1,18 +1,16 @@
-//! Plans requests of some million vertices with three plain searches in Rust and, if it is linked, with
-//! the proved search, and prints vertices per second of each and the proved one's ratio to each plain one.
-//! Then how long it takes to say whether there is any plan, by a visit and by sets of jobs, beside the
-//! search for the cheapest; and of both by the number of jobs.
+//! Plans requests of some million vertices with three plain searches in Rust and with the proved search,
+//! and prints vertices per second of each and the proved one's ratio to each plain one. Then how long it
+//! takes to say whether there is any plan, by a visit and by sets of jobs, beside the search for the
+//! cheapest; and of both by the number of jobs.
 //!
-//! `./bench` at the top builds the proved search and runs all; `./bench COMMIT` races that commit's
-//! proved search as well; `./bench recorders` runs the least plans of recorders instead (`recorders`);
-//! `cargo run --release` here runs the plain searches alone.
+//! `./bench` at the top builds the proved library and runs all; `./bench COMMIT` races that commit's
+//! proved search as well; `./bench recorders` runs the least plans of recorders instead (`recorders`).
 
-#[cfg(feature = "proved")]
 mod proved;
 mod recorders;
 mod requests;
 
-use outside::plain;
+use outside::rivals;
 use std::process::ExitCode;
 use std::time::{Duration, Instant};
 
@@ -20,7 +18,6 @@ use std::time::{Duration, Instant};
 const ROUNDS: usize = 3;
 
 /// What takes a few milliseconds may be held up in each of three rounds.
-#[cfg(feature = "proved")]
 const QUICK_ROUNDS: usize = 20;
 
 /// Every request is planned to its end.
@@ -33,8 +30,8 @@ pub struct Outcome {
     count: u32,
 }
 
-impl From<plain::Found> for Outcome {
-    fn from(found: plain::Found) -> Outcome {
+impl From<rivals::Found> for Outcome {
+    fn from(found: rivals::Found) -> Outcome {
         Outcome {
             number: found.number,
             energy: found.energy,
@@ -72,17 +69,16 @@ fn racers() -> Vec<Racer> {
     };
     vec![
         racer("anew", |file, budget| {
-            plain::anew::search(file, budget).into()
+            rivals::anew::search(file, budget).into()
         }),
         racer("carried", |file, budget| {
-            plain::carried::search(file, budget).into()
+            rivals::carried::search(file, budget).into()
         }),
         racer("shaped", |file, budget| {
-            plain::shaped::search(file, budget).into()
+            rivals::shaped::search(file, budget).into()
         }),
         #[cfg(feature = "before")]
         racer("before", proved::before),
-        #[cfg(feature = "proved")]
         racer("proved", proved::search),
     ]
 }
@@ -146,7 +142,6 @@ fn bench() -> Result<(), String> {
 }
 
 /// The best time of some rounds, and what came out.
-#[cfg(feature = "proved")]
 fn timed(answer: fn(&[u8], u32) -> Outcome, file: &[u8], rounds: usize) -> (Outcome, Duration) {
     let round = |_| {
         let begin = Instant::now();
@@ -159,7 +154,6 @@ fn timed(answer: fn(&[u8], u32) -> Outcome, file: &[u8], rounds: usize) -> (Outc
 }
 
 /// Whether there is any plan: vertices and time to the answer, beside the proved search's.
-#[cfg(feature = "proved")]
 fn answers() {
     let others = [requests::long(), requests::none()];
     for request in requests::all().into_iter().chain(others) {
@@ -181,7 +175,6 @@ fn answers() {
 }
 
 /// The same by the number of jobs, with a plan and without.
-#[cfg(feature = "proved")]
 fn answers_by_jobs() {
     for count in [4, 8, 10, 12, 14, 15, 16] {
         for has_plan in [true, false] {
@@ -196,12 +189,6 @@ fn answers_by_jobs() {
         }
     }
 }
-
-#[cfg(not(feature = "proved"))]
-fn answers() {}
-
-#[cfg(not(feature = "proved"))]
-fn answers_by_jobs() {}
 
 fn main() -> ExitCode {
     if std::env::args()

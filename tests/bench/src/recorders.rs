@@ -3,12 +3,11 @@
 //! as it comes to an end, the counted search. Times are the processor's, so that another program on the
 //! machine counts for little.
 
-#[cfg(feature = "proved")]
 use crate::proved;
-use outside::plain::{remembering, Found};
-use outside::random::Random;
-use outside::recorders::{list, round, Fitted, List, Round};
-use outside::tables::Tables;
+use outside::cases::random::Random;
+use outside::cases::recorders::{list, round, Fitted, List, Round};
+use outside::cases::tables::Tables;
+use outside::rivals::{remembering, Found};
 use std::time::Duration;
 
 const SEED: u64 = 33;
@@ -21,7 +20,6 @@ const WORDS: usize = 64 << 17;
 
 /// Where a request takes more vertices than this, it is said and left.
 const BUDGET: u32 = 20_000_000;
-#[cfg(feature = "proved")]
 const COUNTED: u32 = 20_000_000;
 
 /// What answers in less than this is asked again, and its best time taken.
@@ -151,7 +149,6 @@ fn told(number: u8, time: Duration) -> String {
     }
 }
 
-#[cfg(feature = "proved")]
 fn beside(file: &[u8], memory: &mut [u64], plain: &Found, plain_time: Duration) -> String {
     let (least, time) = timed(|| proved::least(file, BUDGET, memory));
     // Where one of the two is given up, there is nothing to compare.
@@ -171,11 +168,6 @@ fn beside(file: &[u8], memory: &mut [u64], plain: &Found, plain_time: Duration) 
         "  proved {}  to plain {ratio:.2}  counted {counted}",
         told(least.number, time)
     )
-}
-
-#[cfg(not(feature = "proved"))]
-fn beside(_: &[u8], _: &mut [u64], _: &Found, _: Duration) -> String {
-    String::new()
 }
 
 fn line(kind: &Kind, number: u64, memory: &mut [u64]) -> String {

@@ -1,6 +1,6 @@
 //! The requests that are raced: each some million vertices, each heavy in another place.
 
-use outside::tables::{device_a, job, task, DeviceRecord, JobRecord, Tables};
+use outside::cases::tables::{device_a, job, task, DeviceRecord, JobRecord, Tables};
 
 pub struct Named {
     pub name: &'static str,
@@ -138,9 +138,9 @@ pub fn all() -> Vec<Named> {
 #[cfg(test)]
 mod tests {
     use super::*;
-    use outside::plain::{anew, carried, shaped};
-    use outside::request::read;
-    use outside::visit::visit;
+    use outside::oracle::request::read;
+    use outside::oracle::visit::visit;
+    use outside::rivals::{anew, carried, shaped};
 
     /// The race is about these vertices: the plain searches must count and find what the oracle's
     /// visit does, on the very requests that are raced.

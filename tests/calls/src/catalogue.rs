@@ -2,8 +2,8 @@
 
 use crate::expected::SHUT;
 use crate::{library, outcome, Tester};
-use outside::catalogue::{built, draw, Call};
-use outside::random::Random;
+use outside::cases::random::Random;
+use outside::oracle::catalogue::{built, draw, Call};
 
 const SEED: u64 = 13;
 const CALLS: u64 = 15_000;

@@ -4,7 +4,7 @@
 use crate::expected::Searched;
 use crate::Tester;
 use outside::cases::{draw_of, Kind};
-use outside::tally::Rows;
+use outside::running::tally::Rows;
 
 /// The kinds, with a seed and how many files of each, and what of their rows has not come.
 type Chosen = (&'static [(Kind, u64, u64)], fn(&Rows) -> Vec<String>);

@@ -1,15 +1,15 @@
 //! What each call must leave, by the rules (70 to 74) and the oracle: its number, its result bytes,
 //! and every byte that is lent.
 
-use outside::first;
-use outside::judge::judge;
-use outside::listing::{first_of_the_least, uses, Schedule};
-use outside::long::{self, Found};
-use outside::request::{read, Request};
-use outside::rows::row_given;
-use outside::sheets::{plan_text, Made};
-use outside::visit::visit;
-use outside::writing::Written;
+use outside::oracle::first;
+use outside::oracle::judge::judge;
+use outside::oracle::listing::{first_of_the_least, uses, Schedule};
+use outside::oracle::long::{self, Found};
+use outside::oracle::request::{read, Request};
+use outside::oracle::rows::row_given;
+use outside::oracle::sheets::{plan_text, Made};
+use outside::oracle::visit::visit;
+use outside::oracle::writing::Written;
 
 pub const RESULT: usize = 11;
 
@@ -181,7 +181,7 @@ impl Searched {
         }
     }
 
-    /// Of an accepted request that is too long to list, by a plain search (`outside::long`).
+    /// Of an accepted request that is too long to list, by a plain search (`outside::oracle::long`).
     pub fn long(file: Vec<u8>) -> Searched {
         // The first complete vertex comes soon or not at all.
         const SOON: u64 = 2_000;
@@ -322,7 +322,8 @@ impl Searched {
 
     /// The lines of a plan, for start times that are one for each job.
     fn plan_lines(request: &Request, starts: &[u32]) -> Vec<u8> {
-        let line = |(job, &start): (&outside::request::Job, &u32)| (start, job.margin(start));
+        let line =
+            |(job, &start): (&outside::oracle::request::Job, &u32)| (start, job.margin(start));
         let placed: Vec<(u32, i64)> = request.jobs.iter().zip(starts).map(line).collect();
         plan_text(&placed)
     }
@@ -368,8 +369,9 @@ impl Searched {
         if before.lent.len() < 4 * request.jobs.len() {
             return before.refused(15);
         }
-        let margin =
-            |(job, start): (&outside::request::Job, u32)| (job.margin(start) as i32).to_be_bytes();
+        let margin = |(job, start): (&outside::oracle::request::Job, u32)| {
+            (job.margin(start) as i32).to_be_bytes()
+        };
         let jobs = request.jobs.iter().zip(pairs(starts));
         let written: Vec<u8> = jobs.flat_map(margin).collect();
         before.after(success(request, 0, 0), &written)

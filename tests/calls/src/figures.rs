@@ -2,7 +2,7 @@
 //! what is left of them. Every buffer is full of AA before the call.
 
 use crate::library;
-use outside::tables::hex;
+use outside::cases::tables::hex;
 
 /// A search's output, an output for rows, one for a file, and a result buffer that is a byte too
 /// short.

@@ -1,10 +1,10 @@
 //! The first of all plans, as C asks for it, held to the full listing and, on large requests, to the
-//! sets of jobs (`outside::first`); and beside the door that visits the tree.
+//! sets of jobs (`outside::oracle::first`); and beside the door that visits the tree.
 
 use crate::expected::RESULT;
 use crate::library;
 use crate::tails::{hand_back, longer, met, BLANK};
-use outside::first::{by_bytes, run, run_large};
+use outside::oracle::first::{by_bytes, run, run_large};
 use std::cell::Cell;
 use std::collections::BTreeMap;
 use std::thread;

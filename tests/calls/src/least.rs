@@ -1,15 +1,15 @@
 //! The plan of least energy with a lent memory, as C asks for it, held to the full listing and, on large
-//! requests, to the layers (`outside::least`); beside the counted search, as far as that comes to an
+//! requests, to the layers (`outside::oracle::least`); beside the counted search, as far as that comes to an
 //! end; and every large plan judged, by its rows too.
 
 use crate::expected::RESULT;
 use crate::library;
 use crate::tails::{hand_back, longer, met, BLANK};
-use outside::least::{by_bytes, run, run_large};
-use outside::looser::{self, Found};
-use outside::random::Random;
-use outside::recorders::{self, Fitted, List, Round};
-use outside::request::{read, Request};
+use outside::cases::random::Random;
+use outside::cases::recorders::{self, Fitted, List, Round};
+use outside::oracle::least::{by_bytes, run, run_large};
+use outside::oracle::looser::{self, Found};
+use outside::oracle::request::{read, Request};
 use std::cell::RefCell;
 use std::collections::BTreeMap;
 use std::thread;

@@ -3,7 +3,7 @@
 
 use crate::expected::RESULT;
 use crate::library;
-use outside::looser::{run, Found};
+use outside::oracle::looser::{run, Found};
 
 const SEED: u64 = 31;
 const PAIRS: u64 = 6_000;

@@ -8,7 +8,6 @@ mod expected;
 mod figures;
 mod first;
 mod least;
-mod library;
 mod looser;
 mod mend;
 mod possible;
@@ -19,10 +18,11 @@ mod tails;
 mod writing;
 
 use expected::{pairs, Buffers, Outcome, Searched, RESULT};
+use linked as library;
 use outside::cases::draw;
-use outside::random::Random;
-use outside::readme;
-use outside::tally::Rows;
+use outside::cases::random::Random;
+use outside::running::readme;
+use outside::running::tally::Rows;
 use std::collections::BTreeMap;
 use std::process::ExitCode;
 

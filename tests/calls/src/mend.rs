@@ -1,10 +1,10 @@
-//! Mending through its door, held to every schedule in the order given (`outside::mend`).
+//! Mending through its door, held to every schedule in the order given (`outside::oracle::mend`).
 
 use crate::expected::{RESULT, SHUT};
 use crate::library;
 use crate::tails::{self, hand_back, is_blank, longer, BLANK};
-use outside::mend::{by_bytes, draw, run};
-use outside::random::Random;
+use outside::cases::random::Random;
+use outside::oracle::mend::{by_bytes, draw, run};
 use std::collections::BTreeMap;
 
 const SEED: u64 = 18;

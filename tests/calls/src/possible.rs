@@ -1,10 +1,10 @@
-//! Whether there is a plan, through its door, held to the full listing (`outside::possible`).
+//! Whether there is a plan, through its door, held to the full listing (`outside::oracle::possible`).
 
 use crate::expected::{RESULT, SHUT};
 use crate::library;
 use crate::tails::{self, hand_back, is_blank, longer, BLANK};
 use outside::cases;
-use outside::possible::{by_bytes, run};
+use outside::oracle::possible::{by_bytes, run};
 use std::collections::BTreeMap;
 
 const SEED: u64 = 17;

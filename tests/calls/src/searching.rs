@@ -3,9 +3,9 @@
 
 use crate::expected::{pairs, Searched, RESULT};
 use crate::{library, Tester, SEED};
+use outside::cases::random::Random;
 use outside::cases::{draw, Case, Kind};
-use outside::long;
-use outside::random::Random;
+use outside::oracle::long;
 
 pub type Search = fn(&[u8], u32, &mut [u8], &mut [u8]) -> u8;
 

@@ -3,8 +3,8 @@
 
 use crate::expected::Searched;
 use crate::{library, outcome, Tester};
-use outside::random::Random;
-use outside::sheets::{
+use outside::cases::random::Random;
+use outside::oracle::sheets::{
     draw_table, draw_text, export_devices, export_jobs, import_devices, import_jobs, Made, Rows,
 };
 

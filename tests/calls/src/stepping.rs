@@ -1,11 +1,11 @@
 //! Stepping through a round by its door, held to a run of every device tick by tick
-//! (`outside::stepping`).
+//! (`outside::oracle::stepping`).
 
 use crate::expected::{RESULT, SHUT};
 use crate::library;
 use crate::tails::{hand_back, is_blank, longer, BLANK};
-use outside::random::Random;
-use outside::stepping::{by_bytes, draw, ends, run};
+use outside::cases::random::Random;
+use outside::oracle::stepping::{by_bytes, draw, ends, run};
 use std::collections::BTreeMap;
 
 const SEED: u64 = 90;

@@ -4,8 +4,8 @@
 use crate::expected::SHUT;
 use crate::{library, outcome, Tester};
 use outside::cases;
-use outside::random::Random;
-use outside::writing::{draw, listed, written, Written};
+use outside::cases::random::Random;
+use outside::oracle::writing::{draw, listed, written, Written};
 
 const SEED: u64 = 12;
 const TABLES: u64 = 10_000;

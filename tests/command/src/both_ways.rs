@@ -2,12 +2,12 @@
 
 use crate::floe::{same, Floe, Tried};
 use crate::texts::{self, end_of_fault, part_before, Drawn, Text};
-use outside::faults;
-use outside::random::Random;
-use outside::request::FileKind;
-use outside::second;
-use outside::third;
-use outside::valid;
+use outside::cases::faults;
+use outside::cases::random::Random;
+use outside::cases::second;
+use outside::cases::third;
+use outside::cases::valid;
+use outside::oracle::request::FileKind;
 
 const SEED: u64 = 21;
 const TABLES: u64 = 4_800;

@@ -1,6 +1,6 @@
 //! Calling the command, and what has come of it.
 
-use outside::runner::{piped, run, Feed, Printed};
+use outside::running::runner::{piped, run, Feed, Printed};
 use std::cell::Cell;
 use std::path::{Path, PathBuf};
 use std::process::Command;

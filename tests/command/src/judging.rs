@@ -2,16 +2,16 @@
 
 use crate::floe::{same, Floe, Tried};
 use crate::texts::is_text;
+use outside::cases::random::Random;
 use outside::cases::{draw, Case, Kind};
-use outside::expect::{search, BUDGET};
-use outside::first;
-use outside::judge::judge;
-use outside::listing::uses;
-use outside::mend::{self, Answer};
-use outside::possible::{self, Outcome};
-use outside::random::Random;
-use outside::request::{read, Request};
-use outside::rows::row_given;
+use outside::oracle::expect::{search, BUDGET};
+use outside::oracle::first;
+use outside::oracle::judge::judge;
+use outside::oracle::listing::uses;
+use outside::oracle::mend::{self, Answer};
+use outside::oracle::possible::{self, Outcome};
+use outside::oracle::request::{read, Request};
+use outside::oracle::rows::row_given;
 use std::cell::RefCell;
 
 const SEED: u64 = 22;
@@ -100,7 +100,7 @@ fn starts(random: &mut Random, case: &Case, request: &Request) -> Vec<u32> {
     let mut starts: Vec<u32> = match plan {
         Some((_, schedule)) => schedule.starts,
         None => {
-            let start = |job: &outside::request::Job| {
+            let start = |job: &outside::oracle::request::Job| {
                 let (from, to) = (job.release.saturating_sub(1), job.latest() + 1);
                 let is_near = random.one_in(8);
                 let (from, to) = if is_near {

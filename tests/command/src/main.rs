@@ -20,7 +20,7 @@ mod texts;
 mod third;
 
 use floe::{Floe, Tried};
-use outside::readme;
+use outside::running::readme;
 use std::path::Path;
 use std::process::ExitCode;
 use std::sync::Mutex;

@@ -1,9 +1,9 @@
 //! build, held to the oracle's own look-up in the catalogue.
 
 use crate::floe::{same, Floe, Tried};
-use outside::catalogue::{built, draw, Call};
-use outside::random::Random;
-use outside::writing::{Given, Table};
+use outside::cases::random::Random;
+use outside::oracle::catalogue::{built, draw, Call};
+use outside::oracle::writing::{Given, Table};
 use std::fmt::Write;
 use std::fs;
 use std::path::Path;

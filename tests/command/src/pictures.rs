@@ -3,10 +3,10 @@
 
 use crate::floe::{same, Floe, Tried};
 use outside::cases::{draw, Kind};
-use outside::expect::{search, BUDGET};
-use outside::listing::uses;
-use outside::request::{unmarked, Device, FileKind};
-use outside::rows::row_given;
+use outside::oracle::expect::{search, BUDGET};
+use outside::oracle::listing::uses;
+use outside::oracle::request::{unmarked, Device, FileKind};
+use outside::oracle::rows::row_given;
 use std::collections::BTreeSet;
 use std::fs;
 use std::path::Path;

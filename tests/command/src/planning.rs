@@ -3,14 +3,14 @@
 
 use crate::floe::{same, Floe, Tried};
 use crate::texts::{end_of_fault, is_text, part_before, parts};
+use outside::cases::example;
+use outside::cases::random::Random;
+use outside::cases::recorders::{self, Fitted, List, Round};
 use outside::cases::{draw, Kind};
-use outside::example;
-use outside::expect::{plan_text, search, text, BUDGET};
-use outside::layers::first_of_the_least;
-use outside::random::Random;
-use outside::recorders::{self, Fitted, List, Round};
-use outside::request::read;
-use outside::runner::{run, Feed};
+use outside::oracle::expect::{plan_text, search, text, BUDGET};
+use outside::oracle::layers::first_of_the_least;
+use outside::oracle::request::read;
+use outside::running::runner::{run, Feed};
 
 const SEED: u64 = 20;
 const CASES: u64 = 1_200;

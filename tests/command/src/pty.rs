@@ -1,6 +1,6 @@
 //! A terminal: what a program that writes to one shows there.
 
-use outside::runner::{run, Feed, Printed};
+use outside::running::runner::{run, Feed, Printed};
 use std::ffi::{c_char, c_int, CStr};
 use std::fs::{File, OpenOptions};
 use std::io::{self, Read};

@@ -2,10 +2,10 @@
 
 use crate::floe::{same, Floe, Tried};
 use crate::parts::{parts, wanted};
+use outside::cases::random::Random;
 use outside::cases::{draw, Kind};
-use outside::catalogue::{self, built, Call};
-use outside::expect::{search, BUDGET};
-use outside::random::Random;
+use outside::oracle::catalogue::{self, built, Call};
+use outside::oracle::expect::{search, BUDGET};
 use std::fs;
 use std::path::Path;
 

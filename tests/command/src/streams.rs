@@ -2,11 +2,11 @@
 //! its reason, and nothing that was read in part is taken for the whole.
 
 use crate::floe::{same, Floe, Tried};
-use outside::expect::BUDGET;
-use outside::pipes;
-use outside::runner::{run, Feed};
-use outside::slow;
-use outside::tables::{device_a, job, Tables};
+use outside::cases::slow;
+use outside::cases::tables::{device_a, job, Tables};
+use outside::oracle::expect::BUDGET;
+use outside::running::pipes;
+use outside::running::runner::{run, Feed};
 use std::fs::{File, OpenOptions};
 use std::io::{self, Write};
 use std::os::fd::AsRawFd;

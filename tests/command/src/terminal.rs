@@ -3,7 +3,7 @@
 
 use crate::floe::{same, Floe, Tried};
 use crate::pty;
-use outside::runner::{run, Feed};
+use outside::running::runner::{run, Feed};
 use std::fs;
 use std::os::unix::fs::symlink;
 use std::path::Path;

@@ -1,11 +1,11 @@
 //! Requests as text, written by the tests themselves, in many ways that mean the same; and where a
 //! file is at fault.
 
-use outside::random::Random;
-use outside::request::{read, read_as, unmarked, FileKind, Request};
-use outside::second::Second;
-use outside::tables::{DeviceRecord, Tables};
-use outside::third::{Levels, Third};
+use outside::cases::random::Random;
+use outside::cases::second::Second;
+use outside::cases::tables::{DeviceRecord, Tables};
+use outside::cases::third::{Levels, Third};
+use outside::oracle::request::{read, read_as, unmarked, FileKind, Request};
 
 /// What a file says, by its kind.
 pub enum Drawn {
