@@ -1,6 +1,6 @@
 /* Floebucket for C and C++: plans a request with proved functions. Link target/lib/libfloebucket.a, which ./library builds.
  *
- * Every buffer is a pointer and a length. Every function returns the number of its answer: 0, or the refusal (README.md lists them), and puts the rest of
+ * Every buffer is a pointer and a length. Every function returns the number of its answer: 0, or the refusal (docs/MANUAL.md lists them), and puts the rest of
  * the answer into the result buffer, FLOE_RESULT bytes or more, the high byte of a number first:
  *
  *     byte 0        job        of 16, 17 and 18: the job at fault

@@ -8,7 +8,7 @@ use crate::kinds::{members, value, Kind, JOB, TASK};
 use crate::place::{File, Part, Place};
 use crate::text::reader::Places;
 
-/// What each number says by itself (README.md lists them).
+/// What each number says by itself (docs/MANUAL.md lists them).
 fn meaning(number: u8) -> &'static str {
     match number {
         1 => "a byte that is called for is not there",

@@ -1,5 +1,5 @@
-//! What the papers cite exists: the names and files of rules, promises and decisions, and the wrong
-//! programs, each of which the table of promises lists.
+//! What the papers cite exists: names and files, links, rules by their number, and the wrong programs,
+//! each of which the table of promises lists.
 //!
 //! A name is cited as ``crate/specs/File: `name`, `name` `` or as `` `name` in crate/proofs/File ``, and has
 //! to stand in that file; a law or a type that is cited without a file has to stand in some crate.
@@ -8,11 +8,29 @@ use std::collections::BTreeSet;
 use std::fs;
 use std::path::{Path, PathBuf};
 
-const PAPERS: [&str; 4] = [
-    "docs/RULES.md",
-    "docs/PROMISES.md",
+const PAPERS: [&str; 11] = [
+    "README.md",
+    "CHANGELOG.md",
+    "docs/CONTRIBUTING.md",
     "docs/DECISIONS.md",
+    "docs/FILE.md",
+    "docs/LIBRARY.md",
+    "docs/MANUAL.md",
+    "docs/PROMISES.md",
     "docs/PROVING.md",
+    "docs/RULES.md",
+    "docs/SPEED.md",
+];
+
+/// Folders at the top: a word in back ticks that begins with one of them is a file or a folder.
+const FOLDERS: [&str; 7] = [
+    "command/",
+    "crates/",
+    "docs/",
+    "examples/",
+    "include/",
+    "linked/",
+    "tests/",
 ];
 
 fn root() -> PathBuf {
@@ -237,6 +255,104 @@ fn cited_names_and_files_exist() {
     assert!(wrong.is_empty(), "{}", wrong.join("\n"));
 }
 
+/// The words between two marks of a text: behind the first, up to the second, in one line.
+fn between<'a>(text: &'a str, front: &str, end: char) -> Vec<&'a str> {
+    let lines = text.lines().flat_map(|line| line.split(front).skip(1));
+    lines
+        .filter_map(|rest| rest.split_once(end))
+        .map(|(word, _)| word)
+        .collect()
+}
+
+/// Links lead to files, and files that are named in back ticks are there. `NAME` and the like stand for many.
+#[test]
+fn links_and_paths_lead_somewhere() {
+    let mut wrong = Vec::new();
+    for paper in PAPERS {
+        let path = root().join(paper);
+        let text = read(&path);
+        let folder = path.parent().unwrap();
+        for link in between(&text, "](", ')') {
+            let file = link.split('#').next().unwrap();
+            if !file.starts_with("http") && !folder.join(file).exists() {
+                wrong.push(format!("{paper}: the link {link} leads nowhere"));
+            }
+        }
+        let names = text
+            .lines()
+            .flat_map(|line| line.split('`').skip(1).step_by(2));
+        for name in names.filter(|name| FOLDERS.iter().any(|folder| name.starts_with(folder))) {
+            let file = name.split(' ').next().unwrap();
+            let stands_for_many =
+                file.contains(|c: char| c == '{' || c == '*') || file.contains("NAME");
+            if !stands_for_many && !root().join(file).exists() {
+                wrong.push(format!("{paper}: there is no {file}"));
+            }
+        }
+    }
+    assert!(wrong.is_empty(), "{}", wrong.join("\n"));
+}
+
+/// The numbers of the rules, as they stand at the front of their lines.
+fn rules() -> Vec<u32> {
+    let text = read(&root().join("docs/RULES.md"));
+    let numbers = text.lines().filter_map(|line| line.split_once(". **"));
+    numbers
+        .filter_map(|(number, _)| number.parse().ok())
+        .collect()
+}
+
+/// The numbers behind `rule` or `rules` in a text: one, some with commas and "and", or the ends of a
+/// stretch, up to the end of a bracket or a sentence.
+fn rules_cited(text: &str) -> Vec<u32> {
+    let mut all = Vec::new();
+    for front in ["rule ", "rules ", "Rule ", "Rules "] {
+        for rest in text.split(front).skip(1) {
+            for word in rest.split([' ', '\n']) {
+                match word.trim_end_matches([',', '.', ';', ':', ')']).parse() {
+                    Ok(number) => all.push(number),
+                    Err(_) if matches!(word, "to" | "and" | "") => {}
+                    Err(_) => break,
+                }
+                if word.contains([')', '.', ';', ':']) {
+                    break;
+                }
+            }
+        }
+    }
+    all
+}
+
+#[test]
+fn cited_rules_exist_and_have_one_number_each() {
+    let rules = rules();
+    let once: BTreeSet<u32> = rules.iter().copied().collect();
+    assert!(
+        rules.len() == once.len() && rules.len() > 100,
+        "{} rules",
+        rules.len()
+    );
+    let mut texts: Vec<(String, String)> = PAPERS
+        .iter()
+        .map(|paper| (paper.to_string(), read(&root().join(paper))))
+        .collect();
+    for folder in ["crates", "tests", "command"] {
+        texts.push((folder.to_string(), text_below(&root().join(folder))));
+    }
+    let mut wrong = BTreeSet::new();
+    let mut cited = 0;
+    for (place, text) in &texts {
+        for number in rules_cited(text) {
+            cited += 1;
+            if !once.contains(&number) {
+                wrong.insert(format!("{place}: there is no rule {number}"));
+            }
+        }
+    }
+    assert!(cited > 200, "only {cited} citations were found");
+    assert!(wrong.is_empty(), "{wrong:?}");
+}
+
 /// The wrong programs as crate/label: those that stand beside the crates.
 fn wrong_programs() -> BTreeSet<String> {
     let mut all = BTreeSet::new();
@@ -319,4 +435,8 @@ fn citations_are_found() {
         ]
     );
     assert!(has_word("pub abc-d : x", "abc-d") && !has_word("pub abc-de : x", "abc-d"));
+    assert_eq!(
+        rules_cited("by rules 3, 10 to 15 and 80, and rule 7."),
+        [7, 3, 10, 15, 80]
+    );
 }
