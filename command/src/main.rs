@@ -41,6 +41,15 @@ fn is_help(word: &OsString) -> bool {
     ["--help", "-h"].iter().any(|help| word == help)
 }
 
+/// The version, and the commit from which the program was built, where there was one.
+fn version() -> String {
+    format!(
+        "floe {}{}\n",
+        env!("CARGO_PKG_VERSION"),
+        env!("FLOE_COMMIT")
+    )
+}
+
 fn run(words: Vec<OsString>) -> Result<Vec<u8>, Failure> {
     let mut words = words.into_iter();
     let Some(first) = words.next() else {
@@ -52,6 +61,12 @@ fn run(words: Vec<OsString>) -> Result<Vec<u8>, Failure> {
             Some(word) => named(&word)?.help(),
         };
         return Ok(text.into_bytes());
+    }
+    if first == "--version" {
+        return match words.next() {
+            None => Ok(version().into_bytes()),
+            Some(_) => Err(Failure::Usage("floe --version takes no word".to_string())),
+        };
     }
     let command = named(&first)?;
     let words: Vec<OsString> = words.collect();

@@ -127,7 +127,7 @@ build takes the horizon, the tasks and the jobs from its REQUEST. Both may be co
 instead, NUMBER,T,Pw,Ps,P0 and release,deadline,running time,device set; then --horizon N gives the
 ticks of the round.\n
 Exit status: 0 done; 1 refused, with its number and place on standard error; 2 wrong usage;
-3 something could not be read or written.\n"
+3 something could not be read or written. floe --version tells the version and the commit.\n"
 }
 
 impl Command {

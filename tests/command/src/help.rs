@@ -6,12 +6,13 @@ const COMMANDS: [&str; 10] = [
     "plan", "check", "possible", "verdict", "rows", "mend", "write", "show", "draw", "build",
 ];
 
-const WRONG: [&[&str]; 27] = [
+const WRONG: [&[&str]; 28] = [
     &[],
     &["planx"],
     &["Plan"],
     &[""],
-    &["--version"],
+    &["--version", "plan"],
+    &["plan", "--version"],
     &["plan"],
     &["plan", "-", "-"],
     &["plan", "-", "--budget"],
@@ -36,9 +37,29 @@ const WRONG: [&[&str]; 27] = [
     &["build", "-", "-", "--horizon", "x"],
 ];
 
+/// The version, and of a clone the commit: hexadecimal digits, and a word if the sources had changed.
+fn version(floe: &Floe) -> Tried {
+    let output = floe.output(&["--version"], b"")?;
+    let text = String::from_utf8_lossy(&output).into_owned();
+    let front = format!("floe {}", env!("CARGO_PKG_VERSION"));
+    let rest = text.strip_prefix(&front).unwrap_or("no such front");
+    let commit = rest
+        .strip_prefix(" (")
+        .and_then(|rest| rest.strip_suffix(")\n"));
+    let is_told = match commit {
+        None => rest == "\n",
+        Some(told) => {
+            let commit = told.strip_suffix(", changed since").unwrap_or(told);
+            commit.len() >= 12 && commit.chars().all(|digit| digit.is_ascii_hexdigit())
+        }
+    };
+    same(is_told, true, || format!("--version says {text:?}"))?;
+    Ok(1)
+}
+
 pub fn test(floe: &Floe) -> Tried {
     let overview = floe.output(&["--help"], b"")?;
-    let mut runs = 1;
+    let mut runs = 1 + version(floe)?;
     let text = String::from_utf8_lossy(&overview).into_owned();
     for help in ["-h", "help"] {
         same(floe.output(&[help], b"")?, overview.clone(), || {
