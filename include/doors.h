@@ -41,8 +41,7 @@ uint8_t door_possible(const uint8_t *file, size_t file_len, uint32_t budget, uin
 uint8_t door_mend(const uint8_t *file, size_t file_len, const uint8_t *starts, size_t starts_len, uint8_t *out, size_t out_len, uint8_t *moved,
                   size_t moved_len, uint8_t *result, size_t result_len);
 
-/* Sheets: comma-separated text, a line for each device, job or job of a plan. Link target/lib/libdoors_sheets.a. A buffer too short gets nothing, and the
- * number is 15.
+/* Sheets: comma-separated text, a line for each device, job or job of a plan. A buffer too short gets nothing, and the number is 15.
  *
  * The catalogue of a sheet of devices (part number, T, Pw, Ps, P0): 15 bytes a part, 960 at most. The count of the answer is the lines. */
 uint8_t door_import_devices(const uint8_t *text, size_t text_len, uint8_t *out, size_t out_len, uint8_t *result, size_t result_len);
@@ -60,8 +59,7 @@ uint8_t door_export_jobs(const uint8_t *records, size_t records_len, uint8_t *ou
 uint8_t door_export_plan(const uint8_t *file, size_t file_len, const uint8_t *starts, size_t starts_len, uint8_t *out, size_t out_len, uint8_t *result,
                          size_t result_len);
 
-/* Step by step on the recorder, for start times that are feasible, two bytes each. `out`: what each device spends, four bytes each. Link
- * target/lib/libdoors_steps.a. */
+/* Step by step on the recorder, for start times that are feasible, two bytes each. `out`: what each device spends, four bytes each. */
 uint8_t door_step(const uint8_t *file, size_t file_len, const uint8_t *starts, size_t starts_len, uint8_t *out, size_t out_len, uint8_t *result,
                   size_t result_len);
 

@@ -17,11 +17,15 @@ use Rattle.possible.specs.Promises.{PossibleOf}
 use Rattle.possible.proofs.Only.{only-possible}
 use Rattle.mend.specs.Promises.{Lent, lending, MendOf}
 use Rattle.mend.proofs.Only.{only-mended}
+use Rattle.stepper.specs.Promises.{StepsOf}
+use Rattle.stepper.proofs.Only.{only-stepped-through}
+use Rattle.sheet.specs.Promises.{ImportedDevices, ImportedJobs, ExportedDevices, ExportedJobs, ExportedPlan}
+use Rattle.sheet.proofs.Only.{only-imported-devices, only-imported-jobs, only-exported-devices, only-exported-jobs, only-exported-plan}
 use Rattle.calls.specs.Calls.{blank}
 use Rattle.table_bytes.specs.TableBytes.{tablesFrom, tableBytes}
 use Rattle.doorway.specs.Doors.{startsOf, twos, fours}
 use Rattle.doorway.proofs.Opening.{only-door, only-spelled}
-use Rattle.doors.specs.Promises.{complement, empty, VerdictDoor, MarginsSpelled, MarginsDoor, PossibleSpelled, PossibleDoor, MendSpelled, MendDoor, WriteDoor, othersFrom, BuildDoor, TablesTold, TablesDoor}
+use Rattle.doors.specs.Promises.{complement, emptyMargins, VerdictDoor, MarginsSpelled, MarginsDoor, PossibleSpelled, PossibleDoor, MendSpelled, MendDoor, WriteDoor, othersFrom, BuildDoor, TablesTold, TablesDoor, emptyEnergies, StepsSpelled, StepDoor, ImportDevicesDoor, ImportJobsDoor, ExportDevicesDoor, ExportJobsDoor, ExportPlanDoor}
 use Rattle.doors.specs.Promises as D
 
 pub only-verdict-door : (file starts result : List ℕ) {n n′ : ℕ} {r r′ : List ℕ}
@@ -35,8 +39,8 @@ module _ {n n′ : ℕ} {l l′ r r′ : List ℕ} where
       → MarginsDoor file starts lent result n l r → MarginsDoor file starts lent result n′ l′ r′ → (n ≡ n′) × (r ≡ r′) × (l ≡ l′)
   only-margins-door file starts lent result =
       only-door result lent (OfFile file lent (MarginsSpelled (startsOf starts) lent))
-      (only-spelled file (empty lent) lent (MarginsOf (startsOf starts) (empty lent)) (λ R a m. fours (λ j. complement (getD m j (pos 0))) (jobs R) lent)
-      (λ a a′ m m′. only-margined file (startsOf starts) (empty lent)))
+      (only-spelled file (emptyMargins lent) lent (MarginsOf (startsOf starts) (emptyMargins lent)) (λ R a m. fours (λ j. complement (getD m j (pos 0))) (jobs R) lent)
+      (λ a a′ m m′. only-margined file (startsOf starts) (emptyMargins lent)))
 
   pub only-possible-door : (file : List ℕ) (budget : ℕ) (lent result : List ℕ)
       → PossibleDoor file budget lent result n l r → PossibleDoor file budget lent result n′ l′ r′ → (n ≡ n′) × (r ≡ r′) × (l ≡ l′)
@@ -84,3 +88,25 @@ module _ {n n′ : ℕ} {l l′ r r′ : List ℕ} where
 
   pub only-tables-door : (file lent result : List ℕ) → TablesDoor file lent result n l r → TablesDoor file lent result n′ l′ r′ → (n ≡ n′) × (r ≡ r′) × (l ≡ l′)
   only-tables-door file lent result = only-door result lent (TablesTold file lent) (λ a a′ m m′. one-told file lent)
+
+  pub only-step-door : (file starts lent result : List ℕ)
+      → StepDoor file starts lent result n l r → StepDoor file starts lent result n′ l′ r′ → (n ≡ n′) × (r ≡ r′) × (l ≡ l′)
+  only-step-door file starts lent result =
+      only-door result lent (OfFile file lent (StepsSpelled file (startsOf starts) lent))
+      (only-spelled file (emptyEnergies lent) lent (StepsOf file (startsOf starts) (emptyEnergies lent)) (λ R a e. fours (λ k. getD e k 0) (R .devices .count) lent)
+      (λ a a′ m m′. only-stepped-through file (startsOf starts) (emptyEnergies lent)))
+
+  pub only-import-devices-door : (text lent result : List ℕ) → ImportDevicesDoor text lent result n l r → ImportDevicesDoor text lent result n′ l′ r′ → (n ≡ n′) × (r ≡ r′) × (l ≡ l′)
+  only-import-devices-door text lent result = only-door result lent (ImportedDevices text lent) (λ a a′ m m′. only-imported-devices text lent)
+
+  pub only-import-jobs-door : (text lent result : List ℕ) → ImportJobsDoor text lent result n l r → ImportJobsDoor text lent result n′ l′ r′ → (n ≡ n′) × (r ≡ r′) × (l ≡ l′)
+  only-import-jobs-door text lent result = only-door result lent (ImportedJobs text lent) (λ a a′ m m′. only-imported-jobs text lent)
+
+  pub only-export-devices-door : (catalogue lent result : List ℕ) → ExportDevicesDoor catalogue lent result n l r → ExportDevicesDoor catalogue lent result n′ l′ r′ → (n ≡ n′) × (r ≡ r′) × (l ≡ l′)
+  only-export-devices-door catalogue lent result = only-door result lent (ExportedDevices catalogue lent) (λ a a′ m m′. only-exported-devices catalogue lent)
+
+  pub only-export-jobs-door : (records lent result : List ℕ) → ExportJobsDoor records lent result n l r → ExportJobsDoor records lent result n′ l′ r′ → (n ≡ n′) × (r ≡ r′) × (l ≡ l′)
+  only-export-jobs-door records lent result = only-door result lent (ExportedJobs records lent) (λ a a′ m m′. only-exported-jobs records lent)
+
+  pub only-export-plan-door : (file starts lent result : List ℕ) → ExportPlanDoor file starts lent result n l r → ExportPlanDoor file starts lent result n′ l′ r′ → (n ≡ n′) × (r ≡ r′) × (l ≡ l′)
+  only-export-plan-door file starts lent result = only-door result lent (ExportedPlan file (startsOf starts) lent) (λ a a′ m m′. only-exported-plan file (startsOf starts) lent)

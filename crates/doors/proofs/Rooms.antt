@@ -22,7 +22,7 @@ use Rattle.calls.specs.Calls.{blank}
 use Rattle.doorway.specs.Doors.{kept, given, twos, fours}
 use Rattle.doorway.proofs.Opening.{Handed, spelled-all, many-margins}
 use Rattle.doorway.proofs.Fours.{fours-same}
-use Rattle.doors.specs.Promises.{complement, empty, MarginsSpelled, PossibleSpelled}
+use Rattle.doors.specs.Promises.{complement, emptyMargins, MarginsSpelled, PossibleSpelled}
 
 -- ---- any plan
 
@@ -71,13 +71,13 @@ module _ (starts lent : List ℕ) (R : Recorder) (few : jobs R ≤ 16) (own : Li
       let m = upTo (margin R starts) (jobs R) in
       let front : (l : List ℤ) (j : ℕ) → j < jobs R → complement (getD (m ++ l) j (pos 0)) ≡ complement (getD m j (pos 0)) =
       λ l j k. ap complement (List·getD-append m l (pos 0) j (omega (arith, k, length-upTo (margin R starts) (jobs R)))) in
-      let same = fours-same (λ j. complement (getD (m ++ drop (jobs R) (empty lent)) j (pos 0))) (λ j. complement (getD (m ++ drop (jobs R) own) j (pos 0))) (jobs R)
-      (λ j k. front (drop (jobs R) (empty lent)) j k ∙ sym (front (drop (jobs R) own) j k)) in
+      let same = fours-same (λ j. complement (getD (m ++ drop (jobs R) (emptyMargins lent)) j (pos 0))) (λ j. complement (getD (m ++ drop (jobs R) own) j (pos 0))) (jobs R)
+      (λ j k. front (drop (jobs R) (emptyMargins lent)) j k ∙ sym (front (drop (jobs R) own) j k)) in
       subst (λ (x : List ℕ). MarginsSpelled starts lent R a (x ++ drop (jobs R * 4) lent)) same
       (given z (P.MarginsOf.given e (rw length-replicate (omega arith))))
 
 pub margins-all : (file lent : List ℕ) {all some : List ℕ} → Handed all some
     → {a : Answer} {l : List ℕ} → OfFile file lent (MarginsSpelled some lent) a l → OfFile file lent (MarginsSpelled all lent) a l
 margins-all file lent h p =
-    spelled-all file lent (λ R a m. fours (λ j. complement (getD m j (pos 0))) (jobs R) lent) (λ s. MarginsOf s (empty lent))
-    (λ R v s s′ g g′ a m. many-margins R v (empty lent) s s′ g g′) h p
+    spelled-all file lent (λ R a m. fours (λ j. complement (getD m j (pos 0))) (jobs R) lent) (λ s. MarginsOf s (emptyMargins lent))
+    (λ R v s s′ g g′ a m. many-margins R v (emptyMargins lent) s s′ g g′) h p

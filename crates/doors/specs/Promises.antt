@@ -15,6 +15,8 @@ use Rattle.planner.specs.Promises.{success, refusal, OfFile, Judged, MarginsOf,
 use Rattle.catalogue.specs.Building.{Others, others, Built}
 use Rattle.possible.specs.Promises.{PossibleOf}
 use Rattle.mend.specs.Promises.{Lent, lending, MendOf}
+use Rattle.stepper.specs.Promises.{StepsOf}
+use Rattle.sheet.specs.Promises.{ImportedDevices, ImportedJobs, ExportedDevices, ExportedJobs, ExportedPlan}
 use Rattle.calls.specs.Calls.{blank}
 use Rattle.table_bytes.specs.TableBytes.{AreTables, tablesFrom, tableBytes}
 use Rattle.doorway.specs.Doors.{Door, Roomy, Paired, startsOf, Spelled, twos, fours}
@@ -30,11 +32,11 @@ abbrev pub complement : ℤ → ℕ
 complement (pos n) = n
 complement (negsuc n) = 4294967296 - suc n
 
-abbrev pub empty : List ℕ → List ℤ
-empty lent = replicate (length lent / 4) (pos 0)
+abbrev pub emptyMargins : List ℕ → List ℤ
+emptyMargins lent = replicate (length lent / 4) (pos 0)
 
 abbrev pub MarginsSpelled : (starts lent : List ℕ) → Recorder → Answer → List ℕ → Type 0
-MarginsSpelled starts lent R = Spelled lent (λ a m. fours (λ j. complement (getD m j (pos 0))) (jobs R) lent) (MarginsOf starts (empty lent) R)
+MarginsSpelled starts lent R = Spelled lent (λ a m. fours (λ j. complement (getD m j (pos 0))) (jobs R) lent) (MarginsOf starts (emptyMargins lent) R)
 
 abbrev pub MarginsDoor : (file starts lent result : List ℕ) → ℕ → List ℕ → List ℕ → Type 0
 MarginsDoor file starts lent result n lent′ result′ =
@@ -87,3 +89,33 @@ pub data TablesTold (file lent : List ℕ) : Answer → List ℕ → Type 0 wher
 
 abbrev pub TablesDoor : (file lent result : List ℕ) → ℕ → List ℕ → List ℕ → Type 0
 TablesDoor file lent result n lent′ result′ = Door (Roomy result) result lent (TablesTold file lent) n result′ lent′
+
+-- ---- `door_step`: four bytes a device
+
+abbrev pub emptyEnergies : List ℕ → List ℕ
+emptyEnergies lent = replicate (length lent / 4) 0
+
+abbrev pub StepsSpelled : (file starts lent : List ℕ) → Recorder → Answer → List ℕ → Type 0
+StepsSpelled file starts lent R = Spelled lent (λ a e. fours (λ k. getD e k 0) (R .devices .count) lent) (StepsOf file starts (emptyEnergies lent) R)
+
+abbrev pub StepDoor : (file starts lent result : List ℕ) → ℕ → List ℕ → List ℕ → Type 0
+StepDoor file starts lent result n lent′ result′ =
+    Door (Paired starts × Roomy result) result lent (OfFile file lent (StepsSpelled file (startsOf starts) lent)) n result′ lent′
+
+-- ---- the doors to the sheets
+
+abbrev pub ImportDevicesDoor : (text lent result : List ℕ) → ℕ → List ℕ → List ℕ → Type 0
+ImportDevicesDoor text lent result n lent′ result′ = Door (Roomy result) result lent (ImportedDevices text lent) n result′ lent′
+
+abbrev pub ImportJobsDoor : (text lent result : List ℕ) → ℕ → List ℕ → List ℕ → Type 0
+ImportJobsDoor text lent result n lent′ result′ = Door (Roomy result) result lent (ImportedJobs text lent) n result′ lent′
+
+abbrev pub ExportDevicesDoor : (catalogue lent result : List ℕ) → ℕ → List ℕ → List ℕ → Type 0
+ExportDevicesDoor catalogue lent result n lent′ result′ = Door (Roomy result) result lent (ExportedDevices catalogue lent) n result′ lent′
+
+abbrev pub ExportJobsDoor : (records lent result : List ℕ) → ℕ → List ℕ → List ℕ → Type 0
+ExportJobsDoor records lent result n lent′ result′ = Door (Roomy result) result lent (ExportedJobs records lent) n result′ lent′
+
+abbrev pub ExportPlanDoor : (file starts lent result : List ℕ) → ℕ → List ℕ → List ℕ → Type 0
+ExportPlanDoor file starts lent result n lent′ result′ =
+    Door (Paired starts × Roomy result) result lent (ExportedPlan file (startsOf starts) lent) n result′ lent′

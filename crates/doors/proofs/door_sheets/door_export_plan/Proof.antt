@@ -1,4 +1,4 @@
--- `doors_steps::door_step` meets its contract.
+-- `doors::door_sheets::door_export_plan` meets its contract.
 -- Assumes nothing.
 use mathlib.Core.Path.{sym}
 use mathlib.Core.List.{List}
@@ -9,11 +9,11 @@ use lib.Seq.{length-take-le}
 use Rattle.calls.proofs.Crossing.{own-room}
 use Rattle.doorway.specs.Doors.{shut, answered}
 use Rattle.doorway.proofs.Opening.{handed-own}
-use Rattle.doors_steps.proofs.Rooms.{steps-all}
+use Rattle.doors.proofs.Planning.{plan-all}
 use borrow.Author.Tests.{not-true, not-false}
 use borrow.Author.Needs.{needs}
-use Rattle.doors_steps.proofs.door_step.Statement.{statement}
-use Rattle.doors_steps.proofs.door_step.Tie as tie
+use Rattle.doors.proofs.door_sheets.door_export_plan.Statement.{statement}
+use Rattle.doors.proofs.door_sheets.door_export_plan.Tie as tie
 
 -- What the list of start times holds before any is read.
 abbrev zeros : List ℕ
@@ -29,7 +29,7 @@ handed-requires : tie.Need-handed-requires
 handed-requires c κs = search needs
 
 array-borrow-prefix-own : tie.Need-array-borrow-prefix-own
-array-borrow-prefix-own c = omega (arith, c .handed .ensures)
+array-borrow-prefix-own c = search needs
 
 slice-aggregate-get-starts : tie.Need-slice-aggregate-get-starts
 slice-aggregate-get-starts c = sym (length-take-le _ _ (omega (arith, c .before .handed .ensures)))
@@ -40,11 +40,11 @@ get-starts-requires c κs = rw (length-take-le (c .before .handed .result) zeros
 array-share-prefix-own : tie.Need-array-share-prefix-own
 array-share-prefix-own c = own-room (c .before .before .before .before .before .before .before .before .before .before .args .starts .now) zeros (c .before .get-starts .last .1 .0) (c .before .before .before .handed .result) (omega (arith, c .before .before .before .handed .ensures)) (c .before .get-starts .ensures)
 
-slice-aggregate-step-bytes : tie.Need-slice-aggregate-step-bytes
-slice-aggregate-step-bytes c = sym (length-take-le _ _ (own-room (c .before .before .before .before .before .before .before .before .before .before .before .args .starts .now) zeros (c .before .before .get-starts .last .1 .0) (c .before .before .before .before .handed .result) (omega (arith, c .before .before .before .before .handed .ensures)) (c .before .before .get-starts .ensures)))
+slice-aggregate-export-plan : tie.Need-slice-aggregate-export-plan
+slice-aggregate-export-plan c = sym (length-take-le _ _ (array-share-prefix-own (c .before)))
 
-step-bytes-requires : tie.Need-step-bytes-requires
-step-bytes-requires c κs = search needs
+export-plan-requires : tie.Need-export-plan-requires
+export-plan-requires c κs = search needs
 
 tell-requires : tie.Need-tell-requires
 tell-requires c κs = search needs
@@ -63,10 +63,10 @@ returns-2 c =
     let starts = c .before .before .before .before .before .before .before .before .before .before .get-starts in
     rw (told .0, told .1)
     (answered (c .before .before .before .before .before .before .before .before .before .before .before .before .before .before .is-open .ensures .0 (not-false _ (c .before .before .before .before .before .before .before .before .before .before .before .before .before .if1 .left)))
-    (steps-all (s .file .now) (s .out .now) (handed-own (s .starts .now) zeros (starts .last .1 .0) (n .result) (omega (arith, n .ensures)) (n .ensures) (starts .ensures)) (c .before .before .before .before .before .before .step-bytes .ensures)))
+    (plan-all (s .file .now) (s .out .now) (handed-own (s .starts .now) zeros (starts .last .1 .0) (n .result) (omega (arith, n .ensures)) (n .ensures) (starts .ensures)) (c .before .before .before .before .before .before .export-plan .ensures)))
 
-pub door-step-spec : {M : Type 1} → statement M
-door-step-spec =
+pub door-export-plan-spec : {M : Type 1} → statement M
+door-export-plan-spec =
     tie.close
     (tie.spec
     is-open-requires
@@ -76,8 +76,8 @@ door-step-spec =
     slice-aggregate-get-starts
     get-starts-requires
     array-share-prefix-own
-    slice-aggregate-step-bytes
-    step-bytes-requires
+    slice-aggregate-export-plan
+    export-plan-requires
     tell-requires
     same-length
     same-length-2

@@ -1,6 +1,5 @@
-// Doors to the sheets, with bytes in and out, for the tests and the command line. A door answers 255, and does nothing, for an odd list of start times or a
-// result buffer under 11 bytes; else it tells every answer, a refusal too. include/doors.h declares them; specs/Promises.antt says for each the complete outcome.
-ghost use Rattle.doors_sheets.specs.Promises.{ImportDevicesDoor, ImportJobsDoor, ExportDevicesDoor, ExportJobsDoor, ExportPlanDoor};
+// The doors to the sheets.
+ghost use Rattle.doors.specs.Promises.{ImportDevicesDoor, ImportJobsDoor, ExportDevicesDoor, ExportJobsDoor, ExportPlanDoor};
 use calls::RESULT;
 use calls::get_starts;
 use calls::tell;

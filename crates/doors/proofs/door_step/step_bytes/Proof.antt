@@ -1,4 +1,4 @@
--- `doors_steps::step_bytes` meets its contract.
+-- `doors::door_step::step_bytes` meets its contract.
 -- Assumes nothing.
 use mathlib.Core.Path.{_≡_, sym, _∙_}
 use mathlib.Core.List.{List}
@@ -12,11 +12,11 @@ use Rattle.stepper.specs.Promises.{StepsOf}
 use Rattle.calls.proofs.Crossing.{front-room, outcome-of}
 use Rattle.doorway.proofs.Opening.{success-read, kept-places}
 use Rattle.doorway.proofs.Fours.{fours-front}
-use Rattle.doors_steps.specs.Promises.{StepsSpelled}
-use Rattle.doors_steps.proofs.Rooms.{steps-room, steps-kept, steps-given}
+use Rattle.doors.specs.Promises.{StepsSpelled}
+use Rattle.doors.proofs.Stepping.{steps-room, steps-kept, steps-given}
 use borrow.Author.Needs.{needs}
-use Rattle.doors_steps.proofs.step_bytes.Statement.{statement}
-use Rattle.doors_steps.proofs.step_bytes.Tie as tie
+use Rattle.doors.proofs.door_step.step_bytes.Statement.{statement}
+use Rattle.doors.proofs.door_step.step_bytes.Tie as tie
 
 -- What the list of energies holds before any is written.
 abbrev zeros : List ℕ

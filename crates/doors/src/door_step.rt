@@ -1,12 +1,10 @@
-// The door to stepping through a round, with bytes in and out, for the tests: two a start, four an energy. It answers 255, and does nothing, for an odd list of
-// start times or a result buffer under 11 bytes; else it tells every answer, a refusal too. include/doors.h declares it; specs/Promises.antt says its complete
-// outcome.
+// The door to stepping through a round: two bytes a start, four an energy.
 ghost use mathlib.Core.Path.{_≡_};
 ghost use Prim.Native.Nat.{_*_, _≤_};
 ghost use lib.ListN.{length, getD};
 ghost use Rattle.planner.specs.Promises.{OfFile};
 ghost use Rattle.doorway.specs.Doors.{fours};
-ghost use Rattle.doors_steps.specs.Promises.{StepsSpelled, StepDoor};
+ghost use Rattle.doors.specs.Promises.{StepsSpelled, StepDoor};
 use calls::get_starts;
 use calls::put;
 use calls::tell;

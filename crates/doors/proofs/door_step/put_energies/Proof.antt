@@ -1,4 +1,4 @@
--- `doors_steps::put_energies` meets its contract.
+-- `doors::door_step::put_energies` meets its contract.
 -- Assumes nothing.
 use mathlib.Core.Path.{_≡_, ap, _∙_}
 use Prim.Native.Nat.{ℕ, _≤_, _-_, _+_, _*_}
@@ -10,8 +10,8 @@ use Rattle.calls.specs.Bytes.{big}
 use Rattle.doorway.specs.Doors.{fours}
 use Rattle.doorway.proofs.Fours.{fours-none, fours-more}
 use borrow.Author.Needs.{needs}
-use Rattle.doors_steps.proofs.put_energies.Statement.{statement}
-use Rattle.doors_steps.proofs.put_energies.Tie as tie
+use Rattle.doors.proofs.door_step.put_energies.Statement.{statement}
+use Rattle.doors.proofs.door_step.put_energies.Tie as tie
 
 abbrev Inv-loop : tie.InvT-loop
 Inv-loop energies out₀ k₀ out k = (k ≤ length energies) × Filled out₀ (k * 4) (joined (λ i. big 4 (getD energies i 0)) k) out

@@ -18,7 +18,7 @@ use Rattle.stepper.specs.Promises as S
 use Rattle.doorway.specs.Doors.{kept, given, fours}
 use Rattle.doorway.proofs.Opening.{Handed, spelled-all}
 use Rattle.doorway.proofs.Fours.{fours-same}
-use Rattle.doors_steps.specs.Promises.{empty, StepsSpelled}
+use Rattle.doors.specs.Promises.{emptyEnergies, StepsSpelled}
 
 module _ (file starts lent : List ℕ) (R : Recorder) (few : R .devices .count ≤ 8) (own : List ℕ) (fits : length own ≡ min (length lent / 4) 8) where
   pub steps-room : {a : Answer} {after : List ℕ} → a .number ≡ 0 → StepsOf file starts own R a after
@@ -51,8 +51,8 @@ module _ (file starts lent : List ℕ) (R : Recorder) (few : R .devices .count �
       let m = upTo (λ k. spent R k starts) n in
       let front : (l : List ℕ) (k : ℕ) → k < n → getD (m ++ l) k 0 ≡ getD m k 0 =
       λ l k i. List·getD-append m l 0 k (omega (arith, i, length-upTo (λ k. spent R k starts) n)) in
-      let same = fours-same (λ k. getD (m ++ drop n (empty lent)) k 0) (λ k. getD (m ++ drop n own) k 0) n
-      (λ k i. front (drop n (empty lent)) k i ∙ sym (front (drop n own) k i)) in
+      let same = fours-same (λ k. getD (m ++ drop n (emptyEnergies lent)) k 0) (λ k. getD (m ++ drop n own) k 0) n
+      (λ k i. front (drop n (emptyEnergies lent)) k i ∙ sym (front (drop n own) k i)) in
       subst (λ (x : List ℕ). StepsSpelled file starts lent R a (x ++ drop (n * 4) lent)) same
       (given z (S.StepsOf.stepped (rw length-replicate (omega arith)) g u b))
 
@@ -69,5 +69,5 @@ many-steps file lent R v s s′ h h′ (S.StepsOf.stepped r g u b) = absurd (ome
 pub steps-all : (file lent : List ℕ) {all some : List ℕ} → Handed all some
     → {a : Answer} {l : List ℕ} → OfFile file lent (StepsSpelled file some lent) a l → OfFile file lent (StepsSpelled file all lent) a l
 steps-all file lent h p =
-    spelled-all file lent (λ R a e. fours (λ k. getD e k 0) (R .devices .count) lent) (λ s. StepsOf file s (empty lent))
-    (λ R v s s′ g g′ a m. many-steps file (empty lent) R v s s′ g g′) h p
+    spelled-all file lent (λ R a e. fours (λ k. getD e k 0) (R .devices .count) lent) (λ s. StepsOf file s (emptyEnergies lent))
+    (λ R v s s′ g g′ a m. many-steps file (emptyEnergies lent) R v s s′ g g′) h p
