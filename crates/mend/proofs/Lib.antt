@@ -1,7 +1,6 @@
 pub mod Order
 pub mod Queue
 pub mod Outcome
-pub mod Finding
 pub mod Standing
 pub mod Moves
 pub mod Only

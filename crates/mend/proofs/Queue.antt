@@ -20,7 +20,8 @@ use Rattle.schedule.specs.Listing.{start, InTime, soonest}
 use Rattle.schedule.proofs.Runs.{soonest-in}
 use Rattle.mend.specs.Mending.{Ahead}
 use Rattle.mend.specs.Settling.{latest, settle, lateOf}
-use Rattle.mend.proofs.Order.{ahead-one-way, first-ahead, soonest-first}
+use Rattle.schedule.proofs.Leading.{soonest-first}
+use Rattle.mend.proofs.Order.{ahead-one-way, first-ahead}
 
 -- The jobs that wait, each once and by number, and room for their starts.
 pub record Waiting (m : ℕ) (u s : List ℕ) : Type 0 where

@@ -1,26 +1,23 @@
 -- Where the queue stands between two turns: what the code holds, and what is still to come.
--- Assumes nothing.
-use mathlib.Core.Path.{_≡_, refl, sym, ap, _∙_, subst}
-use mathlib.Core.Bool.{Bool, true, false, true≢false}
+use mathlib.Core.Path.{_≡_, refl, sym, ap, _∙_}
+use mathlib.Core.Bool.{true, false}
 use mathlib.Core.Option.{none, some}
 use mathlib.Core.List.{List, [], _∷_, _++_}
-use mathlib.Core.Logic.{inl, by-cases}
 use Prim.Native.Nat.{ℕ, zero, suc, _+_, _-_, _≤_, _<_}
-use native.Mathlib.Decide.{ℕ-discrete}
+use native.Mathlib.Numerals.{add-one}
 use native.Mathlib.Omega.{arith}
 use lib.Dec.{ltb}
-use lib.ListN.{length, set, replicate, length-set, length-replicate, replicate-append-replicate}
-use lib.Seq.{getD-set-same, getD-set-other, set-append-left}
+use lib.ListN.{length, drop, set, replicate, length-set, length-replicate, replicate-append-replicate}
+use lib.Seq.{drop-cons, set-append-left}
 use borrow.Author.Tests.{ltb-false}
 use Rattle.base.specs.Lists.{In, padded, upFrom, remove}
-use Rattle.base.proofs.Arrays.{getD-padded}
-use Rattle.base.proofs.Numbers.{up-in, up-rising, length-up, remove-in, in-remove, not-in-remove}
+use Rattle.base.proofs.Numbers.{up-rising, length-up, in-remove}
 use Rattle.schedule.specs.declared.Recorder.{Recorder}
 use Rattle.schedule.specs.Quantities.{jobs, deadline, run, Valid}
-use Rattle.schedule.specs.Listing.{soonest}
+use Rattle.schedule.specs.Listing.{start, Place, place, soonest, ordered, running}
 use Rattle.schedule.proofs.Runs.{soonest-in, all-known}
-use Rattle.mend.specs.Settling.{latest, settle, lateOf, mended, firstLate, Waits, Next}
-use Rattle.mend.proofs.Order.{first-one, soonest-first}
+use Rattle.schedule.proofs.InOrder.{nth, running-length}
+use Rattle.mend.specs.Settling.{latest, settle, lateOf, mended, firstLate}
 use Rattle.mend.proofs.Queue.{Waiting, waiting-less, settle-length}
 
 module _ (R : Recorder) (given : List ℕ) where
@@ -56,28 +53,32 @@ module _ (R : Recorder) (given : List ℕ) where
 
   -- ---- between two turns
 
-  -- The jobs u, `left` in number, wait; the last job that has its place ends at `end`, and `starts` has the starts of all that have theirs.
-  pub record Queued (placed : List Bool) (starts : List ℕ) (end left : ℕ) (u : List ℕ) : Type 0 where
+  -- The jobs u, `left` in number, wait, after the `done` first of the running order; the last job that has its place ends at `end`, and `starts` has the starts
+  -- of all that have theirs.
+  pub record Queued (starts : List ℕ) (end done left : ℕ) (u : List ℕ) : Type 0 where
     pub waiting : Waiting left u starts
     pub known : (j : ℕ) → In j u → j < jobs R
-    pub waits : (j : ℕ) → In j u → Waits placed j
-    pub all : (j : ℕ) → j < jobs R → Waits placed j → In j u
-    pub flags : length placed ≡ 16
+    pub all : done + left ≡ jobs R
+    pub order : drop done (running R given) ≡ ordered left given u
     pub within : end ≤ R .horizon
     pub same-starts : settle R given left end u starts ≡ held
     pub same-late : lateOf R given left end u ≡ firstLate R given
 
-  abbrev pub Stands : List Bool → List ℕ → ℕ → ℕ → Type 0
-  Stands placed starts end left = (u : List ℕ) × Queued placed starts end left u
+  abbrev pub Stands : List ℕ → ℕ → ℕ → Type 0
+  Stands starts end done = (left : ℕ) × (u : List ℕ) × Queued starts end done left u
+
+  -- What the turn of job j comes to, late or in time.
+  pub record Turn (starts : List ℕ) (end done j : ℕ) : Type 0 where
+    pub known : j < jobs R
+    pub late : ltb (deadline R j) (latest R given end j + run R j) ≡ true → firstLate R given ≡ some j
+    pub more : ltb (deadline R j) (latest R given end j + run R j) ≡ false
+        → Stands (set starts j (latest R given end j)) (latest R given end j + run R j) (done + 1)
 
   module _ (valid : Valid R) where
     -- No job has its place yet.
-    none-placed : (j : ℕ) → Waits (replicate 16 false) j
-    unfolding padded
-    none-placed j = getD-padded 16 false [] j
-
-    pub stands-first : Stands (replicate 16 false) (replicate 16 0) 0 (jobs R)
+    pub stands-first : Stands (replicate 16 0) 0 0
     stands-first = (
+      jobs R,
       upFrom 0 (jobs R),
       record {
         waiting = record {
@@ -86,77 +87,63 @@ module _ (R : Recorder) (given : List ℕ) where
           room = λ j h. rw (length-replicate {A = ℕ} 16 0) (omega (arith, all-known R j h, valid .few-jobs));
         };
         known = all-known R;
-        waits = λ j h. none-placed j;
-        all = λ j l q. up-in 0 (jobs R) j (omega arith) (omega arith);
-        flags = length-replicate 16 false;
+        all = omega arith;
+        order = refl;
         within = omega arith;
         same-starts = refl;
         same-late = refl;
       },
     )
 
-    module _ (placed : List Bool) (starts : List ℕ) (end : ℕ) where
-      -- The job that was found is the first of the queue.
-      module _ (m i : ℕ) (u : List ℕ) (st : Queued placed starts end (suc m) (i ∷ u)) (j : ℕ) (next : Next given placed (jobs R) j) where
-        found : j ≡ soonest given i u
-        found =
-            let k = soonest given i u in
-            let k-in = soonest-in given i u in
-            let n = next k (st .known k k-in) (st .waits k k-in) in
-            first-one given j k (n .2) (soonest-first given i u 0 (st .waiting .rising) j (st .all j (n .0) (n .1)))
+    module _ (starts : List ℕ) (end done : ℕ) where
+      -- The next job of the running order is the first of the queue.
+      module _ (m i : ℕ) (u : List ℕ) (st : Queued starts end done (suc m) (i ∷ u)) where
+        places : nth (running R given) done ∷ drop (suc done) (running R given)
+            ≡ place (soonest given i u) (start given (soonest given i u)) ∷ ordered m given (remove (soonest given i u) (i ∷ u))
+        unfolding ordered
+        places = sym (drop-cons (running R given) done (place 0 0) (omega (arith, running-length R given, st .all))) ∙ st .order
 
-        found-known : j < jobs R
-        found-known = next i (st .known i (inl refl)) (st .waits i (inl refl)) .0
+        module _ (j : ℕ) (next : j ≡ nth (running R given) done .job) where
+          found : j ≡ soonest given i u
+          found = next ∙ ap (λ (l : List Place). nth l 0 .job) places
 
-        found-late : ltb (deadline R j) (latest R given end j + run R j) ≡ true → firstLate R given ≡ some j
-        unfolding lateOf
-        found-late e = sym (st .same-late) ∙ rw (← found, e)
+          found-known : j < jobs R
+          found-known = rw found (st .known (soonest given i u) (soonest-in given i u))
 
-        found-more :
-            ltb (deadline R j) (latest R given end j + run R j) ≡ false
-            → Queued (set placed j true) (set starts j (latest R given end j)) (latest R given end j + run R j) m (remove j (i ∷ u))
-        unfolding settle lateOf
-        found-more e =
-            let x = latest R given end j in
-            let v = i ∷ u in
-            let w : Waiting m (remove j v) (set starts j x) = rw found (waiting-less R given (latest R given end (soonest given i u)) (st .waiting)) in
-            record {
-              waiting = w;
-              known = λ k h. st .known k (in-remove j k v h);
-              waits = λ k h. getD-set-other placed j k true false
-                  (λ q. not-in-remove j v 0 (st .waiting .rising) (subst (λ y. In y (remove j v)) q h)) ∙ st .waits k (in-remove j k v h);
-              all = λ k l q. by-cases (ℕ-discrete k j)
-                  (λ z. absurd (true≢false (sym (getD-set-same placed j true false (omega (arith, found-known, st .flags, valid .few-jobs))) ∙ rw z at q)))
-                  (λ ne. remove-in j k v (st .all k l (sym (getD-set-other placed j k true false ne) ∙ q)) ne);
-              flags = length-set placed j true ∙ st .flags;
-              within = omega (arith, ltb-false (deadline R j) (x + run R j) e, valid .ends j found-known);
-              same-starts = rw (← found) at (st .same-starts);
-              same-late = rw (← found, e) at (st .same-late);
-            }
+          found-late : ltb (deadline R j) (latest R given end j + run R j) ≡ true → firstLate R given ≡ some j
+          unfolding lateOf
+          found-late e = sym (st .same-late) ∙ rw (← found, e)
 
-      -- What the turn of job j comes to, late or in time.
-      pub record Turn (left j : ℕ) : Type 0 where
-        pub known : j < jobs R
-        pub late : ltb (deadline R j) (latest R given end j + run R j) ≡ true → firstLate R given ≡ some j
-        pub more : ltb (deadline R j) (latest R given end j + run R j) ≡ false
-            → Stands (set placed j true) (set starts j (latest R given end j)) (latest R given end j + run R j) (left - 1)
-
-      pub turn : (left : ℕ) → Stands placed starts end left → 0 < left → (j : ℕ) → Next given placed (jobs R) j → Turn left j
-      turn left st some-left j next = go left some-left (st .0) (st .1)
-        where
-          go : (l : ℕ) → 0 < l → (u : List ℕ) → Queued placed starts end l u → Turn l j
-          go zero p u q = absurd (omega arith)
-          go (suc m) p [] q = absurd (omega (arith, q .waiting .number))
-          go (suc m) p (i ∷ u) q =
-              let less : suc m - 1 ≡ m = omega arith in
+          found-more :
+              ltb (deadline R j) (latest R given end j + run R j) ≡ false
+              → Queued (set starts j (latest R given end j)) (latest R given end j + run R j) (done + 1) m (remove j (i ∷ u))
+          unfolding settle lateOf
+          found-more e =
+              let x = latest R given end j in
+              let v = i ∷ u in
+              let w : Waiting m (remove j v) (set starts j x) = rw found (waiting-less R given (latest R given end (soonest given i u)) (st .waiting)) in
               record {
-                known = found-known m i u q j next;
-                late = found-late m i u q j next;
-                more = λ e. rw less (remove j (i ∷ u), found-more m i u q j next e);
+                waiting = w;
+                known = λ k h. st .known k (in-remove j k v h);
+                all = omega (arith, st .all);
+                order = rw (add-one done, found) (ap (drop 1) places);
+                within = omega (arith, ltb-false (deadline R j) (x + run R j) e, valid .ends j found-known);
+                same-starts = rw (← found) at (st .same-starts);
+                same-late = rw (← found, e) at (st .same-late);
               }
 
+      pub turn : Stands starts end done → done < jobs R → (j : ℕ) → j ≡ nth (running R given) done .job → Turn starts end done j
+      turn (zero, u, q) some-left j next = absurd (omega (arith, q .all))
+      turn (suc m, [], q) some-left j next = absurd (omega (arith, q .waiting .number))
+      turn (suc m, i ∷ u, q) some-left j next =
+          record {
+            known = found-known m i u q j next;
+            late = found-late m i u q j next;
+            more = λ e. (m, remove j (i ∷ u), found-more m i u q j next e);
+          }
+
       -- No job is left.
-      pub stands-last : (left : ℕ) → Stands placed starts end left → left ≤ 0 → (firstLate R given ≡ none) × (starts ≡ padded 16 0 (mended R given))
+      pub stands-last : Stands starts end done → jobs R ≤ done → (firstLate R given ≡ none) × (starts ≡ padded 16 0 (mended R given))
       unfolding settle lateOf
-      stands-last zero st l = (sym (st .1 .same-late), st .1 .same-starts ∙ held-padded (valid .few-jobs))
-      stands-last (suc m) st l = absurd (omega arith)
+      stands-last (zero, u, q) l = (sym (q .same-late), q .same-starts ∙ held-padded (valid .few-jobs))
+      stands-last (suc m, u, q) l = absurd (omega (arith, q .all))

@@ -1,24 +1,18 @@
 -- How the mended schedule is found: the jobs take their places one after the other, in the order of their given starts (rule 67). Contracts inside the crate
 -- speak of it; the promise does not.
 -- Assumes nothing.
-use mathlib.Core.Path.{_≡_}
-use mathlib.Core.Bool.{Bool, true, false, cond}
+use mathlib.Core.Bool.{true, false, cond}
 use mathlib.Core.Option.{Option, none, some}
 use mathlib.Core.List.{List, [], _∷_}
-use mathlib.Core.Logic.{_⊎_}
-use Prim.Native.Nat.{ℕ, zero, suc, _+_, _≤_, _<_, max}
+use Prim.Native.Nat.{ℕ, zero, suc, _+_, max}
 use lib.Dec.{ltb}
-use lib.ListN.{set, getD, replicate}
+use lib.ListN.{set, replicate}
 use Rattle.base.specs.Lists.{padded, upFrom, remove}
 use Rattle.schedule.specs.declared.Recorder.{Recorder}
 use Rattle.schedule.specs.Quantities.{jobs, release, deadline, run}
 use Rattle.schedule.specs.Listing.{start, soonest}
 use Rattle.mend.specs.declared.settling.Settled.{Settled}
 use Rattle.mend.specs.Mending.{Mends, ComesOut, FirstLate}
-
--- Job i comes before job j in the order of the starts, or is job j.
-abbrev pub First : List ℕ → ℕ → ℕ → Type 0
-First s i j = (start s i < start s j) ⊎ ((start s i ≡ start s j) × (i ≤ j))
 
 module _ (R : Recorder) (given : List ℕ) where
   -- Where job j takes its place, when the job before it ends at t.
@@ -46,14 +40,6 @@ module _ (R : Recorder) (given : List ℕ) where
 
   abbrev pub firstLate : Option ℕ
   firstLate = lateOf (jobs R) 0 (upFrom 0 (jobs R))
-
--- Job j has no place yet.
-abbrev pub Waits : List Bool → ℕ → Type 0
-Waits placed j = getD placed j false ≡ false
-
--- Of the first n jobs that wait, if any does, job j comes first.
-abbrev pub Next : List ℕ → List Bool → ℕ → ℕ → Type 0
-Next given placed n j = (i : ℕ) → i < n → Waits placed i → (j < n) × Waits placed j × First given j i
 
 -- What `settle` of the code gives: the mended schedule, in an array, or the first late job.
 pub data Settles (R : Recorder) (given : List ℕ) : Settled → Type 0 where

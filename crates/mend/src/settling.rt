@@ -1,13 +1,13 @@
 // Where the jobs come out: one after the other in the order of their given starts, each as soon as it may.
 ghost use mathlib.Core.Path.{_≡_};
-ghost use mathlib.Core.Bool.{false, cond};
-ghost use Prim.Native.Nat.{_+_, _≤_, _<_, max};
+ghost use Prim.Native.Nat.{_+_, max};
 ghost use lib.Dec.{ltb};
 ghost use lib.ListN.{length};
 ghost use Rattle.schedule.specs.Quantities.{jobs, Valid};
-ghost use Rattle.mend.specs.Settling.{Next, Settles};
+ghost use Rattle.mend.specs.Settling.{Settles};
 use base::JobNumber;
 use schedule::Recorder;
+use schedule::running_order;
 
 // The starts by job number where all jobs come out in time; or the first job that comes out late.
 pub struct Settled {
@@ -39,47 +39,18 @@ fn is_late(deadline: u16, start: u16, run: u16) -> bool
     (deadline as u32) < start as u32 + run as u32
 }
 
-// Whether a job has no place yet and starts before `least`.
-fn leads(placed: bool, start: u16, least: u32) -> bool
-    ensures { λ r. ⌜ r ≡ cond placed false (ltb start least) ⌝ }
-{
-    if placed {
-        return false;
-    }
-    (start as u32) < least
-}
-
-// The job that has no place yet and comes first of these, by its given start and then by its number.
-fn next_job(given: &[u16], placed: [bool; 16]) -> JobNumber
-    requires { ⌜ length (now given) ≤ 16 ⌝ }
-    ensures { λ j. ⌜ Next (now (given .entry)) placed (length (now (given .entry))) (j .0) ⌝ }
-{
-    let mut next = 0;
-    // Above every start of 16 bits.
-    let mut least = 65536u32;
-    let mut j = 0;
-    while j < given.len() {
-        if leads(placed[j], given[j], least) {
-            next = j;
-            least = given[j] as u32;
-        }
-        j += 1;
-    }
-    JobNumber(next)
-}
-
 // Every job in turn, till one comes out late. Up to there all ends lie within the horizon.
 pub fn settle(r: Recorder, given: &[u16]) -> Settled
     requires { ⌜ Valid r × (length (now given) ≡ jobs r) ⌝ }
     ensures { λ x. ⌜ Settles r (now (given .entry)) x ⌝ }
 {
     let jobs = r.jobs;
-    let mut placed = [false; 16];
+    let order = running_order(given);
     let mut starts = [0u16; 16];
     let mut end = 0u16;
     let mut done = 0;
     while done < r.jobs.count {
-        let next = next_job(given, placed);
+        let next = order[done];
         let j = next.0;
         let job = jobs.list[j];
         let start = latest(given[j], job.release, end);
@@ -90,7 +61,6 @@ pub fn settle(r: Recorder, given: &[u16]) -> Settled
                 starts,
             };
         }
-        placed[j] = true;
         starts[j] = start;
         end = start + job.run;
         done += 1;

@@ -191,7 +191,7 @@ module _ (R : Recorder) (k : ℕ) where
       (used-ordered m s (remove j (i ∷ u)) (omega (arith, length-remove j (i ∷ u) i′)) t)
       ∙ sym (used-first s j (i ∷ u) i′ t)
 
-  used-running : (s : List ℕ) (t : ℕ) → used R k (places R s) t ≡ used R k (running R s) t
+  pub used-running : (s : List ℕ) (t : ℕ) → used R k (places R s) t ≡ used R k (running R s) t
   used-running s t =
       ap (λ (r : List Place). used R k r t) (upTo-map (λ j. place j (start s j)) (jobs R))
       ∙ sym (used-ordered (jobs R) s (upFrom 0 (jobs R)) (length-up 0 (jobs R)) t)

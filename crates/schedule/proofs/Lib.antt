@@ -10,6 +10,8 @@ pub mod Bounds
 pub mod Outcome
 pub mod Judgements
 pub mod Signs
+pub mod Leading
+pub mod InOrder
 pub mod Usage
 pub mod Summing
 pub mod Laying

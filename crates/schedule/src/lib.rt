@@ -3,15 +3,16 @@ use device::Device;
 
 mod judging; // judging.rt: the first fault of start times
 mod margins; // margins.rt: the margins of start times
+mod ordering; // ordering.rt: the jobs in running order
 mod rows; // rows.rt: the rows of a plan and its energy
 mod using; // using.rt: the uses of one device, in running order
 
 pub use crate::judging::Verdict;
 pub use crate::judging::judge;
 pub use crate::margins::write_margins;
+pub use crate::ordering::running_order;
 pub use crate::rows::plan_energy;
 pub use crate::rows::write_rows;
-pub use crate::using::lies_between;
 
 // A job: release, deadline, running time, and for each device whether the job uses it.
 pub struct Job {

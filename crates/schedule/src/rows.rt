@@ -7,6 +7,7 @@ ghost use Rattle.schedule.specs.Quantities.{Valid};
 ghost use Rattle.schedule.specs.Listing.{Feasible, laid};
 ghost use Rattle.schedule.specs.Visiting.{planEnergy, planRow};
 use crate::Recorder;
+use crate::ordering::running_order;
 use crate::using::uses_of;
 use device::energy_of;
 use device::write_row;
@@ -17,28 +18,30 @@ pub fn plan_energy(r: Recorder, starts: &[u16]) -> u32
     ensures { λ e. ⌜ e ≡ planEnergy r (now (starts .entry)) ⌝ }
 {
     let devices = r.devices;
+    let order = running_order(starts);
     let mut sum: u32 = 0;
     let mut k = 0;
     while k < devices.count {
-        let uses = uses_of(r, starts, k);
+        let uses = uses_of(r, starts, order, k);
         sum += energy_of(r.round, devices.list[k], r.horizon, uses);
         k += 1;
     }
     sum
 }
 
-// Writes the plan's rows into the lent bytes, the row of device k from place k * H on, keeps what follows the last row, and gives the plan's energy: the uses
-// of a device are looked for once.
+// Writes the plan's rows into the lent bytes, the row of device k from place k * H on, keeps what follows the last row, and gives the plan's energy. The
+// running order is found once for all devices.
 pub fn write_rows(r: Recorder, starts: &[u16], out: &mut [u8]) -> u32
     requires { ⌜ Valid r × Feasible r (now starts) × (r .devices .count * r .horizon ≤ length (now out)) ⌝ }
     ensures { λ e. ⌜ (e ≡ planEnergy r (now (starts .entry))) × (now (out .exit) ≡ laid (r .digits) (planRow r (now (starts .entry))) (r .devices .count) ++ drop (r .devices .count * r .horizon) (now (out .entry))) ⌝ }
 {
     let devices = r.devices;
     let h = r.horizon as usize;
+    let order = running_order(starts);
     let mut sum: u32 = 0;
     let mut k = 0;
     while k < devices.count {
-        let uses = uses_of(r, starts, k);
+        let uses = uses_of(r, starts, order, k);
         sum += energy_of(r.round, devices.list[k], r.horizon, uses);
         let at = k * h;
         write_row(

@@ -7,21 +7,24 @@ ghost use Rattle.base.specs.Lists.{upTo};
 ghost use Rattle.base.specs.Sums.{sum};
 ghost use Rattle.schedule.specs.Quantities.{Valid};
 ghost use Rattle.schedule.specs.Listing.{Feasible};
+ghost use Rattle.schedule.specs.inside.Ordering.{orderOf};
 ghost use Rattle.steps.specs.Stepping.{spent};
 ghost use Rattle.steps.specs.Running.{steppedBy};
 use crate::ordering::order_of;
+use base::JobNumber;
 use schedule::Recorder;
+use schedule::running_order;
 use steps::Stepper;
 use steps::run;
 
 // Device k over the round: its state at H, and the energy that it has spent.
-fn run_device(r: Recorder, starts: &[u16], k: usize) -> Stepper
-    requires { ⌜ Valid r × Feasible r (now starts) × (k < r .devices .count) ⌝ }
+fn run_device(r: Recorder, starts: &[u16], order: [JobNumber; 16], k: usize) -> Stepper
+    requires { ⌜ Valid r × Feasible r (now starts) × (order ≡ orderOf (now starts)) × (k < r .devices .count) ⌝ }
     ensures { λ x. ⌜ (x ≡ steppedBy r (now (starts .entry)) k) × (x .energy ≤ 65535 * r .horizon) ⌝ }
 {
     let devices = r.devices;
     let d = devices.list[k];
-    let o = order_of(r, starts, k);
+    let o = order_of(r, starts, order, k);
     run(d, r.horizon, o)
 }
 
@@ -32,10 +35,11 @@ pub fn run_devices(r: Recorder, starts: &[u16], out: &mut [u32]) -> u32
         × (now (out .exit) ≡ upTo (λ k. spent r k (now (starts .entry))) (r .devices .count) ++ drop (r .devices .count) (now (out .entry))) ⌝ }
 {
     let devices = r.devices;
+    let order = running_order(starts);
     let mut total: u32 = 0;
     let mut k = 0;
     while k < devices.count {
-        let x = run_device(r, starts, k);
+        let x = run_device(r, starts, order, k);
         let e = x.energy;
         out[k] = e;
         total += e;

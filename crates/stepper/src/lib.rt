@@ -20,7 +20,7 @@ use schedule::judge;
 
 mod devices; // devices.rt: the devices over a round
 mod fitness; // fitness.rt: refusals 25 and 24
-mod ordering; // ordering.rt: the jobs in running order
+mod ordering; // ordering.rt: the jobs in running order, for one device
 
 // The fault of the start times, if there is one, and else that of the recorder, which names no job (rule 96).
 fn first_fault(judged: Verdict, number: u8) -> Verdict

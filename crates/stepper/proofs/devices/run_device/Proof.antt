@@ -19,7 +19,7 @@ order-of-requires c κs = search needs
 run-requires : tie.Need-run-requires
 run-requires c κs =
     let s = c .before .before .before .before in
-    (s .pre .0 .sound (s .args .k) (s .pre .2), running-spaced (s .args .r) (s .pre .0) (s .args .starts .now) (s .pre .1) (s .args .k) (c .order-of .result) (c .order-of .ensures))
+    (s .pre .0 .sound (s .args .k) (s .pre .3), running-spaced (s .args .r) (s .pre .0) (s .args .starts .now) (s .pre .1) (s .args .k) (c .order-of .result) (c .order-of .ensures))
 
 returns : tie.Need-returns
 returns c =
