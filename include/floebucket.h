@@ -23,6 +23,7 @@
 #include <stdint.h>
 
 #define FLOE_RESULT 11
+#define FLOE_SIZES 3
 
 #ifdef __cplusplus
 extern "C" {
@@ -30,6 +31,10 @@ extern "C" {
 
 /* Whether the file is a request, and its horizon. */
 uint8_t floe_check(const uint8_t *file, size_t file_len, uint8_t *result, size_t result_len);
+
+/* How large the request is: `sizes` gets the number of its devices, of its tasks and of its jobs, a byte each, and the horizon is in the result. The jobs are those
+ * that are planned, which tasks release too: so many start times a plan has. `sizes` has at least FLOE_SIZES bytes; what follows stays as it was. */
+uint8_t floe_sizes(const uint8_t *file, size_t file_len, uint8_t *sizes, size_t sizes_len, uint8_t *result, size_t result_len);
 
 /* The plan of least energy: its start times by job number, two bytes each, if the budget covers the vertices of the search. `starts` has at least two bytes
  * for each job; what follows the last job's stays as it was. */

@@ -1,6 +1,6 @@
 //! A request as it is given: a request file, or its text form.
 
-use crate::calls::planner::{self, Refused};
+use crate::calls::planner::{self, Refused, Sizes};
 use crate::failure::Failure;
 use crate::jobs::{jobs, Job};
 use crate::place::File;
@@ -60,6 +60,11 @@ impl Request {
                 Err(refusal::of_file(refused.number, file, Some(&places)))
             }
         }
+    }
+
+    /// The numbers of a request that is accepted.
+    pub fn sizes(&self) -> Result<Sizes, Failure> {
+        planner::sizes(&self.file).map_err(|refused| self.refused(refused))
     }
 
     /// The horizon and the tables of a request that is accepted.

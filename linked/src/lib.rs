@@ -11,6 +11,14 @@ pub const RESULT: usize = 11;
 mod c {
     extern "C" {
         pub fn floe_check(f: *const u8, f_len: usize, r: *mut u8, r_len: usize) -> u8;
+        pub fn floe_sizes(
+            f: *const u8,
+            f_len: usize,
+            o: *mut u8,
+            o_len: usize,
+            r: *mut u8,
+            r_len: usize,
+        ) -> u8;
         pub fn floe_search(
             f: *const u8,
             f_len: usize,
@@ -186,6 +194,19 @@ mod c {
 
 pub fn check(file: &[u8], result: &mut [u8]) -> u8 {
     unsafe { c::floe_check(file.as_ptr(), file.len(), result.as_mut_ptr(), result.len()) }
+}
+
+pub fn sizes(file: &[u8], sizes: &mut [u8], result: &mut [u8]) -> u8 {
+    unsafe {
+        c::floe_sizes(
+            file.as_ptr(),
+            file.len(),
+            sizes.as_mut_ptr(),
+            sizes.len(),
+            result.as_mut_ptr(),
+            result.len(),
+        )
+    }
 }
 
 pub fn search(file: &[u8], budget: u32, starts: &mut [u8], result: &mut [u8]) -> u8 {

@@ -65,6 +65,30 @@ pub fn check(file: &[u8]) -> Answered<usize> {
     Ok(answer(number, &result)?.horizon)
 }
 
+/// How many devices, tasks and jobs a request has, and its horizon. The jobs are those that are planned,
+/// which tasks release too.
+#[derive(Clone, Copy, Debug, PartialEq, Eq)]
+pub struct Sizes {
+    pub horizon: usize,
+    pub devices: usize,
+    pub tasks: usize,
+    pub jobs: usize,
+}
+
+pub fn sizes(file: &[u8]) -> Answered<Sizes> {
+    let mut sizes = [0; 3];
+    let mut result = [0; RESULT];
+    let number = linked::sizes(file, &mut sizes, &mut result);
+    let horizon = answer(number, &result)?.horizon;
+    let [devices, tasks, jobs] = sizes.map(usize::from);
+    Ok(Sizes {
+        horizon,
+        devices,
+        tasks,
+        jobs,
+    })
+}
+
 /// Start times by job number, and how many vertices were counted till they were certain.
 #[derive(Clone, Debug)]
 pub struct Found {
@@ -107,21 +131,9 @@ fn found(file: &[u8], call: impl FnOnce(&mut [u8], &mut [u8]) -> u8) -> Answered
     let number = call(&mut starts, &mut result);
     let success = answer(number, &result)?;
     Ok(Found {
-        starts: numbers(&starts).take(job_count(file)?).collect(),
+        starts: numbers(&starts).take(sizes(file)?.jobs).collect(),
         count: success.count,
     })
-}
-
-/// How many jobs a request has: as many as the start times that it takes.
-pub fn job_count(file: &[u8]) -> Answered<usize> {
-    let mut starts = Vec::new();
-    loop {
-        match margins(file, &starts) {
-            Ok(_) => return Ok(starts.len()),
-            Err(refused) if refused.number == 14 && starts.len() < JOBS => starts.push(0),
-            Err(refused) => return Err(refused),
-        }
-    }
 }
 
 /// The energy of start times that are feasible.
@@ -156,9 +168,10 @@ pub fn rows(file: &[u8], starts: &[u16]) -> Answered<Rows> {
     let mut result = [0; RESULT];
     let number = linked::rows(file, &starts, &mut out, &mut result);
     let success = answer(number, &result)?;
-    let devices = tables(file)?.devices.count;
-    // An accepted request has a horizon of at least 1.
-    let rows = out.chunks(success.horizon.max(1)).take(devices);
+    // An accepted request has a horizon of at least 1. What is written are letters, and beyond the last
+    // row the zeros still stand.
+    let rows = out.chunks(success.horizon.max(1));
+    let rows = rows.take_while(|row| row[0] != 0);
     Ok(Rows {
         energy: success.energy,
         rows: rows.map(<[u8]>::to_vec).collect(),

@@ -1,7 +1,7 @@
 //! check, verdict, rows and mend.
 
 use crate::arguments::Arguments;
-use crate::calls::planner::{self, Rows};
+use crate::calls::planner::{self, Rows, Sizes};
 use crate::failure::Failure;
 use crate::plan::{job_lines, row_lines};
 use crate::request::Request;
@@ -11,9 +11,12 @@ pub fn check(mut arguments: Arguments) -> Result<Vec<u8>, Failure> {
     let path = arguments.next("REQUEST")?;
     arguments.end()?;
     let request = Request::open(&path)?;
-    let (horizon, tables) = request.tables()?;
-    let jobs = planner::job_count(&request.file).map_err(|refused| request.not_found(refused))?;
-    let (devices, tasks) = (tables.devices.count, tables.tasks.count);
+    let Sizes {
+        horizon,
+        devices,
+        tasks,
+        jobs,
+    } = request.sizes()?;
     Ok(format!("horizon {horizon}\ndevices {devices}\ntasks {tasks}\njobs {jobs}\n").into_bytes())
 }
 

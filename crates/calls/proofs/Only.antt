@@ -1,4 +1,4 @@
--- No second outcome satisfies what a call promises: for every input each of the three relations has one number, and one state of every buffer.
+-- No second outcome satisfies what a call promises: for every input each of the four relations has one number, and one state of every buffer.
 -- Assumes nothing.
 use mathlib.Core.Path.{_≡_, refl, sym, ap, _∙_}
 use mathlib.Core.List.{List, _++_}
@@ -7,11 +7,12 @@ use native.Mathlib.Omega.{arith}
 use lib.ListN.{take, drop}
 use Rattle.schedule.specs.declared.Recorder.{Recorder}
 use Rattle.schedule.specs.Quantities.{jobs, Valid}
+use Rattle.tables.specs.Layout.{tablesOf}
 use Rattle.planner.specs.declared.Answer.{Answer}
-use Rattle.planner.specs.Promises.{CheckOf, RowsOf, SearchOf}
-use Rattle.planner.proofs.Only.{only-of-file, one-check, one-rows, one-search}
+use Rattle.planner.specs.Promises.{CheckOf, SizesOf, RowsOf, SearchOf}
+use Rattle.planner.proofs.Only.{only-of-file, one-check, one-sizes, one-rows, one-search}
 use Rattle.calls.specs.Bytes.{spread, startsIn}
-use Rattle.calls.specs.Calls.{told, Roomed, cramped, roomy, Called, called, CheckCallOf, CheckCalled, blank, StartsOf, kept, given, StartsCalled, SearchCalled}
+use Rattle.calls.specs.Calls.{told, Roomed, cramped, roomy, Called, called, CheckCallOf, CheckCalled, SizesCalled, blank, StartsOf, kept, given, StartsCalled, SearchCalled}
 use Rattle.calls.specs.Calls.{RowsCallOf, RowsCalled}
 
 -- The law of every call: what has one outcome for each valid recorder has one for each file and result buffer.
@@ -36,6 +37,13 @@ only-check-called file result p p′ =
     let e = only-called {L = Unit {0}} file result tt (CheckCallOf result)
     (λ R v a a′ u u′. one-roomed {L = Unit {0}} result tt (λ b w. CheckOf R b) (λ b b′ w w′ x x′. (one-check R x x′, refl))) p p′ in
     (e .0, e .1)
+
+pub only-sizes-called : (file lent result : List ℕ) {n n′ : ℕ} {l l′ r r′ : List ℕ}
+    → SizesCalled file lent result n l r → SizesCalled file lent result n′ l′ r′ → (n ≡ n′) × (r ≡ r′) × (l ≡ l′)
+only-sizes-called file lent result =
+    let tasks = tablesOf file .tasks .count in
+    only-called file result lent (λ R a l. Roomed result lent (SizesOf tasks lent R) a l)
+    (λ R v a a′ l l′. one-roomed result lent (SizesOf tasks lent R) (λ b b′ m m′. one-sizes tasks lent R))
 
 -- What is planned is given or kept by the number of its answer.
 one-starts : (Plans : List ℕ → Recorder → Answer → List ℕ → Type 0) (lent : List ℕ) (R : Recorder)

@@ -9,8 +9,9 @@ use lib.Dec.{leb}
 use lib.ListN.{length, take, drop, replicate}
 use Rattle.schedule.specs.declared.Recorder.{Recorder}
 use Rattle.schedule.specs.Quantities.{jobs}
+use Rattle.tables.specs.Layout.{tablesOf}
 use Rattle.planner.specs.declared.Answer.{Answer}
-use Rattle.planner.specs.Promises.{refusal, OfFile, CheckOf, RowsOf, SearchOf}
+use Rattle.planner.specs.Promises.{refusal, OfFile, CheckOf, SizesOf, RowsOf, SearchOf}
 use Rattle.calls.specs.Bytes.{eleven, spread, startsIn}
 
 -- ---- the result buffer
@@ -35,6 +36,12 @@ CheckCallOf result R a u = Roomed {L = Unit {0}} result tt (λ b v. CheckOf R b)
 
 abbrev pub CheckCalled : List ℕ → List ℕ → ℕ → List ℕ → Type 0
 CheckCalled file result n after = Called {L = Unit {0}} file result tt (CheckCallOf result) n after tt
+
+-- ---- `floe_sizes`: three bytes, the numbers of devices, tasks and jobs
+
+abbrev pub SizesCalled : List ℕ → List ℕ → List ℕ → ℕ → List ℕ → List ℕ → Type 0
+SizesCalled file lent result n lent′ result′ =
+    Called file result lent (λ R a l. Roomed result lent (SizesOf (tablesOf file .tasks .count) lent R) a l) n result′ lent′
 
 -- ---- a plan's start times: the lent bytes hold as many as they have pairs; the plan's go to the first of them, and nothing else is written (rule 73)
 

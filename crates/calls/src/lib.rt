@@ -1,7 +1,7 @@
-// The functions that a C program calls with numbers and byte buffers: the file check, the search and the rows. Each buffer is a pointer and a length; each
+// The functions that a C program calls with numbers and byte buffers: the file check, the sizes, the search and the rows. Each buffer is a pointer and a length; each
 // function returns the number of its answer, and puts the rest of it into the result buffer. include/floebucket.h declares them; specs/Calls.antt says for each
 // the complete outcome.
-ghost use Rattle.calls.specs.Calls.{CheckCalled, SearchCalled, RowsCalled};
+ghost use Rattle.calls.specs.Calls.{CheckCalled, SizesCalled, SearchCalled, RowsCalled};
 use crate::paired::rows_bytes;
 use crate::paired::search_bytes;
 use planner::check;
@@ -28,6 +28,17 @@ pub extern "C" fn floe_check(file: &[u8], result: &mut [u8]) -> u8
         return cramped(file);
     }
     tell(check(file), result)
+}
+
+// How many devices, tasks and jobs the request has, a byte each: of jobs all that are planned, those that tasks release too.
+#[no_mangle]
+pub extern "C" fn floe_sizes(file: &[u8], sizes: &mut [u8], result: &mut [u8]) -> u8
+    ensures { λ n. ⌜ SizesCalled (now (file .entry)) (now (sizes .entry)) (now (result .entry)) n (now (sizes .exit)) (now (result .exit)) ⌝ }
+{
+    if result.len() < RESULT {
+        return cramped(file);
+    }
+    tell(planner::sizes(file, sizes), result)
 }
 
 // The start times of the first of the least-energy schedules that meet all deadlines, if the budget covers the vertices of the search.
@@ -57,5 +68,5 @@ pub extern "C" fn floe_rows(file: &[u8], starts: &[u8], out: &mut [u8], result: 
     if result.len() < RESULT {
         return 15;
     }
-    tell(rows_bytes(file, starts, jobs, out), result)
+    tell(rows_bytes(request.recorder, starts, out), result)
 }

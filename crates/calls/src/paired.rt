@@ -1,17 +1,19 @@
 // The operations that take or give start times, with these as pairs of bytes.
 ghost use mathlib.Core.Path.{_≡_};
-ghost use Prim.Native.Nat.{_*_, _≤_};
+ghost use Prim.Native.Nat.{_*_};
 ghost use lib.ListN.{length};
-ghost use Rattle.planner.specs.Promises.{OfFile, SearchOf, Rowed};
+ghost use Rattle.schedule.specs.Quantities.{Valid, jobs};
+ghost use Rattle.planner.specs.Promises.{OfFile, SearchOf, RowsOf};
 ghost use Rattle.calls.specs.Bytes.{startsIn};
 ghost use Rattle.calls.specs.Calls.{StartsOf};
 use crate::bytes::get_starts;
 use crate::bytes::put_starts;
 use planner::Answer;
 use planner::refusal;
-use planner::rows;
-use planner::search;
+use planner::rows_of;
+use planner::search_of;
 use request::read;
+use schedule::Recorder;
 
 // The start times of a plan go to the first bytes; a refusal writes nothing.
 pub fn search_bytes(file: &[u8], budget: u32, bytes: &mut [u8]) -> Answer
@@ -26,7 +28,7 @@ pub fn search_bytes(file: &[u8], budget: u32, bytes: &mut [u8]) -> Answer
         return refusal(15);
     }
     let mut own = [0u16; 16];
-    let found = search(file, budget, &mut own);
+    let found = search_of(request.recorder, budget, &mut own);
     if found.number == 0 {
         put_starts(&own[..jobs], bytes);
     }
@@ -34,11 +36,12 @@ pub fn search_bytes(file: &[u8], budget: u32, bytes: &mut [u8]) -> Answer
 }
 
 // The rows for as many start times as there are jobs.
-pub fn rows_bytes(file: &[u8], bytes: &[u8], jobs: usize, out: &mut [u8]) -> Answer
-    requires { ⌜ (length (now bytes) ≡ jobs * 2) × (jobs ≤ 16) ⌝ }
-    ensures { λ a. ⌜ Rowed (now (file .entry)) (startsIn (now (bytes .entry)) jobs) (now (out .entry)) a (now (out .exit)) ⌝ }
+pub fn rows_bytes(r: Recorder, bytes: &[u8], out: &mut [u8]) -> Answer
+    requires { ⌜ Valid r × (length (now bytes) ≡ jobs r * 2) ⌝ }
+    ensures { λ a. ⌜ RowsOf (startsIn (now (bytes .entry)) (jobs r)) (now (out .entry)) r a (now (out .exit)) ⌝ }
 {
+    let jobs = r.jobs.count;
     let mut own = [0u16; 16];
     get_starts(bytes, &mut own[..jobs]);
-    rows(file, &own[..jobs], out)
+    rows_of(r, &own[..jobs], out)
 }

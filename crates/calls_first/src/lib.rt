@@ -8,7 +8,7 @@ use calls::RESULT;
 use calls::cramped;
 use calls::put_starts;
 use calls::tell;
-use first::first_plan;
+use first::first_of;
 use planner::Answer;
 use planner::refusal;
 use request::read;
@@ -26,7 +26,7 @@ fn first_bytes(file: &[u8], bytes: &mut [u8]) -> Answer
         return refusal(15);
     }
     let mut own = [0u16; 16];
-    let found = first_plan(file, &mut own);
+    let found = first_of(request.recorder, &mut own);
     if found.number == 0 {
         put_starts(&own[..jobs], bytes);
     }

@@ -8,7 +8,7 @@ use calls::RESULT;
 use calls::cramped;
 use calls::put_starts;
 use calls::tell;
-use cheapest::least_plan;
+use cheapest::least_of;
 use planner::Answer;
 use planner::refusal;
 use request::read;
@@ -26,7 +26,7 @@ fn least_bytes(file: &[u8], budget: u32, memory: &mut [u64], bytes: &mut [u8]) -
         return refusal(15);
     }
     let mut own = [0u16; 16];
-    let found = least_plan(file, budget, memory, &mut own);
+    let found = least_of(request.recorder, budget, memory, &mut own);
     if found.number == 0 {
         put_starts(&own[..jobs], bytes);
     }

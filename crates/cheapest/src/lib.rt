@@ -92,7 +92,7 @@ fn least_with(
 }
 
 // The same of any recorder.
-fn least_of(r: Recorder, budget: u32, memory: &mut [u64], starts: &mut [u16]) -> Answer
+pub fn least_of(r: Recorder, budget: u32, memory: &mut [u64], starts: &mut [u16]) -> Answer
     requires { ⌜ Valid r ⌝ }
     ensures { λ a. ⌜ LeastOf budget (now (starts .entry)) r a (now (starts .exit)) ⌝ }
 {

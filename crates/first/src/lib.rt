@@ -13,7 +13,7 @@ use request::read;
 use schedule::Recorder;
 
 // The first schedule of a recorder.
-fn first_of(r: Recorder, starts: &mut [u16]) -> Answer
+pub fn first_of(r: Recorder, starts: &mut [u16]) -> Answer
     requires { ⌜ Valid r ⌝ }
     ensures { λ a. ⌜ FirstOf (now (starts .entry)) r a (now (starts .exit)) ⌝ }
 {

@@ -1,4 +1,4 @@
--- No second outcome satisfies a promise: for every input each of the seven relations has one answer, and one state of the lent memory. `only-of-file` says it
+-- No second outcome satisfies a promise: for every input each of the eight relations has one answer, and one state of the lent memory. `only-of-file` says it
 -- of every promise over a file whose cases have one outcome for each valid recorder; so each operation shows it of its own cases only.
 -- Assumes nothing.
 use mathlib.Core.Path.{_≡_, refl, sym, ap, subst, _∙_}
@@ -17,12 +17,12 @@ use Rattle.schedule.specs.Listing.{Fault, Rows, Costs, laid}
 use Rattle.schedule.proofs.Judgements.{fault-one, fault-infeasible}
 use Rattle.schedule.proofs.Outcome.{costs-only, rows-only, one-first-least}
 use Rattle.tables.specs.declared.Tables.{Tables}
-use Rattle.tables.specs.Layout.{bytesOf, noTables}
+use Rattle.tables.specs.Layout.{bytesOf, tablesOf, noTables}
 use Rattle.request.proofs.Accepted.{accepted-valid}
 use Rattle.planner.specs.declared.Answer.{Answer}
 use Rattle.planner.specs.declared.Listing.{Listing}
 use Rattle.planner.specs.Promises.{success, refusal, refusalAt, Refused, Reads, OfFile, refused, read, Answered}
-use Rattle.planner.specs.Promises.{CheckOf, accepted, Checked, MarginsOf, Margined, VerdictOf, Judged, RowsOf, Rowed, SearchOf, Searched, Written, ListOf, listed, Listed}
+use Rattle.planner.specs.Promises.{CheckOf, accepted, Checked, SizesOf, Sized, MarginsOf, Margined, VerdictOf, Judged, RowsOf, Rowed, SearchOf, Searched, Written, ListOf, listed, Listed}
 use Rattle.planner.specs.Promises as P
 
 -- ---- the file
@@ -60,6 +60,18 @@ one-check R accepted accepted = refl
 
 pub only-checked : (file : List ℕ) {a a′ : Answer} → Checked file a → Checked file a′ → a ≡ a′
 only-checked file = only-answered file CheckOf (λ R v a a′. one-check R)
+
+-- ---- `sizes`
+
+pub one-sizes : (tasks : ℕ) (lent : List ℕ) (R : Recorder) {a a′ : Answer} {l l′ : List ℕ}
+    → SizesOf tasks lent R a l → SizesOf tasks lent R a′ l′ → (a ≡ a′) × (l ≡ l′)
+one-sizes tasks lent R (P.SizesOf.short h) (P.SizesOf.short h′) = (refl, refl)
+one-sizes tasks lent R (P.SizesOf.short h) (P.SizesOf.given h′) = absurd (omega arith)
+one-sizes tasks lent R (P.SizesOf.given h) (P.SizesOf.short h′) = absurd (omega arith)
+one-sizes tasks lent R (P.SizesOf.given h) (P.SizesOf.given h′) = (refl, refl)
+
+pub only-sized : (file lent : List ℕ) {a a′ : Answer} {l l′ : List ℕ} → Sized file lent a l → Sized file lent a′ l′ → (a ≡ a′) × (l ≡ l′)
+only-sized file lent = only-of-file file lent (SizesOf (tablesOf file .tasks .count) lent) (λ R v a a′ l l′. one-sizes (tablesOf file .tasks .count) lent R)
 
 -- ---- `margins`
 

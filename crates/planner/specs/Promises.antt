@@ -1,9 +1,9 @@
--- What the seven public operations promise: for each one relation between its inputs and its complete outcome, the answer and the lent memory after it.
+-- What the eight public operations promise: for each one relation between its inputs and its complete outcome, the answer and the lent memory after it.
 -- The file comes first, in one way for all (`OfFile`); then each operation has its own cases for a recorder, one for each refusal that it can give after the
 -- file, in their order (rule 16), and one for success. proofs/Only: each relation has one outcome for every input.
 -- Assumes nothing.
 use mathlib.Core.Path.{_≡_}
-use mathlib.Core.List.{List, _++_}
+use mathlib.Core.List.{List, _∷_, _++_}
 use Prim.Native.Nat.{ℕ, _*_, _≤_, _<_}
 use lib.IntN.{ℤ}
 use lib.ListN.{length, drop}
@@ -63,6 +63,15 @@ pub data CheckOf (R : Recorder) : Answer → Type 0 where
 
 abbrev pub Checked : List ℕ → Answer → Type 0
 Checked file a = Answered file CheckOf a
+
+-- ---- `sizes`: how many devices, tasks and jobs the request has, a byte each, the jobs that tasks release among the jobs; what is lent beyond stays as it was
+
+pub data SizesOf (tasks : ℕ) (lent : List ℕ) (R : Recorder) : Answer → List ℕ → Type 0 where
+  short : length lent < 3 → SizesOf tasks lent R (refusal 15) lent
+  given : 3 ≤ length lent → SizesOf tasks lent R (success (R .horizon) 0 0) (R .devices .count ∷ tasks ∷ jobs R ∷ drop 3 lent)
+
+abbrev pub Sized : List ℕ → List ℕ → Answer → List ℕ → Type 0
+Sized file lent a after = OfFile file lent (SizesOf (tablesOf file .tasks .count) lent) a after
 
 -- ---- `margins`: a number for each job (rule 21), whether the start times are feasible or not (rule 24); what is lent beyond stays as it was
 

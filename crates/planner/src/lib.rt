@@ -1,13 +1,10 @@
 // The public operations on the bytes of a request file. None asks anything of its caller: every file, of whatever bytes, every list of start times and every
 // lent buffer gets its answer. specs/Promises.antt says for each the complete outcome.
-ghost use Rattle.planner.specs.Promises.{Checked, Margined, Judged, Rowed, Searched, Written, Listed};
+ghost use Rattle.planner.specs.Promises.{Checked, Sized, Margined, Judged, Rowed, Searched, Written, Listed};
+use crate::recorders::sizes_of;
 use base::JobNumber;
 use request::read;
 use request::read_by;
-use schedule::judge;
-use schedule::plan_energy;
-use schedule::write_margins;
-use schedule::write_rows;
 use tables::Tables;
 use tables::copy;
 use tables::file_of;
@@ -15,11 +12,16 @@ use tables::no_tables;
 use tables::tables_in;
 
 mod answers; // answers.rt: the answers, each made in one place
+mod recorders; // recorders.rt: the operations on a recorder, once its file is read
 
 pub use crate::answers::refusal;
 pub use crate::answers::refusal_after;
 pub use crate::answers::refusal_at;
 pub use crate::answers::success;
+pub use crate::recorders::margins_of;
+pub use crate::recorders::rows_of;
+pub use crate::recorders::search_of;
+pub use crate::recorders::verdict_of;
 
 // What every operation answers: 0 or the number of its refusal, and what the operation works out; 0 elsewhere.
 pub struct Answer {
@@ -47,6 +49,18 @@ pub fn check(file: &[u8]) -> Answer
     success(request.recorder.horizon, 0, 0)
 }
 
+// Writes how many devices, tasks and jobs the request has, a byte each: of jobs all that are planned, those that tasks release too.
+pub fn sizes(file: &[u8], out: &mut [u8]) -> Answer
+    ensures { λ a. ⌜ Sized (now (file .entry)) (now (out .entry)) a (now (out .exit)) ⌝ }
+{
+    let request = read(file);
+    if request.number != 0 {
+        return refusal(request.number);
+    }
+    let tables = tables_in(file);
+    sizes_of(request.recorder, tables.tasks.count, out)
+}
+
 // Writes the margin of each job, for any start times.
 pub fn margins(file: &[u8], starts: &[u16], out: &mut [i32]) -> Answer
     ensures { λ a. ⌜ Margined (now (file .entry)) (now (starts .entry)) (now (out .entry)) a (now (out .exit)) ⌝ }
@@ -55,16 +69,7 @@ pub fn margins(file: &[u8], starts: &[u16], out: &mut [i32]) -> Answer
     if request.number != 0 {
         return refusal(request.number);
     }
-    let recorder = request.recorder;
-    let jobs = recorder.jobs.count;
-    if starts.len() != jobs {
-        return refusal(14);
-    }
-    if out.len() < jobs {
-        return refusal(15);
-    }
-    write_margins(recorder, starts, out);
-    success(recorder.horizon, 0, 0)
+    margins_of(request.recorder, starts, out)
 }
 
 // Whether the start times are feasible, with the plan's energy; or their first fault.
@@ -75,16 +80,7 @@ pub fn verdict(file: &[u8], starts: &[u16]) -> Answer
     if request.number != 0 {
         return refusal(request.number);
     }
-    let recorder = request.recorder;
-    if starts.len() != recorder.jobs.count {
-        return refusal(14);
-    }
-    let verdict = judge(recorder, starts);
-    if verdict.number != 0 {
-        return refusal_at(verdict.number, verdict.job);
-    }
-    let energy = plan_energy(recorder, starts);
-    success(recorder.horizon, energy, 0)
+    verdict_of(request.recorder, starts)
 }
 
 // Writes the row of every device, the legal row of least energy, for feasible start times.
@@ -95,20 +91,7 @@ pub fn rows(file: &[u8], starts: &[u16], out: &mut [u8]) -> Answer
     if request.number != 0 {
         return refusal(request.number);
     }
-    let recorder = request.recorder;
-    if starts.len() != recorder.jobs.count {
-        return refusal(14);
-    }
-    let h = recorder.horizon as usize;
-    if out.len() < recorder.devices.count * h {
-        return refusal(15);
-    }
-    let judged = judge(recorder, starts);
-    if judged.number != 0 {
-        return refusal_at(judged.number, judged.job);
-    }
-    let total = write_rows(recorder, starts, out);
-    success(recorder.horizon, total, 0)
+    rows_of(request.recorder, starts, out)
 }
 
 // Writes the start times of the first of the least-energy schedules that meet all deadlines, if the budget covers the vertices of the search.
@@ -119,12 +102,7 @@ pub fn search(file: &[u8], budget: u32, starts: &mut [u16]) -> Answer
     if request.number != 0 {
         return refusal(request.number);
     }
-    let recorder = request.recorder;
-    let found = visit::search(recorder, budget, starts);
-    if found.number != 0 {
-        return refusal_after(found.number, found.count);
-    }
-    success(recorder.horizon, found.energy, found.count)
+    search_of(request.recorder, budget, starts)
 }
 
 // Writes the request file that the tables make, if the reader accepts it.

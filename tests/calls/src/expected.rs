@@ -220,6 +220,17 @@ impl Searched {
         }
     }
 
+    pub fn sizes(&self, before: &Buffers) -> Outcome {
+        match &self.read {
+            Err(number) => before.refused(*number),
+            Ok(_) if before.is_short() || before.lent.len() < 3 => before.refused(15),
+            Ok(request) => {
+                let sizes = [request.devices.len(), request.tasks, request.jobs.len()];
+                before.after(success(request, 0, 0), &sizes.map(|size| size as u8))
+            }
+        }
+    }
+
     pub fn search(&self, budget: u32, before: &Buffers) -> Outcome {
         let request = match &self.read {
             Err(number) => return before.refused(*number),

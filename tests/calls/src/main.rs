@@ -90,6 +90,14 @@ impl Tester {
         self.compare("floe_check", &searched.file, expected, got);
     }
 
+    fn sizes(&mut self, searched: &Searched) {
+        let mut after = self.buffers(3);
+        let expected = searched.sizes(&after);
+        let number = library::sizes(&searched.file, &mut after.lent, &mut after.result);
+        let got = outcome(number, after);
+        self.compare("floe_sizes", &searched.file, expected, got);
+    }
+
     fn search(&mut self, searched: &Searched) {
         let jobs = searched.read.as_ref().map_or(0, |read| read.jobs.len());
         for budget in self.budgets(searched) {
@@ -222,6 +230,7 @@ impl Tester {
             size = request.devices.len() * request.horizon as usize;
         }
         self.check(searched);
+        self.sizes(searched);
         self.search(searched);
         self.first(searched, jobs);
         self.least(searched, jobs);

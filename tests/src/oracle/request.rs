@@ -116,6 +116,8 @@ pub struct Request {
     /// Tasks are given, so that the round is repeated for ever.
     pub round: bool,
     pub devices: Vec<Device>,
+    /// How many tasks are given.
+    pub tasks: usize,
     pub jobs: Vec<Job>,
 }
 
@@ -186,6 +188,7 @@ pub fn read_as(kind: FileKind, rest: &[u8]) -> Result<Request, Refusal> {
         horizon,
         round: !tasks.is_empty(),
         devices,
+        tasks: tasks.len(),
         jobs,
     })
 }

@@ -212,6 +212,7 @@ mod tests {
             horizon: 2,
             round: false,
             devices: vec![Device::averaged(1, 5, 1, moving)],
+            tasks: 0,
             jobs: Vec::new(),
         }
     }
@@ -254,6 +255,7 @@ mod tests {
         Request {
             horizon: 4,
             round: true,
+            tasks: 1,
             jobs: vec![job],
             ..alone(moving)
         }

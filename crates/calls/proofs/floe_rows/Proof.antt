@@ -7,7 +7,7 @@ use Rattle.request.proofs.Accepted.{read-accepted, read-refused, accepted-valid
 use Rattle.planner.specs.Promises as P
 use Rattle.planner.specs.Promises.{Reads}
 use Rattle.calls.specs.Calls as Calls
-use Rattle.calls.proofs.Crossing.{outcome-of, rows-cramped}
+use Rattle.calls.proofs.Crossing.{rows-cramped}
 use borrow.Author.Needs.{needs}
 use Rattle.calls.proofs.floe_rows.Statement.{statement}
 use Rattle.calls.proofs.floe_rows.Tie as tie
@@ -53,7 +53,7 @@ returns-3 : tie.Need-returns-3
 returns-3 c = rows-cramped _ _ _ _ (recorded (c .before .before)) (c .before .if2 .left) (c .if3 .taken)
 
 rows-bytes-requires : tie.Need-rows-bytes-requires
-rows-bytes-requires c κs = (c .before .before .if2 .left, few (c .before .before .before))
+rows-bytes-requires c κs = (accepted-valid _ _ (recorded (c .before .before .before)), c .before .before .if2 .left)
 
 tell-requires-3 : tie.Need-tell-requires-3
 tell-requires-3 c κs = search needs
@@ -68,7 +68,7 @@ returns-4 : tie.Need-returns-4
 returns-4 c =
     let told = c .before .before .tell3 .ensures in
     let r = recorded (c .before .before .before .before .before .before .before .before .before .before) in
-    rw (told .0, told .1) (Calls.called (P.OfFile.read r (Calls.RowsCallOf.equal (c .before .before .before .before .before .before .before .before .before .if2 .left) (Calls.roomy (c .before .before .before .before .before .before .before .before .if3 .left) (outcome-of _ _ _ r (c .before .before .before .before .before .before .rows-bytes .ensures))))))
+    rw (told .0, told .1) (Calls.called (P.OfFile.read r (Calls.RowsCallOf.equal (c .before .before .before .before .before .before .before .before .before .if2 .left) (Calls.roomy (c .before .before .before .before .before .before .before .before .if3 .left) (c .before .before .before .before .before .before .rows-bytes .ensures)))))
 
 pub floe-rows-spec : {M : Type 1} → statement M
 floe-rows-spec =

@@ -9,7 +9,7 @@ use Rattle.schedule.specs.Quantities.{jobs}
 use Rattle.request.proofs.Accepted.{read-accepted, read-refused, accepted-valid}
 use Rattle.planner.specs.Promises as P
 use Rattle.planner.specs.Promises.{Reads}
-use Rattle.calls.proofs.Crossing.{outcome-of, starts-short, starts-kept, starts-given}
+use Rattle.calls.proofs.Crossing.{starts-short, starts-kept, starts-given}
 use Rattle.first.specs.Promises as F
 use Rattle.calls_first.proofs.Crossing.{first-alike}
 use borrow.Author.Needs.{needs}
@@ -41,32 +41,32 @@ refusal-requires-2 c κs = search needs
 returns-2 : tie.Need-returns-2
 returns-2 c = rw (c .refusal2 .ensures) (P.OfFile.read (recorded (c .before .before)) (starts-short _ _ _ (c .before .if2 .taken) F.FirstOf.short))
 
-slice-aggregate-first-plan : tie.Need-slice-aggregate-first-plan
-slice-aggregate-first-plan c = search needs
+slice-aggregate-first-of : tie.Need-slice-aggregate-first-of
+slice-aggregate-first-of c = search needs
 
-first-plan-requires : tie.Need-first-plan-requires
-first-plan-requires c κs = search needs
+first-of-requires : tie.Need-first-of-requires
+first-of-requires c κs = accepted-valid _ _ (recorded (c .before .before))
 
 array-share-prefix-own : tie.Need-array-share-prefix-own
-array-share-prefix-own c = omega (arith, few (c .before .before .before .before .before .before), c .before .before .before .first-plan .kept)
+array-share-prefix-own c = omega (arith, few (c .before .before .before .before .before .before), c .before .before .before .first-of .kept)
 
 slice-aggregate-put-starts : tie.Need-slice-aggregate-put-starts
-slice-aggregate-put-starts c = sym (length-take-le _ _ (omega (arith, few (c .before .before .before .before .before .before .before), c .before .before .before .before .first-plan .kept)))
+slice-aggregate-put-starts c = sym (length-take-le _ _ (omega (arith, few (c .before .before .before .before .before .before .before), c .before .before .before .before .first-of .kept)))
 
 put-starts-requires : tie.Need-put-starts-requires
-put-starts-requires c κs = rw (length-take-le (jobs (c .before .before .before .before .before .before .before .before .before .before .read .result .recorder)) (c .before .before .before .before .before .first-plan .last .1 .0) (omega (arith, few (c .before .before .before .before .before .before .before .before), c .before .before .before .before .before .first-plan .kept))) (c .before .before .before .before .before .before .before .if2 .left)
+put-starts-requires c κs = rw (length-take-le (jobs (c .before .before .before .before .before .before .before .before .before .before .read .result .recorder)) (c .before .before .before .before .before .first-of .last .1 .0) (omega (arith, few (c .before .before .before .before .before .before .before .before), c .before .before .before .before .before .first-of .kept))) (c .before .before .before .before .before .before .before .if2 .left)
 
 same-length : tie.Need-same-length
 same-length c = search needs
 
 returns-3 : tie.Need-returns-3
 returns-3 c =
-    let room : jobs (c .before .before .before .before .before .before .before .before .before .before .before .before .before .read .result .recorder) ≤ length (c .before .before .before .before .before .before .before .before .first-plan .last .1 .0) = omega (arith, few (c .before .before .before .before .before .before .before .before .before .before .before), c .before .before .before .before .before .before .before .before .first-plan .kept) in
+    let room : jobs (c .before .before .before .before .before .before .before .before .before .before .before .before .before .read .result .recorder) ≤ length (c .before .before .before .before .before .before .before .before .first-of .last .1 .0) = omega (arith, few (c .before .before .before .before .before .before .before .before .before .before .before), c .before .before .before .before .before .before .before .before .first-of .kept) in
     rw (c .before .before .put-starts .ensures, length-take-le _ _ room)
-    (P.OfFile.read (recorded (c .before .before .before .before .before .before .before .before .before .before .before)) (starts-given _ _ _ (first-alike _) (c .before .before .before .before .before .before .before .before .before .before .if2 .left) _ (omega (arith, few (c .before .before .before .before .before .before .before .before .before .before .before))) (c .before .before .before .before .before .if3 .taken) (outcome-of _ _ _ (recorded (c .before .before .before .before .before .before .before .before .before .before .before)) (c .before .before .before .before .before .before .before .before .first-plan .ensures))))
+    (P.OfFile.read (recorded (c .before .before .before .before .before .before .before .before .before .before .before)) (starts-given _ _ _ (first-alike _) (c .before .before .before .before .before .before .before .before .before .before .if2 .left) _ (omega (arith, few (c .before .before .before .before .before .before .before .before .before .before .before))) (c .before .before .before .before .before .if3 .taken) (c .before .before .before .before .before .before .before .before .first-of .ensures)))
 
 returns-4 : tie.Need-returns-4
-returns-4 c = P.OfFile.read (recorded (c .before .before .before .before .before .before)) (starts-kept _ _ _ (first-alike _) (c .before .before .before .before .before .if2 .left) _ (omega (arith, few (c .before .before .before .before .before .before))) (c .if3 .left) (outcome-of _ _ _ (recorded (c .before .before .before .before .before .before)) (c .before .before .before .first-plan .ensures)))
+returns-4 c = P.OfFile.read (recorded (c .before .before .before .before .before .before)) (starts-kept _ _ _ (first-alike _) (c .before .before .before .before .before .if2 .left) _ (omega (arith, few (c .before .before .before .before .before .before))) (c .if3 .left) (c .before .before .before .first-of .ensures))
 
 pub first-bytes-spec : {M : Type 1} → statement M
 first-bytes-spec =
@@ -78,8 +78,8 @@ first-bytes-spec =
     mul-if2
     refusal-requires-2
     returns-2
-    slice-aggregate-first-plan
-    first-plan-requires
+    slice-aggregate-first-of
+    first-of-requires
     array-share-prefix-own
     slice-aggregate-put-starts
     put-starts-requires

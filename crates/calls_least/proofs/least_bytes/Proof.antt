@@ -10,7 +10,7 @@ use Rattle.request.proofs.Accepted.{read-accepted, read-refused, accepted-valid
 use Rattle.planner.specs.Promises as P
 use Rattle.planner.specs.Promises.{Reads}
 use Rattle.cheapest.specs.Promises as L
-use Rattle.calls.proofs.Crossing.{outcome-of, starts-short, starts-kept, starts-given}
+use Rattle.calls.proofs.Crossing.{starts-short, starts-kept, starts-given}
 use Rattle.calls_least.proofs.Crossing.{least-alike}
 use borrow.Author.Needs.{needs}
 use Rattle.calls_least.proofs.least_bytes.Statement.{statement}
@@ -24,8 +24,8 @@ few : (c : tie.Else1) → jobs (c .before .before .read .result .recorder) ≤ 1
 few c = accepted-valid _ _ (recorded c) .few-jobs
 
 -- The list of its own has room for its starts after the call too.
-room : (c : tie.After-least-plan) → jobs (c .before .before .before .before .before .before .read .result .recorder) ≤ length (c .least-plan .last .1 .1 .1 .0)
-room c = omega (arith, few (c .before .before .before .before), c .least-plan .kept)
+room : (c : tie.After-least-of) → jobs (c .before .before .before .before .before .before .read .result .recorder) ≤ length (c .least-of .last .1 .1 .1 .0)
+room c = omega (arith, few (c .before .before .before .before), c .least-of .kept)
 
 read-requires : tie.Need-read-requires
 read-requires c κs = search needs
@@ -45,11 +45,11 @@ refusal-requires-2 c κs = search needs
 returns-2 : tie.Need-returns-2
 returns-2 c = rw (c .refusal2 .ensures) (P.OfFile.read (recorded (c .before .before)) (starts-short _ _ _ (c .before .if2 .taken) L.LeastOf.short))
 
-slice-aggregate-least-plan : tie.Need-slice-aggregate-least-plan
-slice-aggregate-least-plan c = search needs
+slice-aggregate-least-of : tie.Need-slice-aggregate-least-of
+slice-aggregate-least-of c = search needs
 
-least-plan-requires : tie.Need-least-plan-requires
-least-plan-requires c κs = search needs
+least-of-requires : tie.Need-least-of-requires
+least-of-requires c κs = accepted-valid _ _ (recorded (c .before .before .before))
 
 array-share-prefix-own : tie.Need-array-share-prefix-own
 array-share-prefix-own c = room (c .before .before .before .before .before)
@@ -60,7 +60,7 @@ slice-aggregate-put-starts c = sym (length-take-le _ _ (room (c .before .before 
 put-starts-requires : tie.Need-put-starts-requires
 put-starts-requires c κs =
     let f = c .before .before .before .before .before .before .before in
-    rw (length-take-le (jobs (c .before .before .before .before .before .before .before .before .before .before .before .before .before .read .result .recorder)) (f .least-plan .last .1 .1 .1 .0) (room f)) (c .before .before .before .before .before .before .before .before .before .before .if2 .left)
+    rw (length-take-le (jobs (c .before .before .before .before .before .before .before .before .before .before .before .before .before .read .result .recorder)) (f .least-of .last .1 .1 .1 .0) (room f)) (c .before .before .before .before .before .before .before .before .before .before .if2 .left)
 
 same-length : tie.Need-same-length
 same-length c = search needs
@@ -73,7 +73,7 @@ returns-3 c =
     let f = c .before .before .before .before .before .before .before .before .before .before in
     let r = recorded (c .before .before .before .before .before .before .before .before .before .before .before .before .before .before) in
     rw (c .before .before .put-starts .ensures, length-take-le _ _ (room f))
-    (P.OfFile.read r (starts-given _ _ _ (least-alike _ _) (c .before .before .before .before .before .before .before .before .before .before .before .before .before .if2 .left) _ (omega (arith, few (c .before .before .before .before .before .before .before .before .before .before .before .before .before .before))) (c .before .before .before .before .before .if3 .taken) (outcome-of _ _ _ r (f .least-plan .ensures))))
+    (P.OfFile.read r (starts-given _ _ _ (least-alike _ _) (c .before .before .before .before .before .before .before .before .before .before .before .before .before .if2 .left) _ (omega (arith, few (c .before .before .before .before .before .before .before .before .before .before .before .before .before .before))) (c .before .before .before .before .before .if3 .taken) (f .least-of .ensures)))
 
 same-length-3 : tie.Need-same-length-3
 same-length-3 c = search needs
@@ -81,7 +81,7 @@ same-length-3 c = search needs
 returns-4 : tie.Need-returns-4
 returns-4 c =
     let r = recorded (c .before .before .before .before .before .before .before .before .before) in
-    P.OfFile.read r (starts-kept _ _ _ (least-alike _ _) (c .before .before .before .before .before .before .before .before .if2 .left) _ (omega (arith, few (c .before .before .before .before .before .before .before .before .before))) (c .if3 .left) (outcome-of _ _ _ r (c .before .before .before .before .before .least-plan .ensures)))
+    P.OfFile.read r (starts-kept _ _ _ (least-alike _ _) (c .before .before .before .before .before .before .before .before .if2 .left) _ (omega (arith, few (c .before .before .before .before .before .before .before .before .before))) (c .if3 .left) (c .before .before .before .before .before .least-of .ensures))
 
 pub least-bytes-spec : {M : Type 1} → statement M
 least-bytes-spec =
@@ -93,8 +93,8 @@ least-bytes-spec =
     mul-if2
     refusal-requires-2
     returns-2
-    slice-aggregate-least-plan
-    least-plan-requires
+    slice-aggregate-least-of
+    least-of-requires
     array-share-prefix-own
     slice-aggregate-put-starts
     put-starts-requires

@@ -1,26 +1,16 @@
 -- `planner::tables_of` meets its contract.
 -- Assumes nothing.
 use borrow.Author.Needs.{needs}
-use mathlib.Core.List.{List}
-use Prim.Native.Nat.{ℕ}
-use Rattle.schedule.specs.declared.Recorder.{Recorder}
-use Rattle.tables.specs.Layout.{kindOf, bodyOf}
-use Rattle.tables.specs.Held.{Whole}
-use Rattle.request.specs.Format.{readOf}
 use Rattle.request.proofs.Accepted.{read-accepted, read-refused}
-use Rattle.request.proofs.Cutting.{accepted-whole}
 use Rattle.planner.specs.Promises.{Reads}
 use Rattle.planner.specs.Promises as P
+use Rattle.planner.proofs.Reading.{listed-whole}
 use Rattle.planner.proofs.tables_of.Statement.{statement}
 use Rattle.planner.proofs.tables_of.Tie as tie
 
 -- The file is read as the recorder.
 recorded : (c : tie.Else1) → Reads (c .before .before .before .before .args .file .now) (c .before .before .read .result .recorder)
 recorded c = read-accepted _ _ (c .before .before .read .ensures) (c .if1 .left)
-
-listed-whole : (s : List ℕ) (R : Recorder) → Reads s R → Whole (kindOf s) (bodyOf s)
-unfolding readOf
-listed-whole s R r = accepted-whole (kindOf s) (bodyOf s) R r
 
 read-requires : tie.Need-read-requires
 read-requires c κs = search needs

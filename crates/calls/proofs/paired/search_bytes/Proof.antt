@@ -9,7 +9,7 @@ use Rattle.schedule.specs.Quantities.{jobs}
 use Rattle.request.proofs.Accepted.{read-accepted, read-refused, accepted-valid}
 use Rattle.planner.specs.Promises as P
 use Rattle.planner.specs.Promises.{Reads}
-use Rattle.calls.proofs.Crossing.{outcome-of, starts-short, starts-kept, starts-given, search-alike}
+use Rattle.calls.proofs.Crossing.{starts-short, starts-kept, starts-given, search-alike}
 use borrow.Author.Needs.{needs}
 use Rattle.calls.proofs.paired.search_bytes.Statement.{statement}
 use Rattle.calls.proofs.paired.search_bytes.Tie as tie
@@ -39,32 +39,32 @@ refusal-requires-2 c κs = search needs
 returns-2 : tie.Need-returns-2
 returns-2 c = rw (c .refusal2 .ensures) (P.OfFile.read (recorded (c .before .before)) (starts-short _ _ _ (c .before .if2 .taken) P.SearchOf.short))
 
-slice-aggregate-search : tie.Need-slice-aggregate-search
-slice-aggregate-search c = search needs
+slice-aggregate-search-of : tie.Need-slice-aggregate-search-of
+slice-aggregate-search-of c = search needs
 
-search-requires : tie.Need-search-requires
-search-requires c κs = search needs
+search-of-requires : tie.Need-search-of-requires
+search-of-requires c κs = accepted-valid _ _ (recorded (c .before .before))
 
 array-share-prefix-own : tie.Need-array-share-prefix-own
-array-share-prefix-own c = omega (arith, few (c .before .before .before .before .before .before), c .before .before .before .search .kept)
+array-share-prefix-own c = omega (arith, few (c .before .before .before .before .before .before), c .before .before .before .search-of .kept)
 
 slice-aggregate-put-starts : tie.Need-slice-aggregate-put-starts
-slice-aggregate-put-starts c = sym (length-take-le _ _ (omega (arith, few (c .before .before .before .before .before .before .before), c .before .before .before .before .search .kept)))
+slice-aggregate-put-starts c = sym (length-take-le _ _ (omega (arith, few (c .before .before .before .before .before .before .before), c .before .before .before .before .search-of .kept)))
 
 put-starts-requires : tie.Need-put-starts-requires
-put-starts-requires c κs = rw (length-take-le (jobs (c .before .before .before .before .before .before .before .before .before .before .read .result .recorder)) (c .before .before .before .before .before .search .last .1 .1 .0) (omega (arith, few (c .before .before .before .before .before .before .before .before), c .before .before .before .before .before .search .kept))) (c .before .before .before .before .before .before .before .if2 .left)
+put-starts-requires c κs = rw (length-take-le (jobs (c .before .before .before .before .before .before .before .before .before .before .read .result .recorder)) (c .before .before .before .before .before .search-of .last .1 .1 .0) (omega (arith, few (c .before .before .before .before .before .before .before .before), c .before .before .before .before .before .search-of .kept))) (c .before .before .before .before .before .before .before .if2 .left)
 
 same-length : tie.Need-same-length
 same-length c = search needs
 
 returns-3 : tie.Need-returns-3
 returns-3 c =
-    let room : jobs (c .before .before .before .before .before .before .before .before .before .before .before .before .before .read .result .recorder) ≤ length (c .before .before .before .before .before .before .before .before .search .last .1 .1 .0) = omega (arith, few (c .before .before .before .before .before .before .before .before .before .before .before), c .before .before .before .before .before .before .before .before .search .kept) in
+    let room : jobs (c .before .before .before .before .before .before .before .before .before .before .before .before .before .read .result .recorder) ≤ length (c .before .before .before .before .before .before .before .before .search-of .last .1 .1 .0) = omega (arith, few (c .before .before .before .before .before .before .before .before .before .before .before), c .before .before .before .before .before .before .before .before .search-of .kept) in
     rw (c .before .before .put-starts .ensures, length-take-le _ _ room)
-    (P.OfFile.read (recorded (c .before .before .before .before .before .before .before .before .before .before .before)) (starts-given _ _ _ (search-alike _ _) (c .before .before .before .before .before .before .before .before .before .before .if2 .left) _ (omega (arith, few (c .before .before .before .before .before .before .before .before .before .before .before))) (c .before .before .before .before .before .if3 .taken) (outcome-of _ _ _ (recorded (c .before .before .before .before .before .before .before .before .before .before .before)) (c .before .before .before .before .before .before .before .before .search .ensures))))
+    (P.OfFile.read (recorded (c .before .before .before .before .before .before .before .before .before .before .before)) (starts-given _ _ _ (search-alike _ _) (c .before .before .before .before .before .before .before .before .before .before .if2 .left) _ (omega (arith, few (c .before .before .before .before .before .before .before .before .before .before .before))) (c .before .before .before .before .before .if3 .taken) (c .before .before .before .before .before .before .before .before .search-of .ensures)))
 
 returns-4 : tie.Need-returns-4
-returns-4 c = P.OfFile.read (recorded (c .before .before .before .before .before .before)) (starts-kept _ _ _ (search-alike _ _) (c .before .before .before .before .before .if2 .left) _ (omega (arith, few (c .before .before .before .before .before .before))) (c .if3 .left) (outcome-of _ _ _ (recorded (c .before .before .before .before .before .before)) (c .before .before .before .search .ensures)))
+returns-4 c = P.OfFile.read (recorded (c .before .before .before .before .before .before)) (starts-kept _ _ _ (search-alike _ _) (c .before .before .before .before .before .if2 .left) _ (omega (arith, few (c .before .before .before .before .before .before))) (c .if3 .left) (c .before .before .before .search-of .ensures))
 
 pub search-bytes-spec : {M : Type 1} → statement M
 search-bytes-spec =
@@ -76,8 +76,8 @@ search-bytes-spec =
     mul-if2
     refusal-requires-2
     returns-2
-    slice-aggregate-search
-    search-requires
+    slice-aggregate-search-of
+    search-of-requires
     array-share-prefix-own
     slice-aggregate-put-starts
     put-starts-requires
