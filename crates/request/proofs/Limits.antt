@@ -9,7 +9,7 @@ use lib.Dec.{ltb, eqb}
 use Rattle.base.proofs.Paths.{lt-then, lt-else, eq-then, eq-else}
 use Rattle.request.specs.Format.{jobRecords}
 
-module _ {r : ℕ} (h whole x y : ℕ) where
+module _ {A : Type 0} {r : A} (h whole : ℕ) (x y : A) where
   pub none-then : h ≡ min whole 4097 → h ≡ 0 → r ≡ x → r ≡ cond (eqb whole 0) x y
   none-then e l = eq-then whole 0 x y (omega arith)
 

@@ -154,7 +154,7 @@ fn job_check(n: usize, h: u32, j: JobRecord) -> u8
 }
 
 // The bytes of a section's record that stands at a place.
-fn size_of(s: &[u8], k: Section, at: usize) -> usize
+pub fn size_of(s: &[u8], k: Section, at: usize) -> usize
     ensures { λ r. ⌜ r ≡ sizeOf (now (s .entry)) k at ⌝ }
 {
     match k {
@@ -175,7 +175,7 @@ fn device_head(kind: Kind) -> usize
     }
 }
 
-fn head_of(k: Section) -> usize
+pub fn head_of(k: Section) -> usize
     ensures { λ r. ⌜ r ≡ headOf k ⌝ }
 {
     match k {
@@ -186,7 +186,7 @@ fn head_of(k: Section) -> usize
 }
 
 // The refusal of the record at a place: 1 where it is not there, then its fields' numbers.
-fn record_fault(s: &[u8], k: Section, at: usize) -> u8
+pub fn record_fault(s: &[u8], k: Section, at: usize) -> u8
     requires { ⌜ at ≤ length (now s) ⌝ }
     ensures { λ r. ⌜ r ≡ recordFault (now (s .entry)) k at ⌝ }
 {

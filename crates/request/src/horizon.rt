@@ -32,7 +32,7 @@ fn task_horizon(s: &[u8], tasks: usize, from: usize) -> u32
 }
 
 // The horizon of a file with so many tasks: the least common multiple of their periods, or without tasks the file's first field.
-pub(crate) fn horizon_of(s: &[u8], tasks: usize, from: usize) -> u32
+pub fn horizon_of(s: &[u8], tasks: usize, from: usize) -> u32
     requires { ⌜ SoundTasks (now s) tasks from × (3 ≤ from) ⌝ }
     ensures { λ r. ⌜ r ≡ min (horizonOf (now (s .entry)) tasks from) 4097 ⌝ }
 {

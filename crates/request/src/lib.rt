@@ -12,6 +12,12 @@ ghost use Prim.Native.Nat.{_≤_};
 ghost use lib.ListN.{length, drop};
 ghost use Rattle.tables.specs.Layout.{marker};
 ghost use Rattle.request.specs.Format.{readAs, readOf, handedOn};
+pub use crate::checks::head_of;
+pub use crate::checks::record_fault;
+pub use crate::checks::size_of;
+pub use crate::horizon::horizon_of;
+pub use crate::sections::is_mixed;
+pub use crate::sections::job_count;
 use schedule::Recorder;
 use tables::Kind;
 

@@ -12,7 +12,7 @@ use super::jobs;
 use tables::Kind;
 
 // Tasks are given, and the horizon field or the job count, which stands at a place, is not 0.
-fn is_mixed(s: &[u8], tasks: usize, at: usize) -> bool
+pub fn is_mixed(s: &[u8], tasks: usize, at: usize) -> bool
     requires { ⌜ (0 < at) × (at < length (now s)) ⌝ }
     ensures { λ r. ⌜ r ≡ mixed tasks (pairAt (now (s .entry)) 0) (byteAt (now (s .entry)) at) ⌝ }
 {
@@ -26,7 +26,7 @@ fn is_mixed(s: &[u8], tasks: usize, at: usize) -> bool
 }
 
 // The number of jobs, given or unfolded: for all above 16 some number above 16.
-fn job_count(s: &[u8], tasks: usize, from: usize, count: usize, h: u32) -> usize
+pub fn job_count(s: &[u8], tasks: usize, from: usize, count: usize, h: u32) -> usize
     requires { ⌜ SoundTasks (now s) tasks from × (h ≤ 4096) ⌝ }
     ensures { λ r. ⌜ min r 17 ≡ min (countOf (now (s .entry)) tasks from count h) 17 ⌝ }
 {
