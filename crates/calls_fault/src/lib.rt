@@ -1,0 +1,72 @@
+// The function by which a C program asks where a file is refused: `fault_of`, with bytes in and out as the functions of crate calls have them.
+// include/floebucket.h declares it; specs/FaultCall.antt says its complete outcome.
+ghost use mathlib.Core.Path.{_≡_};
+ghost use mathlib.Core.List.{_++_};
+ghost use Prim.Native.Nat.{_≤_};
+ghost use lib.ListN.{length, drop};
+ghost use Rattle.calls_fault.specs.FaultCall.{codeOf, recordOf, eighteen, FaultCalled};
+use calls::cramped;
+use calls::put;
+use faults::Place;
+use faults::PlaceFault;
+use faults::fault_of;
+
+pub const PLACE: usize = 18;
+
+fn code_of(place: Place) -> u8
+    ensures { λ r. ⌜ r ≡ codeOf place ⌝ }
+{
+    match place {
+        Place::Nowhere => 0,
+        Place::Horizon => 1,
+        Place::DeviceCount => 2,
+        Place::Device(_) => 3,
+        Place::TaskCount => 4,
+        Place::Task(_) => 5,
+        Place::JobCount => 6,
+        Place::Job(_) => 7,
+        Place::End => 8,
+    }
+}
+
+fn record_of(place: Place) -> usize
+    ensures { λ r. ⌜ r ≡ recordOf place ⌝ }
+{
+    match place {
+        Place::Nowhere => 0,
+        Place::Horizon => 0,
+        Place::DeviceCount => 0,
+        Place::Device(i) => i,
+        Place::TaskCount => 0,
+        Place::Task(i) => i,
+        Place::JobCount => 0,
+        Place::Job(i) => i,
+        Place::End => 0,
+    }
+}
+
+// Puts a place into the buffer, and returns its number.
+pub fn tell_place(fault: PlaceFault, result: &mut [u8]) -> u8
+    requires { ⌜ 18 ≤ length (now result) ⌝ }
+    ensures { λ n. ⌜ (n ≡ fault .number) × (now (result .exit) ≡ eighteen fault ++ drop 18 (now (result .entry))) ⌝ }
+{
+    let place = fault.place;
+    let code = code_of(place);
+    let record = record_of(place);
+    put(&mut result[..1], code as u64);
+    put(&mut result[1..2], record as u64);
+    put(&mut result[2..10], fault.from as u64);
+    put(&mut result[10..18], fault.to as u64);
+    fault.number
+}
+
+// Where a file is refused: its first place at fault.
+#[no_mangle]
+pub extern "C" fn floe_fault(file: &[u8], result: &mut [u8]) -> u8
+    ensures { λ n. ⌜ FaultCalled (now (file .entry)) (now (result .entry)) n (now (result .exit)) ⌝ }
+{
+    if result.len() < PLACE {
+        return cramped(file);
+    }
+    tell_place(fault_of(file), result)
+}
