@@ -24,6 +24,7 @@
 
 #define FLOE_RESULT 11
 #define FLOE_SIZES 3
+#define FLOE_PLACE 18
 
 #ifdef __cplusplus
 extern "C" {
@@ -35,6 +36,16 @@ uint8_t floe_check(const uint8_t *file, size_t file_len, uint8_t *result, size_t
 /* How large the request is: `sizes` gets the number of its devices, of its tasks and of its jobs, a byte each, and the horizon is in the result. The jobs are those
  * that are planned, which tasks release too: so many start times a plan has. `sizes` has at least FLOE_SIZES bytes; what follows stays as it was. */
 uint8_t floe_sizes(const uint8_t *file, size_t file_len, uint8_t *sizes, size_t sizes_len, uint8_t *result, size_t result_len);
+
+/* Where the file is refused: returns the number that floe_check returns, and puts the first place at fault into a result buffer of FLOE_PLACE bytes or more:
+ *
+ *     byte 0          what it is   1 horizon, 2 device count, 3 device, 4 task count, 5 task, 6 job count, 7 job, 8 what follows the last section
+ *     byte 1          its number   of a device, a task or a job, else 0
+ *     bytes 2 - 9     first byte   counted from 0, the mark of a file of the second or the third kind among them
+ *     bytes 10 - 17   end          the byte after its last; a file that is cut short may end before it
+ *
+ * 10, 11 and 12 are told at the job count, with which they are judged. Of a file that is accepted all are 0. A shorter buffer is a 15 as above. */
+uint8_t floe_fault(const uint8_t *file, size_t file_len, uint8_t *result, size_t result_len);
 
 /* The plan of least energy: its start times by job number, two bytes each, if the budget covers the vertices of the search. `starts` has at least two bytes
  * for each job; what follows the last job's stays as it was. */

@@ -8,6 +8,9 @@
 /// The bytes of a result buffer.
 pub const RESULT: usize = 11;
 
+/// The bytes of one that takes a place.
+pub const PLACE: usize = 18;
+
 mod c {
     extern "C" {
         pub fn floe_check(f: *const u8, f_len: usize, r: *mut u8, r_len: usize) -> u8;
@@ -19,6 +22,7 @@ mod c {
             r: *mut u8,
             r_len: usize,
         ) -> u8;
+        pub fn floe_fault(f: *const u8, f_len: usize, r: *mut u8, r_len: usize) -> u8;
         pub fn floe_search(
             f: *const u8,
             f_len: usize,
@@ -207,6 +211,10 @@ pub fn sizes(file: &[u8], sizes: &mut [u8], result: &mut [u8]) -> u8 {
             result.len(),
         )
     }
+}
+
+pub fn fault(file: &[u8], result: &mut [u8]) -> u8 {
+    unsafe { c::floe_fault(file.as_ptr(), file.len(), result.as_mut_ptr(), result.len()) }
 }
 
 pub fn search(file: &[u8], budget: u32, starts: &mut [u8], result: &mut [u8]) -> u8 {

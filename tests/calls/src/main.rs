@@ -10,6 +10,7 @@ mod first;
 mod least;
 mod looser;
 mod mend;
+mod places;
 mod possible;
 mod searching;
 mod sheets;
@@ -274,6 +275,7 @@ fn test() -> Result<String, String> {
     for (name, met) in [
         ("door_mend", mend::test()?),
         ("door_possible", possible::test()?),
+        ("floe_fault", places::test()?),
         ("floe_first", first::test()?),
         ("floe_least", least::test()?),
         ("door_step", stepping::test()?),

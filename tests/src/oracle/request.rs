@@ -121,14 +121,47 @@ pub struct Request {
     pub jobs: Vec<Job>,
 }
 
-/// What is left of the file.
+/// What can be at fault in a file; a number is that of a device, a task or a job.
+#[derive(Clone, Copy, Debug, PartialEq, Eq)]
+pub enum Place {
+    Horizon,
+    DeviceCount,
+    Device(usize),
+    TaskCount,
+    Task(usize),
+    JobCount,
+    Job(usize),
+    End,
+}
+
+/// A refusal with its place: its bytes from the first up to, not including, the second. They may not
+/// all be there.
+#[derive(Clone, Copy, Debug, PartialEq, Eq)]
+pub struct Fault {
+    pub number: Refusal,
+    pub place: Place,
+    pub from: usize,
+    pub to: usize,
+}
+
+/// What is left of the file, and the place that was called for last.
 struct Cursor<'a> {
     rest: &'a [u8],
+    at: usize,
+    place: Place,
+    from: usize,
 }
 
 impl<'a> Cursor<'a> {
-    /// A whole record: number 1 stands before every judgement on the record's fields.
-    fn take(&mut self, length: usize) -> Result<&'a [u8], Refusal> {
+    /// The bytes of what comes next: number 1 stands before every judgement on them.
+    fn take(&mut self, place: Place, length: usize) -> Result<&'a [u8], Refusal> {
+        (self.place, self.from) = (place, self.at);
+        self.more(length)
+    }
+
+    /// More bytes of the same place.
+    fn more(&mut self, length: usize) -> Result<&'a [u8], Refusal> {
+        self.at += length;
         if self.rest.len() < length {
             return Err(1);
         }
@@ -137,8 +170,8 @@ impl<'a> Cursor<'a> {
         Ok(record)
     }
 
-    fn byte(&mut self) -> Result<u8, Refusal> {
-        Ok(self.take(1)?[0])
+    fn byte(&mut self, place: Place) -> Result<u8, Refusal> {
+        Ok(self.take(place, 1)?[0])
     }
 }
 
@@ -161,13 +194,44 @@ pub fn read(file: &[u8]) -> Result<Request, Refusal> {
     read_as(kind, rest)
 }
 
+/// Where a file is refused, if it is.
+pub fn fault(file: &[u8]) -> Option<Fault> {
+    let (kind, rest) = unmarked(file);
+    fault_as(kind, rest, file.len() - rest.len())
+}
+
+/// The same of what follows a mark of so many bytes, of a file of a kind. The place that was called for
+/// last is the one at fault.
+pub fn fault_as(kind: FileKind, rest: &[u8], mark: usize) -> Option<Fault> {
+    let mut cursor = cursor(rest);
+    let number = read_on(&mut cursor, kind).err()?;
+    Some(Fault {
+        number,
+        place: cursor.place,
+        from: mark + cursor.from,
+        to: mark + cursor.at,
+    })
+}
+
+fn cursor(rest: &[u8]) -> Cursor<'_> {
+    Cursor {
+        rest,
+        at: 0,
+        place: Place::Horizon,
+        from: 0,
+    }
+}
+
 /// Reads what follows the mark of a file of a kind.
 pub fn read_as(kind: FileKind, rest: &[u8]) -> Result<Request, Refusal> {
-    let mut cursor = Cursor { rest };
-    let field = pair(cursor.take(2)?, 0);
-    let devices = read_devices(&mut cursor, kind)?;
-    let tasks = read_tasks(&mut cursor, devices.len())?;
-    let job_count = cursor.byte()?;
+    read_on(&mut cursor(rest), kind)
+}
+
+fn read_on(cursor: &mut Cursor, kind: FileKind) -> Result<Request, Refusal> {
+    let field = pair(cursor.take(Place::Horizon, 2)?, 0);
+    let devices = read_devices(cursor, kind)?;
+    let tasks = read_tasks(cursor, devices.len())?;
+    let job_count = cursor.byte(Place::JobCount)?;
     if !tasks.is_empty() && (field != 0 || job_count != 0) {
         return Err(11);
     }
@@ -177,11 +241,12 @@ pub fn read_as(kind: FileKind, rest: &[u8]) -> Result<Request, Refusal> {
         common_horizon(&tasks)?
     };
     let jobs = if tasks.is_empty() {
-        read_jobs(&mut cursor, job_count, horizon, devices.len())?
+        read_jobs(cursor, job_count, horizon, devices.len())?
     } else {
         unfold(&tasks, horizon)?
     };
-    if !cursor.rest.is_empty() {
+    let left = cursor.rest.len();
+    if !cursor.take(Place::End, left)?.is_empty() {
         return Err(2);
     }
     Ok(Request {
@@ -194,17 +259,19 @@ pub fn read_as(kind: FileKind, rest: &[u8]) -> Result<Request, Refusal> {
 }
 
 fn read_devices(cursor: &mut Cursor, kind: FileKind) -> Result<Vec<Device>, Refusal> {
-    let count = cursor.byte()?;
+    let count = cursor.byte(Place::DeviceCount)?;
     if count > MOST_DEVICES {
         return Err(3);
     }
-    (0..count).map(|_| read_device(cursor, kind)).collect()
+    (0..usize::from(count))
+        .map(|number| read_device(cursor, kind, Place::Device(number)))
+        .collect()
 }
 
-fn read_device(cursor: &mut Cursor, kind: FileKind) -> Result<Device, Refusal> {
+fn read_device(cursor: &mut Cursor, kind: FileKind, place: Place) -> Result<Device, Refusal> {
     let device = match kind {
         FileKind::First => {
-            let record = cursor.take(7)?;
+            let record = cursor.take(place, 7)?;
             let transition = u32::from(record[0]);
             Device::averaged(
                 transition,
@@ -214,7 +281,7 @@ fn read_device(cursor: &mut Cursor, kind: FileKind) -> Result<Device, Refusal> {
             )
         }
         FileKind::Second => {
-            let record = cursor.take(10)?;
+            let record = cursor.take(place, 10)?;
             Device {
                 working: pair(record, 2),
                 levels: vec![pair(record, 4)],
@@ -230,7 +297,7 @@ fn read_device(cursor: &mut Cursor, kind: FileKind) -> Result<Device, Refusal> {
             }
         }
         FileKind::Third => {
-            let front = cursor.take(6)?;
+            let front = cursor.take(place, 6)?;
             let (transition, count) = (u32::from(front[0]), front[5]);
             if transition == 0 {
                 return Err(4);
@@ -238,7 +305,7 @@ fn read_device(cursor: &mut Cursor, kind: FileKind) -> Result<Device, Refusal> {
             if !(1..=MOST_LEVELS).contains(&count) {
                 return Err(26);
             }
-            let powers = cursor.take(2 * usize::from(count))?;
+            let powers = cursor.more(2 * usize::from(count))?;
             Device {
                 levels: powers.chunks(2).map(|power| pair(power, 0)).collect(),
                 numbered: true,
@@ -259,15 +326,17 @@ fn read_device(cursor: &mut Cursor, kind: FileKind) -> Result<Device, Refusal> {
 }
 
 fn read_tasks(cursor: &mut Cursor, devices: usize) -> Result<Vec<Task>, Refusal> {
-    let count = cursor.byte()?;
+    let count = cursor.byte(Place::TaskCount)?;
     if count > MOST_TASKS {
         return Err(6);
     }
-    (0..count).map(|_| read_task(cursor, devices)).collect()
+    (0..usize::from(count))
+        .map(|number| read_task(cursor, Place::Task(number), devices))
+        .collect()
 }
 
-fn read_task(cursor: &mut Cursor, devices: usize) -> Result<Task, Refusal> {
-    let record = cursor.take(5)?;
+fn read_task(cursor: &mut Cursor, place: Place, devices: usize) -> Result<Task, Refusal> {
+    let record = cursor.take(place, 5)?;
     let task = Task {
         period: pair(record, 0),
         running: pair(record, 2),
@@ -333,13 +402,18 @@ fn read_jobs(
     if usize::from(count) > MOST_JOBS {
         return Err(12);
     }
-    (0..count)
-        .map(|_| read_job(cursor, horizon, devices))
+    (0..usize::from(count))
+        .map(|number| read_job(cursor, Place::Job(number), horizon, devices))
         .collect()
 }
 
-fn read_job(cursor: &mut Cursor, horizon: u32, devices: usize) -> Result<Job, Refusal> {
-    let record = cursor.take(7)?;
+fn read_job(
+    cursor: &mut Cursor,
+    place: Place,
+    horizon: u32,
+    devices: usize,
+) -> Result<Job, Refusal> {
+    let record = cursor.take(place, 7)?;
     let job = Job {
         release: pair(record, 0),
         deadline: pair(record, 2),
