@@ -25,6 +25,10 @@ uint8_t door_margins(const uint8_t *file, size_t file_len, const uint8_t *starts
  * The file that the tables make; the count of the answer is its bytes. */
 uint8_t door_write(const uint8_t *tables, size_t tables_len, uint8_t *out, size_t out_len, uint8_t *result, size_t result_len);
 
+/* Where tables are refused: the number that the writer gives, and the first place at fault in the file that they make, as floe_fault tells it. 255 also for a
+ * result buffer under FLOE_PLACE bytes. It stands in libfloebucket.a, with floe_fault. */
+uint8_t door_fault(const uint8_t *tables, size_t tables_len, uint8_t *result, size_t result_len);
+
 /* The tables of a file; the count of the answer is their bytes. */
 uint8_t door_tables(const uint8_t *file, size_t file_len, uint8_t *out, size_t out_len, uint8_t *result, size_t result_len);
 

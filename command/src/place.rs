@@ -1,9 +1,8 @@
-//! Where a file is at fault. No file is read a second time here: the place is where the shortest
-//! prefix ends for which the library no longer says that bytes are missing (1). What stands there
-//! follows from the counts.
+//! Where a file is at fault, as the library says it, and in words.
 
-use crate::calls::planner::{self, Refused};
-use crate::kinds::{self, Kind, JOB, TASK};
+use crate::calls::planner;
+use crate::kinds::Kind;
+use crate::tables::Tables;
 use crate::text::reader::Places;
 
 #[derive(Clone, Copy, Debug, PartialEq, Eq)]
@@ -27,69 +26,33 @@ pub struct Place {
     pub to: usize,
 }
 
-/// The bytes of a file, and the kind that they are laid out in.
+/// The bytes of a file, the kind that they are laid out in, and the tables that they come from, where they were not given as a file.
 #[derive(Clone, Copy, Debug)]
 pub struct File<'a> {
     pub kind: &'static Kind,
     pub bytes: &'a [u8],
+    tables: Option<&'a Tables>,
 }
 
 impl<'a> File<'a> {
     /// Bytes that were given as a file, whose mark tells the kind.
     pub fn new(bytes: &'a [u8]) -> File<'a> {
         let kind = Kind::of_file(bytes);
-        File { kind, bytes }
-    }
-
-    /// What the library says of the first bytes. A text of the first kind may have a horizon that
-    /// reads like a mark: it is looked at with another, refused like it, that does not.
-    fn check(&self, length: usize) -> Result<usize, Refused> {
-        let mut bytes = self.bytes[..length].to_vec();
-        if Kind::of_file(&bytes).marker.len() > self.kind.marker.len() {
-            bytes[1] = u8::MAX;
+        let tables = None;
+        File {
+            kind,
+            bytes,
+            tables,
         }
-        planner::check(&bytes)
     }
 
-    /// Whether the file is refused with this number.
-    pub fn is_refused(&self, number: u8) -> bool {
-        let checked = self.check(self.bytes.len());
-        checked.is_err_and(|refused| refused.number == number)
-    }
-
-    /// The parts one after the other, as the counts say. The last may end after the file.
-    fn parts(&self) -> Vec<Place> {
-        let File { kind, bytes } = *self;
-        let mut parts = Vec::new();
-        let mut at = kind.marker.len();
-        let mut add = |part, at: &mut usize, size: usize| {
-            let from = *at;
-            *at += size;
-            parts.push(Place {
-                part,
-                from,
-                to: *at,
-            });
-        };
-        add(Part::Horizon, &mut at, 2);
-        type Numbered = fn(usize) -> Part;
-        type Size<'a> = &'a dyn Fn(&[u8]) -> usize;
-        let sections: [(Part, Numbered, Size); 3] = [
-            (Part::DeviceCount, Part::Device, &|rest| {
-                kind.device_size(rest)
-            }),
-            (Part::TaskCount, Part::Task, &|_| kinds::size(&TASK)),
-            (Part::JobCount, Part::Job, &|_| kinds::size(&JOB)),
-        ];
-        for (count, numbered, size) in sections {
-            let records = bytes.get(at).copied().unwrap_or(0);
-            add(count, &mut at, 1);
-            for number in 0..usize::from(records) {
-                let size = size(bytes.get(at..).unwrap_or(&[]));
-                add(numbered(number), &mut at, size);
-            }
+    /// The bytes that tables are laid out as.
+    pub fn of_tables(tables: &'a Tables, bytes: &'a [u8]) -> File<'a> {
+        File {
+            kind: tables.kind,
+            bytes,
+            tables: Some(tables),
         }
-        parts
     }
 
     /// The bytes of a place, as far as they are there.
@@ -97,45 +60,37 @@ impl<'a> File<'a> {
         self.bytes.get(place.from..place.to.min(self.bytes.len()))
     }
 
-    /// The number in a part, as far as it is there.
-    fn number(&self, part: Part) -> u32 {
-        let place = self.parts().into_iter().find(|place| place.part == part);
-        let bytes = place.and_then(|place| self.record(&place));
-        let bytes = bytes.unwrap_or(&[]).iter();
-        bytes.fold(0, |number, &byte| number << 8 | u32::from(byte))
+    /// What follows the mark, from a byte on, as far as it is there.
+    fn rest(&self, from: usize) -> &'a [u8] {
+        let from = self.kind.marker.len() + from;
+        self.bytes.get(from..).unwrap_or(&[])
     }
 
     /// The horizon field, and how many devices and tasks the file says that it has.
     pub fn horizon(&self) -> u32 {
-        self.number(Part::Horizon)
+        let field = self.rest(0).iter().take(2);
+        field.fold(0, |number, &byte| number << 8 | u32::from(byte))
     }
 
     pub fn device_count(&self) -> u32 {
-        self.number(Part::DeviceCount)
+        self.rest(2).first().map_or(0, |&count| u32::from(count))
     }
 
     pub fn task_count(&self) -> u32 {
-        self.number(Part::TaskCount)
+        let size = |from: usize| self.kind.device_size(self.rest(from));
+        let devices = 0..self.device_count();
+        let at = devices.fold(3, |from, _| from + size(from));
+        self.rest(at).first().map_or(0, |&count| u32::from(count))
     }
 
-    /// The place of the first fault, if the file is not accepted.
-    pub fn fault(&self) -> Option<Place> {
-        let all = self.bytes.len();
-        let is_cut_short = |length: usize| {
-            let prefix = self.check(length);
-            prefix.is_err_and(|refused| refused.number == 1)
+    /// The place of the first fault, if the file is refused with this number.
+    pub fn fault(&self, number: u8) -> Option<Place> {
+        let fault = match self.tables {
+            Some(tables) => planner::fault_in_tables(tables),
+            None => planner::fault(self.bytes),
         };
-        let Some(end) = (0..=all).find(|&length| !is_cut_short(length)) else {
-            return self.parts().into_iter().find(|place| place.to > all);
-        };
-        if self.check(end).is_ok() {
-            return Some(Place {
-                part: Part::Tail,
-                from: end,
-                to: all,
-            });
-        }
-        self.parts().into_iter().find(|place| place.to == end)
+        let (_, place) = fault.filter(|(said, _)| *said == number)?;
+        Some(place)
     }
 }
 

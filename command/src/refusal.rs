@@ -60,8 +60,7 @@ pub fn at(number: u8, place: String) -> Failure {
 /// A file that is refused, with the place of its fault and, where it came as text, the line.
 pub fn of_file(number: u8, file: File, places: Option<&Places>) -> Failure {
     // The place is that of this number, or it is not told.
-    let place = file.fault().filter(|_| file.is_refused(number));
-    match place {
+    match file.fault(number) {
         Some(place) => failure(
             number,
             Some(place.describe(number, &file, places)),

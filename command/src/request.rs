@@ -53,10 +53,8 @@ impl Request {
                 places: Some(places),
             }),
             Err(refused) => {
-                let file = File {
-                    kind: tables.kind,
-                    bytes: &tables.laid_out(),
-                };
+                let bytes = tables.laid_out();
+                let file = File::of_tables(&tables, &bytes);
                 Err(refusal::of_file(refused.number, file, Some(&places)))
             }
         }

@@ -85,9 +85,8 @@ impl Tables {
         }
     }
 
-    /// The file that the tables make, whether or not it is accepted. It serves to find the place of
-    /// a fault: files that are kept are the library's. A count that one byte does not hold stands as
-    /// 255, which is refused alike.
+    /// The file that the tables make, whether or not it is accepted. It serves to say in words what is at
+    /// fault: files that are kept are the library's. A count that one byte does not hold stands as 255.
     pub fn laid_out(&self) -> Vec<u8> {
         let mut file = self.kind.marker.to_vec();
         file.extend(self.horizon.to_be_bytes());

@@ -97,6 +97,7 @@ mod c {
             r: *mut u8,
             r_len: usize,
         ) -> u8;
+        pub fn door_fault(t: *const u8, t_len: usize, r: *mut u8, r_len: usize) -> u8;
         pub fn door_tables(
             f: *const u8,
             f_len: usize,
@@ -364,6 +365,17 @@ pub fn write(tables: &[u8], out: &mut [u8], result: &mut [u8]) -> u8 {
             tables.len(),
             out.as_mut_ptr(),
             out.len(),
+            result.as_mut_ptr(),
+            result.len(),
+        )
+    }
+}
+
+pub fn fault_in_tables(tables: &[u8], result: &mut [u8]) -> u8 {
+    unsafe {
+        c::door_fault(
+            tables.as_ptr(),
+            tables.len(),
             result.as_mut_ptr(),
             result.len(),
         )

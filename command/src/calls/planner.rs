@@ -2,8 +2,9 @@
 //!
 //! Every buffer that is lent here has room for the largest answer, so that 15 does not occur.
 
+use crate::place::{Part, Place};
 use crate::tables::Tables;
-use linked::RESULT;
+use linked::{PLACE, RESULT};
 
 /// The most jobs, devices and ticks that a request has, and more bytes than any file or table.
 const JOBS: usize = 16;
@@ -86,6 +87,45 @@ pub fn sizes(file: &[u8]) -> Answered<Sizes> {
         devices,
         tasks,
         jobs,
+    })
+}
+
+/// The number of a file that is refused, and its first place at fault.
+pub fn fault(file: &[u8]) -> Option<(u8, Place)> {
+    let mut result = [0; PLACE];
+    let number = linked::fault(file, &mut result);
+    Some((number, place(&result)?))
+}
+
+/// The same of the file that tables make.
+pub fn fault_in_tables(tables: &Tables) -> Option<(u8, Place)> {
+    let mut result = [0; PLACE];
+    let number = linked::fault_in_tables(&tables.bytes(), &mut result);
+    Some((number, place(&result)?))
+}
+
+fn place(told: &[u8; PLACE]) -> Option<Place> {
+    let number = usize::from(told[1]);
+    let part = match told[0] {
+        1 => Part::Horizon,
+        2 => Part::DeviceCount,
+        3 => Part::Device(number),
+        4 => Part::TaskCount,
+        5 => Part::Task(number),
+        6 => Part::JobCount,
+        7 => Part::Job(number),
+        8 => Part::Tail,
+        _ => return None,
+    };
+    let byte = |bytes: &[u8]| {
+        bytes
+            .iter()
+            .fold(0, |at, &byte| at << 8 | usize::from(byte))
+    };
+    Some(Place {
+        part,
+        from: byte(&told[2..10]),
+        to: byte(&told[10..]),
     })
 }
 

@@ -130,9 +130,7 @@ fn of_the_file(number: u8, catalogue: &Catalogue, wanted: &[Vec<u8>], text: &Tex
         let record = part.map_or(&[][..], |part| &part[NUMBER..]);
         tables.devices.add(record.to_vec(), MOST_DEVICES);
     }
-    let file = File {
-        kind: tables.kind,
-        bytes: &tables.laid_out(),
-    };
+    let bytes = tables.laid_out();
+    let file = File::of_tables(&tables, &bytes);
     refusal::of_file(number, file, Some(&text.places))
 }

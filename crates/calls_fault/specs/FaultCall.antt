@@ -1,5 +1,5 @@
--- What a C program gets from `floe_fault` (rule 123): the number that the file is refused with, and in the result buffer the place. proofs/Only: it has one outcome
--- for every input.
+-- What a C program gets from `floe_fault` (rule 125): the number that the file is refused with, and in the result buffer the place; and from the door to the same of
+-- tables. proofs/Only: each has one outcome for every input.
 use mathlib.Core.List.{List, _++_}
 use Prim.Native.Nat.{ℕ, _≤_, _<_}
 use lib.ListN.{length, drop}
@@ -8,8 +8,9 @@ use Rattle.planner.specs.Promises.{Refused, Reads}
 use Rattle.faults.specs.declared.Place.{Place}
 use Rattle.faults.specs.declared.Place.the-variants.{Nowhere, Horizon, DeviceCount, Device, TaskCount, Task, JobCount, Job, End}
 use Rattle.faults.specs.declared.PlaceFault.{PlaceFault}
-use Rattle.faults.specs.Places.{FaultOf}
+use Rattle.faults.specs.Places.{FaultOf, TablesFault}
 use Rattle.calls.specs.Bytes.{big}
+use Rattle.table_bytes.specs.TableBytes.{AreTables, tablesFrom}
 
 abbrev pub codeOf : Place → ℕ
 codeOf Nowhere = 0
@@ -43,3 +44,10 @@ pub data FaultCalled (file result : List ℕ) : ℕ → List ℕ → Type 0 wher
   cramped : {n : ℕ} → length result < 18 → Refused file n → FaultCalled file result n result
   short : {R : Recorder} → length result < 18 → Reads file R → FaultCalled file result 15 result
   told : {f : PlaceFault} → 18 ≤ length result → FaultOf file f → FaultCalled file result (f .number) (eighteen f ++ drop 18 result)
+
+-- ---- `door_fault`: shut, it returns 255 and writes nothing (rule 74)
+
+pub data FaultDoor (tables result : List ℕ) : ℕ → List ℕ → Type 0 where
+  shut : (AreTables tables × (18 ≤ length result) → ⊥) → FaultDoor tables result 255 result
+  answered : {f : PlaceFault} → AreTables tables → 18 ≤ length result → TablesFault (tablesFrom tables) f
+      → FaultDoor tables result (f .number) (eighteen f ++ drop 18 result)

@@ -1,15 +1,18 @@
-// The function by which a C program asks where a file is refused: `fault_of`, with bytes in and out as the functions of crate calls have them.
-// include/floebucket.h declares it; specs/FaultCall.antt says its complete outcome.
+// The function by which a C program asks where a file is refused: `fault_of`, with bytes in and out as the functions of crate calls have them; and the door to
+// `fault_of_tables`. include/floebucket.h and include/doors.h declare them; specs/FaultCall.antt says the complete outcome of each.
 ghost use mathlib.Core.Path.{_≡_};
 ghost use mathlib.Core.List.{_++_};
 ghost use Prim.Native.Nat.{_≤_};
 ghost use lib.ListN.{length, drop};
-ghost use Rattle.calls_fault.specs.FaultCall.{codeOf, recordOf, eighteen, FaultCalled};
+ghost use Rattle.calls_fault.specs.FaultCall.{codeOf, recordOf, eighteen, FaultCalled, FaultDoor};
 use calls::cramped;
 use calls::put;
 use faults::Place;
 use faults::PlaceFault;
 use faults::fault_of;
+use faults::fault_of_tables;
+use table_bytes::is_tables;
+use table_bytes::tables_from;
 
 pub const PLACE: usize = 18;
 
@@ -69,4 +72,18 @@ pub extern "C" fn floe_fault(file: &[u8], result: &mut [u8]) -> u8
         return cramped(file);
     }
     tell_place(fault_of(file), result)
+}
+
+// Where tables are refused, in the file that they make. 255: they are no tables, or the result buffer has no room.
+#[no_mangle]
+pub extern "C" fn door_fault(tables: &[u8], result: &mut [u8]) -> u8
+    ensures { λ n. ⌜ FaultDoor (now (tables .entry)) (now (result .entry)) n (now (result .exit)) ⌝ }
+{
+    if result.len() < PLACE {
+        return 255;
+    }
+    if !is_tables(tables) {
+        return 255;
+    }
+    tell_place(fault_of_tables(tables_from(tables)), result)
 }

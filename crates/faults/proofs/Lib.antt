@@ -1,3 +1,4 @@
 pub mod Walking
 pub mod Promised
+pub mod Cutting
 pub mod Only

@@ -5,11 +5,12 @@ use Prim.Native.Nat.{ℕ}
 use native.Mathlib.Omega.{arith}
 use Rattle.schedule.specs.declared.Recorder.{Recorder}
 use Rattle.tables.specs.declared.Kind.{Kind}
+use Rattle.tables.specs.declared.Tables.{Tables}
+use Rattle.tables.specs.Layout.{layoutOf}
 use Rattle.request.specs.Format.{Reading, readAs, readOf}
 use Rattle.request.specs.Format as Format
-use Rattle.request.proofs.Accepted.{number-as}
 use Rattle.faults.specs.declared.PlaceFault.{PlaceFault}
-use Rattle.faults.specs.Places.{noFault, FirstFault, here, later, FaultAs, accepted, refused, FaultOf}
+use Rattle.faults.specs.Places.{noFault, FirstFault, here, later, FaultAs, accepted, refused, FaultOf, TablesFault}
 
 -- A list has one first place at fault.
 first-one : (l : List PlaceFault) {f g : PlaceFault} → FirstFault f l → FirstFault g l → f ≡ g
@@ -31,6 +32,9 @@ only-fault-as k s (refused e p) (refused e′ p′) = first-one _ p p′
 pub only-fault : (file : List ℕ) {f g : PlaceFault} → FaultOf file f → FaultOf file g → f ≡ g
 only-fault file = only-fault-as _ _
 
+pub only-tables-fault : (T : Tables) {f g : PlaceFault} → TablesFault T f → TablesFault T g → f ≡ g
+only-tables-fault T = only-fault-as (T .kind) (layoutOf T)
+
 -- The number is that of the check: 0 where the file is read as a recorder, and the refusal's where it is refused.
 pub fault-accepted : (file : List ℕ) {f : PlaceFault} {R : Recorder} → FaultOf file f → readOf file ≡ Format.accepted R → f ≡ noFault
 unfolding readOf
@@ -41,3 +45,8 @@ pub fault-refused : (file : List ℕ) {f : PlaceFault} {n : ℕ} → FaultOf fil
 unfolding readOf
 fault-refused file (accepted e) r = absurd (not-both (readOf file) e r)
 fault-refused file (refused e p) r = let both = sym e ∙ r in cc
+
+-- And that of the writer.
+pub tables-refused : (T : Tables) {f : PlaceFault} {n : ℕ} → TablesFault T f → readAs (T .kind) (layoutOf T) ≡ Format.refused n → f .number ≡ n
+tables-refused T (accepted e) r = absurd (not-both (readAs (T .kind) (layoutOf T)) e r)
+tables-refused T (refused e p) r = let both = sym e ∙ r in cc

@@ -17,7 +17,6 @@ use Rattle.base.proofs.Cases.{test-cases}
 use Rattle.base.proofs.Clear.{numbered}
 use Rattle.base.proofs.Records.{after-even}
 use Rattle.tables.specs.declared.Kind.{Kind}
-use Rattle.tables.specs.declared.Kind.the-variants.{First, Second, Third}
 use Rattle.tables.specs.Layout.{marker, devicePlace, tasksPlace, taskCount, jobsPlace}
 use Rattle.request.specs.declared.Section.{Section}
 use Rattle.request.specs.declared.Section.the-variants.{DeviceRecords, TaskRecords, JobRecords}
@@ -29,11 +28,6 @@ use Rattle.faults.specs.Places as P
 use Rattle.faults.specs.Places.{placeAt, noFault, recordPlace, headPlaces, devicePlaces, taskCountPlace, taskPlaces, jobCountPlace, jobPlaces, endPlace, placesAs, FaultAs}
 use Rattle.faults.specs.inside.Walk.{orNext, recordsWalk, jobsWalk, jobWalk, taskWalk, walk}
 use Rattle.faults.proofs.Walking.{cond-number, or-number, walk-number}
-
-pub mark-few : (k : Kind) → length (marker k) ≤ 2
-mark-few First = omega arith
-mark-few Second = omega arith
-mark-few Third = omega arith
 
 -- ---- the first of a list that is at fault, or no fault
 

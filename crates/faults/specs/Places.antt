@@ -12,7 +12,8 @@ use Rattle.base.specs.Lists.{upTo}
 use Rattle.base.specs.Refusals.{_⇒_, firstThat}
 use Rattle.schedule.specs.declared.Recorder.{Recorder}
 use Rattle.tables.specs.declared.Kind.{Kind}
-use Rattle.tables.specs.Layout.{marker, kindOf, bodyOf, devicePlace, tasksPlace, taskCount, jobsPlace}
+use Rattle.tables.specs.declared.Tables.{Tables}
+use Rattle.tables.specs.Layout.{marker, kindOf, bodyOf, layoutOf, devicePlace, tasksPlace, taskCount, jobsPlace}
 use Rattle.request.specs.declared.Section.{Section}
 use Rattle.request.specs.declared.Section.the-variants.{DeviceRecords, TaskRecords, JobRecords}
 use Rattle.request.specs.Format.{sizeOf, headOf, recordFault, horizonIn, mixed, countOf, readAs}
@@ -109,3 +110,8 @@ pub data FaultAs (k : Kind) (s : List ℕ) : PlaceFault → Type 0 where
 
 abbrev pub FaultOf : List ℕ → PlaceFault → Type 0
 FaultOf file f = FaultAs (kindOf file) (bodyOf file) f
+
+-- ---- `fault_of_tables`: the file that tables make, by their own kind, as the writer judges it (planner/specs/Promises: `Written`)
+
+abbrev pub TablesFault : Tables → PlaceFault → Type 0
+TablesFault T f = FaultAs (T .kind) (layoutOf T) f

@@ -7,8 +7,10 @@ ghost use mathlib.Core.Path.{_≡_};
 ghost use Prim.Native.Nat.{_≤_};
 ghost use lib.ListN.{length, drop};
 ghost use Rattle.tables.specs.Layout.{marker};
-ghost use Rattle.faults.specs.Places.{FaultAs, FaultOf};
+ghost use Rattle.faults.specs.Places.{FaultAs, FaultOf, TablesFault};
 use tables::Kind;
+use tables::Tables;
+use tables::file_of;
 use tables::kind_of;
 use tables::marker_size;
 
@@ -47,4 +49,15 @@ pub fn fault_by(s: &[u8], kind: Kind) -> PlaceFault
 {
     let mark = marker_size(kind);
     sections::fault_in(&s[mark..], kind, mark)
+}
+
+// The first place at fault of the file that tables make, read by their own kind.
+pub fn fault_of_tables(given: Tables) -> PlaceFault
+    ensures { λ f. ⌜ TablesFault given f ⌝ }
+{
+    let file = file_of(given);
+    let n = file.count;
+    let bytes = file.bytes;
+    let kind = given.kind;
+    fault_by(&bytes[..n], kind)
 }

@@ -63,7 +63,7 @@ module _ (p : ℕ) (s s′ : List ℕ) (a : Alike p s s′) where
         power-same n 3 (at + 12) (λ l. omega arith),
       )
 
-  size-same : (k : Section) (at : ℕ) → at + sizeOf s k at ≤ p → sizeOf s k at ≡ sizeOf s′ k at
+  pub size-same : (k : Section) (at : ℕ) → at + sizeOf s k at ≤ p → sizeOf s k at ≡ sizeOf s′ k at
   size-same (DeviceRecords k) at h = device-size k at h
   size-same (TaskRecords n) at h = refl
   size-same (JobRecords n h) at l = refl
@@ -78,7 +78,7 @@ module _ (p : ℕ) (s s′ : List ℕ) (a : Alike p s s′) where
   table-same (TaskRecords n) at h = cc (pair-same at (omega arith), pair-same (at + 2) (omega arith), a .same (at + 4) (omega arith))
   table-same (JobRecords n h) at l = cc (pair-same at (omega arith), pair-same (at + 2) (omega arith), pair-same (at + 4) (omega arith), a .same (at + 6) (omega arith))
 
-  record-same : (k : Section) (at : ℕ) → at + sizeOf s k at ≤ p → recordFault s k at ≡ recordFault s′ k at
+  pub record-same : (k : Section) (at : ℕ) → at + sizeOf s k at ≤ p → recordFault s k at ≡ recordFault s′ k at
   record-same k at h =
       let b = a .long in
       let b′ = a .long′ in

@@ -41,12 +41,12 @@ over-tasks : (s : List ℕ) (n at : ℕ) → at < length s → 8 < byteAt s at �
 unfolding taskSection
 over-tasks s n at h l = rw (lt-leb (length s) at h, lt-ltb 8 (byteAt s at) l)
 
-or-true : (b : Bool) → (not b || true) ≡ true
+pub or-true : (b : Bool) → (not b || true) ≡ true
 or-true true = refl
 or-true false = refl
 
 -- With more than 16 jobs: 11 where there are tasks, else 10 for the field or 12.
-abbrev manyJobs : ℕ → ℕ → ℕ
+abbrev pub manyJobs : ℕ → ℕ → ℕ
 manyJobs tasks field = cond (not (eqb tasks 0)) 11 (cond (eqb field 0) 10 (cond (ltb 4096 field) 10 12))
 
 over-jobs : (s : List ℕ) (n tasks from at : ℕ) → at < length s → 16 < byteAt s at → jobSection s n tasks from at ≡ manyJobs tasks (pairAt s 0)
@@ -143,7 +143,7 @@ module _
 -- ---- tables whose counts are cut
 
 module _ (T : Tables) where
-  cut-same : T .devices .count ≤ 8 → T .tasks .count ≤ 8 → T .jobs .count ≤ 16 → cut T ≡ T
+  pub cut-same : T .devices .count ≤ 8 → T .tasks .count ≤ 8 → T .jobs .count ≤ 16 → cut T ≡ T
   unfolding cut
   cut-same d k j =
       let a : min (T .devices .count) 9 ≡ T .devices .count = omega arith in

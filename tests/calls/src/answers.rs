@@ -34,6 +34,7 @@ const ANSWERS: [Answers; 20] = [
     ("door_step", &FILE, &[14, 15, 16, 17, 18, 24, 25, SHUT], 21_500),
     ("door_tables", &FILE, &[15, SHUT], 8_800),
     ("door_write", &TABLES, &[15, SHUT], 23_000),
+    ("door_fault", &TABLES, &[SHUT], 12_000),
     ("door_build", &PARTS, &[15, SHUT], 16_800),
     ("door_import_devices", &[0], &[15, 21, 22, 27, 28, 29, SHUT], 12_000),
     ("door_import_jobs", &[0], &[12, 15, 27, 28, 29, SHUT], 12_000),

@@ -276,6 +276,7 @@ fn test() -> Result<String, String> {
         ("door_mend", mend::test()?),
         ("door_possible", possible::test()?),
         ("floe_fault", places::test()?),
+        ("door_fault", places::test_tables()?),
         ("floe_first", first::test()?),
         ("floe_least", least::test()?),
         ("door_step", stepping::test()?),

@@ -1,16 +1,20 @@
 //! The place of a refusal, as C asks for it, held to the oracle's reader, which knows the place that it
 //! called for last: on drawn files, valid and damaged, of all three kinds, on every front of some of
-//! them, and on result buffers of every length. Every byte is compared.
+//! them, on drawn tables, and on result buffers of every length. Every byte is compared.
 
+use crate::expected::SHUT;
 use crate::library;
 use crate::tails::{is_blank, longer, BLANK};
 use linked::PLACE;
+use outside::cases::random::Random;
 use outside::cases::{draw, draw_of, Kind};
 use outside::oracle::request::{fault, Fault, Place};
+use outside::oracle::writing;
 use std::collections::{BTreeMap, BTreeSet};
 
 const SEED: u64 = 37;
 const FILES: u64 = 12_000;
+const TABLES: u64 = 12_000;
 /// How many files there are of each of these kinds of which every front is asked about.
 const CUT: u64 = 20;
 const OF_CUT: [Kind; 5] = [
@@ -64,14 +68,8 @@ struct Tester {
 
 impl Tester {
     fn compare(&mut self, file: &[u8], number: u64) -> Result<(), String> {
-        let length = match number % 8 {
-            0 => PLACE - 1,
-            1 => number as usize / 8 % PLACE,
-            2 => PLACE + number as usize / 8 % 5,
-            _ => PLACE,
-        };
         let expected = fault(file);
-        let mut result = vec![BLANK; length];
+        let mut result = buffer(number);
         let number = (self.call)(file, &mut result);
         *self.numbers.entry(number).or_default() += 1;
         if let Some(fault) = expected {
@@ -104,6 +102,46 @@ impl Tester {
             "floe_fault: number, place and bytes that never came {missing:?}, that may not come {others:?}"
         ))
     }
+}
+
+/// A result buffer that is shorter than a place, as long or longer.
+fn buffer(number: u64) -> Vec<u8> {
+    let more = number as usize / 8;
+    let length = match number % 8 {
+        0 => PLACE - 1,
+        1 => more % PLACE,
+        2 => PLACE + more % 5,
+        _ => PLACE,
+    };
+    vec![BLANK; length]
+}
+
+/// The same of tables: the door is shut to a short buffer, and to what are no tables.
+pub fn test_tables() -> Result<BTreeMap<u8, u64>, String> {
+    let mut met = BTreeMap::new();
+    for number in 0..TABLES {
+        let given = writing::draw(&mut Random::new(SEED, number));
+        let mut tables = given.bytes();
+        let mut result = buffer(number);
+        let is_spoilt = number % 16 == 7;
+        if is_spoilt {
+            tables.push(0);
+        }
+        let said = library::fault_in_tables(&tables, &mut result);
+        *met.entry(said).or_default() += 1;
+        let expected = writing::fault(&given);
+        let is_right = if is_spoilt || result.len() < PLACE {
+            said == SHUT && is_blank(&result)
+        } else {
+            is_told(expected, said, &result)
+        };
+        if !is_right {
+            return Err(format!(
+                "door_fault on tables {tables:02X?}\n  expected {expected:?}\n  got      {said} {result:02X?}"
+            ));
+        }
+    }
+    Ok(met)
 }
 
 /// By the rules: each number, the code of the place that it is told at, and the bytes of it; of the end

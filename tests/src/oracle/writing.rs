@@ -7,7 +7,7 @@ use crate::cases::second::{self, apart, Second};
 use crate::cases::tables::Tables;
 use crate::cases::third::{self, deepened, Third};
 use crate::cases::valid;
-use crate::oracle::request::{read_as, unmarked, FileKind, Refusal};
+use crate::oracle::request::{fault_as, read_as, unmarked, Fault, FileKind, Refusal};
 
 /// Of devices, tasks and jobs: how many records tables have at most.
 pub const MOST: [usize; 3] = [8, 8, 16];
@@ -130,6 +130,11 @@ pub fn written(given: &Given) -> Written {
     let layout = given.layout();
     let request = read_as(given.kind, &layout)?;
     Ok((request.horizon as u16, [mark(given.kind), &layout].concat()))
+}
+
+/// Where the file that the tables make is refused, if it is.
+pub fn fault(given: &Given) -> Option<Fault> {
+    fault_as(given.kind, &given.layout(), mark(given.kind).len())
 }
 
 /// The tables of a file, as bytes.

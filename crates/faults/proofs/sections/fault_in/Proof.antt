@@ -7,10 +7,11 @@ use native.Mathlib.Omega.{arith}
 use lib.ListN.{length}
 use Rattle.tables.specs.declared.Kind.{Kind}
 use Rattle.tables.specs.Layout.{marker}
+use Rattle.tables.proofs.Joining.{length-marker}
 use Rattle.faults.specs.declared.PlaceFault.{PlaceFault}
 use Rattle.faults.specs.Places.{FaultAs}
 use Rattle.faults.specs.inside.Walk.{walk}
-use Rattle.faults.proofs.Promised.{mark-few, walk-promised}
+use Rattle.faults.proofs.Promised.{walk-promised}
 use Rattle.faults.proofs.sections.fault_in.Statement.{statement}
 use Rattle.faults.proofs.sections.fault_in.Tie as tie
 
@@ -18,7 +19,7 @@ walked : (k : Kind) (s : List ℕ) (mark : ℕ) (f : PlaceFault) → mark ≡ le
 walked k s mark f e h = rw (h, e) (walk-promised k s)
 
 walk-in-requires : tie.Need-walk-in-requires
-walk-in-requires c κs = rw (c .before .pre) (mark-few (c .before .args .kind))
+walk-in-requires c κs = rw (c .before .pre) (length-marker (c .before .args .kind))
 
 returns : tie.Need-returns
 returns c = walked _ _ _ _ (c .before .before .pre) (c .walk-in .ensures)
