@@ -457,6 +457,25 @@ mod tests {
         assert_eq!(refusal(&[&[0, 9, 0, 0, 2, 0, 0, 0, 9, 0, 0, 0]]), 13);
     }
 
+    /// The place is the one that was called for last, with all of its bytes that were called for.
+    #[test]
+    fn the_place_of_a_fault() {
+        let at = |file: &[u8]| {
+            fault(file).map(|found| (found.number, found.place, found.from, found.to))
+        };
+        assert_eq!(at(&[0]), Some((1, Place::Horizon, 0, 2)));
+        assert_eq!(at(&[255, 2, 0, 9]), Some((1, Place::DeviceCount, 4, 5)));
+        assert_eq!(at(&[0, 9, 0, 0, 0]), None);
+        assert_eq!(at(&[0, 0, 0, 0, 0]), Some((10, Place::JobCount, 4, 5)));
+        assert_eq!(at(&[0, 9, 0, 0, 0, 7, 7]), Some((2, Place::End, 5, 7)));
+        let cut = [&[0, 9, 2], &A[..], &[1, 0]].concat();
+        assert_eq!(at(&cut), Some((1, Place::Device(1), 10, 17)));
+        let powers = [255, 3, 0, 9, 1, 1, 0, 9, 0, 9, 3, 0, 2];
+        assert_eq!(at(&powers), Some((1, Place::Device(0), 5, 17)));
+        let levels = [255, 3, 0, 9, 1, 1, 0, 9, 0, 9, 5, 0, 2];
+        assert_eq!(at(&levels), Some((26, Place::Device(0), 5, 11)));
+    }
+
     /// A record of the second kind has ten bytes: all of them are called for before any is judged.
     #[test]
     fn a_record_of_the_second_kind() {
