@@ -9,10 +9,12 @@ use native.Mathlib.Omega.{arith}
 use lib.ListN.{length}
 use lib.Dec.{ltb}
 use borrow.Author.Tests.{not-false, not-true, ltb-false, le-ltb}
-use Rattle.base.proofs.Cases.{cond-cases, test-cases}
-use Rattle.catalogue.specs.Parts.{all, one, same, has, wellFormed, malformed, repeated, Part, numbers, whole, unfit, lacking, Has, LookedUp, recordOf}
+use Rattle.base.proofs.Cases.{cond-cases, test-cases, both, neither}
+use Rattle.base.specs.Lists.{all, one}
+use Rattle.base.specs.Bytes.{same}
+use Rattle.base.proofs.Comparing.{same-true, same-self, same-only}
+use Rattle.catalogue.specs.Parts.{has, wellFormed, malformed, repeated, Part, numbers, whole, unfit, lacking, Has, LookedUp, recordOf}
 use Rattle.catalogue.specs.Parts as Parts
-use Rattle.catalogue.proofs.PartNumbers.{both, neither, same-true, same-self, same-only}
 
 -- What a look-up gives is the record of a part whose eight bytes are those asked for: the test `has` finds that part.
 pub has-found : (ps : List Part) (n d : List ℕ) → Has ps n d → has (numbers ps) n ≡ true

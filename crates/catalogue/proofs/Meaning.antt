@@ -2,17 +2,18 @@
 -- Assumes nothing.
 use mathlib.Core.Path.{_≡_, refl, sym, ap, _∙_}
 use mathlib.Core.Bool.{Bool, true, false, not, _&&_, _||_, true≢false}
-use mathlib.Core.List.{List, [], _∷_, _++_, map, append-nil, append-assoc}
-use Prim.Native.Nat.{ℕ, zero, suc, _+_, _-_, _*_, _/_, _<_, _≤_}
+use mathlib.Core.List.{List, [], _∷_, map}
+use Prim.Native.Nat.{ℕ, zero, suc, _-_, _*_, _<_, _≤_}
 use native.Mathlib.Omega.{arith}
-use native.Mathlib.Nat.{mul-zero, mul-suc}
-use lib.ListN.{length, take, drop, getD, length-append, length-drop, length-map}
-use lib.Seq.{take-all, take-nil}
+use lib.ListN.{length, drop, getD, length-append, length-drop, length-map}
 use lib.Dec.{eqb, ltb}
 use borrow.Author.Tests.{eqb-true, ltb-false, not-true, not-false}
-use Rattle.base.specs.Lists.{upTo}
-use Rattle.catalogue.specs.Parts.{all, one, same, has, wellFormed, malformed, repeated, pieces, inRow, Part, partOf, partsOf, numbers, whole, unfit, lacking, Has}
-use Rattle.catalogue.proofs.PartNumbers.{both, neither, or-right, same-true, same-self}
+use Rattle.base.proofs.Pieces.{pieces-row}
+use Rattle.base.specs.Lists.{all}
+use Rattle.base.specs.Bytes.{same, pieces, inRow}
+use Rattle.base.proofs.Cases.{both, neither, or-right}
+use Rattle.base.proofs.Comparing.{same-true, same-self}
+use Rattle.catalogue.specs.Parts.{has, wellFormed, malformed, repeated, Part, partOf, partsOf, numbers, whole, unfit, lacking, Has}
 use Rattle.catalogue.proofs.Lookup.{has-found}
 
 -- ---- 22: two places hold the same number
@@ -66,27 +67,6 @@ lacking-means ps ws h =
     (r .0, r .1, λ d f. true≢false (sym (has-found ps (getD ws (r .0) []) d f) ∙ r .2))
 
 -- ---- the pieces in a row
-
-pub row-snoc : (ps : List (List ℕ)) (p : List ℕ) → inRow (ps ++ p ∷ []) ≡ inRow ps ++ p
-row-snoc [] p = append-nil p
-row-snoc (q ∷ ps) p = rw (row-snoc ps p, append-assoc)
-
-take-add : (a b : ℕ) (s : List ℕ) → take a s ++ take b (drop a s) ≡ take (b + a) s
-take-add zero b s = let e : b + 0 ≡ b = omega arith in rw e
-take-add (suc a) b [] = take-nil b ∙ sym (take-nil (b + suc a))
-take-add (suc a) b (x ∷ s) = let e : b + suc a ≡ suc (b + a) = omega arith in rw (e, take-add a b s)
-
-front-row : (n m : ℕ) (s : List ℕ) → inRow (upTo (λ k. take n (drop (n * k) s)) m) ≡ take (n * m) s
-unfolding upTo
-front-row n zero s = rw (mul-zero n)
-front-row n (suc m) s =
-    let e : n + n * m ≡ n * suc m = omega (arith, mul-suc n m) in
-    row-snoc (upTo (λ k. take n (drop (n * k) s)) m) (take n (drop (n * m) s)) ∙ rw (front-row n m s, take-add (n * m) n s) (ap (λ (x : ℕ). take x s) e)
-
--- For every size of which so many pieces reach to the end of the bytes: each numeral but 0 is one.
-pub pieces-row : (n : ℕ) (s : List ℕ) → length s ≤ n * ((length s + (n - 1)) / n) → inRow (pieces n s) ≡ s
-unfolding pieces
-pieces-row n s h = front-row n ((length s + (n - 1)) / n) s ∙ take-all (n * ((length s + (n - 1)) / n)) s h
 
 pub parts-row : (s : List ℕ) → inRow (pieces 15 s) ≡ s
 parts-row s = pieces-row 15 s (omega arith)

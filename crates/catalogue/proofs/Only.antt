@@ -10,7 +10,8 @@ use Rattle.tables.specs.declared.DeviceTable.{DeviceTable}
 use Rattle.planner.specs.declared.Answer.{Answer}
 use Rattle.planner.specs.Promises.{Written}
 use Rattle.planner.proofs.Only.{only-written}
-use Rattle.catalogue.specs.Parts.{Part, partsOf, pieces, numbers, unfit, repeated, has, lacking, recordOf}
+use Rattle.base.specs.Bytes.{pieces}
+use Rattle.catalogue.specs.Parts.{Part, partsOf, numbers, unfit, repeated, has, lacking, recordOf}
 use Rattle.catalogue.specs.Building.{Others, devicesOf, tablesWith, BuiltOf, Built}
 use Rattle.catalogue.specs.Building as B
 use Rattle.catalogue.proofs.Lookup.{one-look-up, looked-up, up-looked, unfit-apart, repeated-apart, lacks-apart, lacks-beside, up-apart, up-beside}

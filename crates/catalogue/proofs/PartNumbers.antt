@@ -1,48 +1,17 @@
--- Laws of part numbers: two are the same only byte by byte, and padding loses no sign.
+-- Laws of part numbers: padding loses no sign. Two are the same only byte by byte (`same-only` in base/proofs/Comparing): 00417 and 417 are different parts.
 -- Assumes nothing.
 use mathlib.Core.Path.{_≡_, refl, sym, ap, _∙_}
-use mathlib.Core.Bool.{Bool, true, false, not, cond, _&&_, _||_, true≢false}
+use mathlib.Core.Bool.{true}
 use mathlib.Core.List.{List, [], _∷_, _++_}
 use Prim.Native.Nat.{ℕ, zero, suc, _+_, _-_, _<_, _≤_}
 use native.Mathlib.Omega.{arith}
 use lib.ListN.{length, replicate, length-append, length-replicate}
-use lib.Dec.{eqb, leb, ltb}
-use borrow.Author.Tests.{eqb-true, eqb-false, eq-eqb, ltb-true, lt-ltb}
-use Rattle.base.specs.Lists.{padded}
-use Rattle.base.proofs.Cases.{cond-cases, test-cases}
-use Rattle.catalogue.specs.Parts.{all, one, same, space, sign, front, wellFormed, has}
-
--- Of two tests.
-pub both : (s t : Bool) → s && t ≡ true → (s ≡ true) × (t ≡ true)
-both true t e = (refl, e)
-both false t e = absurd (true≢false (sym e))
-
-pub neither : (s t : Bool) → s || t ≡ false → (s ≡ false) × (t ≡ false)
-neither true t e = absurd (true≢false e)
-neither false t e = (refl, e)
-
-pub or-right : (s : Bool) {t : Bool} → t ≡ true → s || t ≡ true
-or-right true e = refl
-or-right false e = e
-
--- The test is equality.
-pub same-true : (s t : List ℕ) → same s t ≡ true → s ≡ t
-same-true [] [] e = refl
-same-true [] (y ∷ t) e = absurd (true≢false (sym e))
-same-true (x ∷ s) [] e = absurd (true≢false (sym e))
-same-true (x ∷ s) (y ∷ t) e =
-    let p = both (eqb x y) (same s t) e in
-    let a = eqb-true x y (p .0) in
-    let b = same-true s t (p .1) in
-    cc
-
-pub same-self : (s : List ℕ) → same s s ≡ true
-same-self [] = refl
-same-self (x ∷ s) = rw (eq-eqb x x refl) (same-self s)
-
--- 00417 and 417 are different parts: numbers that are not the same bytes do not match.
-pub same-only : (s t : List ℕ) → (s ≡ t → ⊥) → same s t ≡ false
-same-only s t h = test-cases (λ b. b ≡ false) (same s t) (λ e. absurd (h (same-true s t e))) (λ e. refl)
+use lib.Dec.{eqb, ltb}
+use borrow.Author.Tests.{eqb-true, eq-eqb, ltb-true, lt-ltb}
+use Rattle.base.proofs.Comparing.{same-true, same-self}
+use Rattle.base.specs.Lists.{padded, all}
+use Rattle.base.proofs.Cases.{cond-cases, both}
+use Rattle.catalogue.specs.Parts.{space, sign, front, wellFormed}
 
 -- ---- signs and padding
 

@@ -1,7 +1,7 @@
 -- The pieces of lent bytes by place, as a slice has them; and 21, 22 and 23 of whole pieces, by what is at each place.
 -- Assumes nothing.
 use mathlib.Core.Path.{_≡_, refl, sym, ap, subst, _∙_}
-use mathlib.Core.Bool.{Bool, true, false, not, _||_, true≢false}
+use mathlib.Core.Bool.{true, false, true≢false}
 use mathlib.Core.List.{List, [], _∷_, map, map-append}
 use mathlib.Core.Logic.{⊎-elim}
 use Prim.Native.Nat.{ℕ, zero, suc, _+_, _-_, _*_, _/_, _%_, _<_, _≤_, min}
@@ -10,36 +10,21 @@ use native.Mathlib.Decide.{decLt}
 use native.Mathlib.Omega.{arith}
 use lib.ListN.{length, take, drop, getD, length-take, length-drop, length-map, List·getD-map}
 use lib.Seq.{take-take, take-all, getD-take, getD-drop}
-use lib.Dec.{eqb, ltb}
-use borrow.Author.Tests.{lt-ltb, le-ltb, eq-eqb, ne-eqb, not-true, not-false}
-use Rattle.base.specs.Bytes.{byteAt, pairAt}
+use borrow.Author.Tests.{lt-ltb, le-ltb, eq-eqb, ne-eqb}
+use Rattle.base.proofs.Pieces.{piece-at}
+use Rattle.base.specs.Bytes.{byteAt, pairAt, same, pieces}
 use Rattle.base.specs.Lists.{upTo, padded}
 use Rattle.base.proofs.Arrays.{length-upTo, getD-upTo, upTo-take, upTo-same}
-use Rattle.base.proofs.Cases.{test-cases}
+use Rattle.base.proofs.Cases.{test-cases, or-right}
+use Rattle.base.proofs.Comparing.{same-lengths}
+use Rattle.base.proofs.Members.{all-holds, all-fails, one-holds, one-fails}
 use Rattle.tables.specs.declared.DeviceRecord.{DeviceRecord}
 use Rattle.tables.specs.Records.{firstAt, blankDevice}
-use Rattle.catalogue.specs.Parts.{all, one, same, has, wellFormed, malformed, repeated, pieces, Part, partOf, partsOf, numbers, whole, unfit, lacking, recordOf}
+use Rattle.catalogue.specs.Parts.{has, wellFormed, malformed, Part, partOf, partsOf, numbers, whole, unfit, lacking, recordOf}
 use Rattle.catalogue.specs.Places.{numberAt, wantedAt, Sought}
 use Rattle.catalogue.specs.Building.{devicesOf}
-use Rattle.catalogue.proofs.Members.{all-holds, all-fails, one-holds, one-fails, noPart, record-at}
-use Rattle.catalogue.proofs.Scanning.{same-lengths}
-use Rattle.catalogue.proofs.PartNumbers.{or-right}
+use Rattle.catalogue.proofs.Members.{noPart, record-at}
 use Rattle.catalogue.proofs.Meaning.{whole-catalogue}
-
--- A part of a slice, of n bytes from a place on.
-pub slice-is : (s : List ℕ) (n at : ℕ) → take ((at + n) - at) (drop at s) ≡ take n (drop at s)
-slice-is s n at = let e : (at + n) - at ≡ n = omega arith in rw e
-
--- ---- pieces of any size
-
-module _ (n : ℕ) (s : List ℕ) where
-  pub pieces-count : length (pieces n s) ≡ (length s + (n - 1)) / n
-  unfolding pieces
-  pieces-count = length-upTo (λ k. take n (drop (n * k) s)) ((length s + (n - 1)) / n)
-
-  pub piece-at : (k : ℕ) → k < (length s + (n - 1)) / n → getD (pieces n s) k [] ≡ take n (drop (n * k) s)
-  unfolding pieces
-  piece-at k h = getD-upTo (λ k. take n (drop (n * k) s)) ((length s + (n - 1)) / n) k [] h
 
 -- ---- parts
 

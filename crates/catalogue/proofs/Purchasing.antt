@@ -7,13 +7,14 @@ use native.Mathlib.Omega.{arith}
 use lib.ListN.{length, take, getD, length-map, length-take, List·getD-map}
 use lib.Seq.{getD-take}
 use Rattle.base.proofs.Arrays.{getD-padded}
+use Rattle.base.specs.Bytes.{pieces}
 use Rattle.tables.specs.declared.DeviceRecord.{DeviceRecord}
 use Rattle.tables.specs.Records.{firstAt, blankDevice}
 use Rattle.tables.specs.Layout.{deviceIn, counted}
 use Rattle.planner.specs.declared.Answer.{Answer}
 use Rattle.planner.specs.Promises.{success, Checked, Written, Listed}
 use Rattle.planner.proofs.Writing.{written-checked, written-listed}
-use Rattle.catalogue.specs.Parts.{Part, partsOf, pieces, Has, LookedUp}
+use Rattle.catalogue.specs.Parts.{Part, partsOf, Has, LookedUp}
 use Rattle.catalogue.specs.Parts as Parts
 use Rattle.catalogue.specs.Building.{Others, tablesWith, Built}
 use Rattle.catalogue.specs.Building as B

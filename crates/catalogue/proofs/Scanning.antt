@@ -1,39 +1,18 @@
 -- A loop over bytes, from the front on: what its test finds at place i, and what is then left.
 -- Assumes nothing.
 use mathlib.Core.Path.{_≡_, refl, sym}
-use mathlib.Core.Bool.{Bool, true, false, cond, _&&_}
+use mathlib.Core.Bool.{true, false}
 use mathlib.Core.List.{List, [], _∷_, _++_}
-use Prim.Native.Nat.{ℕ, zero, suc, _+_, _-_, _<_, _≤_}
+use Prim.Native.Nat.{ℕ, suc, _+_, _-_, _<_, _≤_}
 use native.Mathlib.Numerals.{add-one}
 use native.Mathlib.Omega.{arith}
 use lib.ListN.{length, replicate, take, drop, getD, length-drop}
 use lib.Seq.{drop-cons, drop-length, take-all}
-use lib.Dec.{eqb}
 use borrow.Author.Tests.{eq-eqb, ne-eqb, lt-ltb}
 use Rattle.base.specs.Lists.{padded}
 use Rattle.base.proofs.Cases.{cond-cases}
-use Rattle.catalogue.specs.Parts.{same, space, sign, front, wellFormed}
-
--- ---- two lists, byte by byte
-
-pub same-end : (a b : List ℕ) (n : ℕ) → length a ≡ n → length b ≡ n → same (drop n a) (drop n b) ≡ true
-same-end a b n e f = rw (← e, drop-length) (rw (e, ← f, drop-length))
-
-pub same-next : (a b : List ℕ) (i : ℕ) → i < length a → i < length b → getD a i 0 ≡ getD b i 0 → same (drop i a) (drop i b) ≡ same (drop (i + 1) a) (drop (i + 1) b)
-same-next a b i h k e = rw (drop-cons a i 0 h, drop-cons b i 0 k, eq-eqb _ _ e, add-one i)
-
-pub same-stop : (a b : List ℕ) (i : ℕ) → i < length a → i < length b → (getD a i 0 ≡ getD b i 0 → ⊥) → same (drop i a) (drop i b) ≡ false
-same-stop a b i h k e = rw (drop-cons a i 0 h, drop-cons b i 0 k, ne-eqb _ _ e)
-
-pub same-lengths : (a b : List ℕ) → (length a ≡ length b → ⊥) → same a b ≡ false
-same-lengths [] [] h = absurd (h refl)
-same-lengths [] (y ∷ b) h = refl
-same-lengths (x ∷ a) [] h = refl
-same-lengths (x ∷ a) (y ∷ b) h = go (eqb x y) (same-lengths a b (λ e. h (omega (arith, e))))
-  where
-    go : (t : Bool) {u : Bool} → u ≡ false → t && u ≡ false
-    go true e = e
-    go false e = refl
+use Rattle.base.specs.Bytes.{same}
+use Rattle.catalogue.specs.Parts.{space, sign, front, wellFormed}
 
 -- ---- the signs at the front
 

@@ -7,6 +7,7 @@ use mathlib.Core.List.{List, map}
 use Prim.Native.Nat.{ℕ}
 use lib.ListN.{length, take}
 use Rattle.base.specs.Lists.{padded}
+use Rattle.base.specs.Bytes.{pieces}
 use Rattle.tables.specs.declared.Kind.the-variants.{First}
 use Rattle.tables.specs.declared.DeviceTable.{DeviceTable}
 use Rattle.tables.specs.declared.TaskTable.{TaskTable}
@@ -15,7 +16,7 @@ use Rattle.tables.specs.declared.Tables.{Tables}
 use Rattle.tables.specs.Records.{firstAt, blankDevice}
 use Rattle.planner.specs.declared.Answer.{Answer}
 use Rattle.planner.specs.Promises.{refusal, Written}
-use Rattle.catalogue.specs.Parts.{Part, partsOf, pieces, numbers, unfit, repeated, lacking, LookedUp}
+use Rattle.catalogue.specs.Parts.{Part, partsOf, numbers, unfit, repeated, lacking, LookedUp}
 
 -- The device table of records, seven bytes each. Its list holds eight; its count is that of all.
 abbrev pub devicesOf : List (List ℕ) → DeviceTable

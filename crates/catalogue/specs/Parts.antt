@@ -1,29 +1,14 @@
 -- The catalogue: its parts and their numbers, what refuses it or a wanted number (21, 22, 23), and what is looked up in it (rules 55 to 58).
 -- Assumes nothing.
 use mathlib.Core.Path.{_≡_}
-use mathlib.Core.Bool.{Bool, true, false, not, cond, _&&_, _||_}
-use mathlib.Core.List.{List, [], _∷_, _++_, map}
+use mathlib.Core.Bool.{Bool, false, not, cond, _&&_, _||_}
+use mathlib.Core.List.{List, [], _∷_, map}
 use mathlib.Core.Logic.{_⊎_}
-use Prim.Native.Nat.{ℕ, _+_, _-_, _*_, _/_}
+use Prim.Native.Nat.{ℕ}
 use lib.ListN.{length, take, drop}
 use lib.Dec.{eqb, leb, ltb}
-use Rattle.base.specs.Lists.{upTo, padded}
-
--- A test holds for all members, or for one.
-abbrev pub all : {A : Type 0} → (A → Bool) → List A → Bool
-all t [] = true
-all t (x ∷ l) = t x && all t l
-
-abbrev pub one : {A : Type 0} → (A → Bool) → List A → Bool
-one t [] = false
-one t (x ∷ l) = t x || one t l
-
--- Byte by byte the same.
-abbrev pub same : List ℕ → List ℕ → Bool
-same [] [] = true
-same [] (y ∷ t) = false
-same (x ∷ s) [] = false
-same (x ∷ s) (y ∷ t) = eqb x y && same s t
+use Rattle.base.specs.Lists.{padded, all, one}
+use Rattle.base.specs.Bytes.{same, pieces}
 
 -- ---- part numbers
 
@@ -55,15 +40,6 @@ repeated [] = false
 repeated (n ∷ ns) = has ns n || repeated ns
 
 -- ---- lent bytes
-
--- Bytes in pieces of n; the last may be shorter.
-unfoldable pub pieces : ℕ → List ℕ → List (List ℕ)
-pieces n s = upTo (λ k. take n (drop (n * k) s)) ((length s + (n - 1)) / n)
-
--- Pieces one after the other.
-abbrev pub inRow : List (List ℕ) → List ℕ
-inRow [] = []
-inRow (p ∷ ps) = p ++ inRow ps
 
 -- A part: 8 bytes of number, 7 of device record.
 pub record Part : Type 0 where

@@ -5,7 +5,7 @@ use mathlib.Core.Bool.{true, false}
 use mathlib.Core.List.{List}
 use Prim.Native.Nat.{ℕ, _*_, _/_, _≤_, _<_}
 use lib.ListN.{length, take, drop}
-use Rattle.catalogue.specs.Parts.{same}
+use Rattle.base.specs.Bytes.{same}
 
 -- The number of part k.
 abbrev pub numberAt : List ℕ → ℕ → List ℕ

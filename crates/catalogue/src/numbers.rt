@@ -1,7 +1,8 @@
 // One part number: eight bytes, digits and capital letters first, then spaces.
 ghost use mathlib.Core.Path.{_≡_};
 ghost use lib.ListN.{length, replicate};
-ghost use Rattle.catalogue.specs.Parts.{space, sign, front, wellFormed, same};
+ghost use Rattle.base.specs.Bytes.{same};
+ghost use Rattle.catalogue.specs.Parts.{space, sign, front, wellFormed};
 
 // A digit or a capital letter.
 fn is_sign(b: u8) -> bool

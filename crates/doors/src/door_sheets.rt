@@ -6,11 +6,11 @@ use calls::tell;
 use doorway::SHUT;
 use doorway::handed;
 use doorway::is_open;
-use exporting::export_devices;
-use exporting::export_jobs;
-use importing::import_devices;
-use importing::import_jobs;
-use plan_sheet::export_plan;
+use sheet_export::export_devices;
+use sheet_export::export_jobs;
+use sheet_export::export_plan;
+use sheet_import::import_devices;
+use sheet_import::import_jobs;
 
 #[no_mangle]
 pub extern "C" fn door_import_devices(text: &[u8], out: &mut [u8], result: &mut [u8]) -> u8

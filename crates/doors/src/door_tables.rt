@@ -1,5 +1,6 @@
 // The door to the tables of a file.
 ghost use Rattle.doors.specs.Promises.{TablesTold, TablesDoor};
+use base::copy;
 use calls::RESULT;
 use calls::tell;
 use doorway::SHUT;
@@ -8,7 +9,6 @@ use planner::refusal;
 use planner::success;
 use planner::tables_of;
 use table_bytes::bytes_of;
-use tables::copy;
 
 // 15 where the bytes do not fit; what is lent beyond them stays as it was.
 fn listing_bytes(file: &[u8], out: &mut [u8]) -> Answer

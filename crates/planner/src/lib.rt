@@ -3,10 +3,10 @@
 ghost use Rattle.planner.specs.Promises.{Checked, Sized, Margined, Judged, Rowed, Searched, Written, Listed};
 use crate::recorders::sizes_of;
 use base::JobNumber;
+use base::copy;
 use request::read;
 use request::read_by;
 use tables::Tables;
-use tables::copy;
 use tables::file_of;
 use tables::no_tables;
 use tables::tables_in;

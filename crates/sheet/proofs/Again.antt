@@ -9,20 +9,22 @@ use native.Mathlib.Omega.{arith}
 use lib.ListN.{length, length-map}
 use lib.Dec.{eqb, ltb}
 use borrow.Author.Tests.{le-ltb}
-use Rattle.base.specs.Lists.{padded}
+use Rattle.base.specs.Lists.{padded, all}
 use Rattle.base.specs.Refusals.{_⇒_, firstThat}
 use Rattle.base.proofs.Every.{Every, every-append}
 use Rattle.base.proofs.Clear.{clear}
 use Rattle.base.proofs.Records.{orElse-zero}
+use Rattle.base.specs.Bytes.{pieces}
 use Rattle.tables.specs.declared.DeviceRecord.{DeviceRecord}
 use Rattle.tables.specs.declared.JobRecord.{JobRecord}
 use Rattle.tables.specs.Records.{firstAt, firstBytes, jobBytes}
-use Rattle.catalogue.specs.Parts.{all, space, front, repeated, Part, partsOf, numbers, unfit, pieces}
+use Rattle.catalogue.specs.Parts.{space, front, repeated, Part, partsOf, numbers, unfit}
 use Rattle.catalogue.proofs.PartNumbers.{all-front}
 use Rattle.text.specs.Grammar.{cr, comma, quote, then, linesOf, textOf, fieldsOf}
 use Rattle.text.specs.Numerals.{valueOf, digitsOf, numbersText}
 use Rattle.text.proofs.Decimal.{value-digits, is-number}
-use Rattle.text.proofs.Split.{Unbroken, lines-text, signs-unbroken, quoted-more, Small, numbers-fields, numbers-unbroken}
+use Rattle.sheet.proofs.Signs.{signs-ordinary}
+use Rattle.text.proofs.Split.{Unbroken, lines-text, ordinary-unbroken, quoted-more, Small, numbers-fields, numbers-unbroken}
 use Rattle.sheet.specs.declared.Rows.{Rows}
 use Rattle.sheet.specs.declared.Rows.the-variants.{Devices, Jobs}
 use Rattle.sheet.specs.Sheets.{areNumbers, fieldsIn, lineFault, linesFault, partIn, jobIn, partsIn, jobsIn, partsFault, recordsFault, devicesRefused, jobsRefused, partLine, jobLine, devicesText, jobsText, catalogueOf, recordsOf}
@@ -57,7 +59,7 @@ module _ (p : Part) (k : Kept p) where
 
   part-fields : fieldsOf (partLine p) ≡ some (front (p .number) ∷ map digitsOf (d .wake ∷ d .pw ∷ d .ps ∷ d .pwake ∷ []))
   part-fields =
-      quoted-more (quote ∷ []) (front (p .number)) (numbersText (d .wake ∷ d .pw ∷ d .ps ∷ d .pwake ∷ [])) (all-front (p .number))
+      quoted-more (quote ∷ []) (front (p .number)) (numbersText (d .wake ∷ d .pw ∷ d .ps ∷ d .pwake ∷ [])) (signs-ordinary (front (p .number)) (all-front (p .number)))
       ∙ ap (then (front (p .number))) (numbers-fields (quote ∷ []) (d .wake) (d .pw ∷ d .ps ∷ d .pwake ∷ []) (omega (arith, h .0)) (omega (arith, h .1), (omega (arith, h .2), (omega (arith, h .3), tt))))
 
   part-passes : lineFault Devices (partLine p) ≡ 0
@@ -69,7 +71,7 @@ module _ (p : Part) (k : Kept p) where
   part-unbroken = (
     refl,
     every-append (λ b. eqb b cr ≡ false) (front (p .number)) (quote ∷ comma ∷ numbersText (d .wake ∷ d .pw ∷ d .ps ∷ d .pwake ∷ []))
-        (signs-unbroken (front (p .number)) (all-front (p .number)))
+        (ordinary-unbroken (front (p .number)) (signs-ordinary (front (p .number)) (all-front (p .number))))
         (refl, (refl, numbers-unbroken (d .wake) (d .pw ∷ d .ps ∷ d .pwake ∷ []) (omega (arith, h .0)) (omega (arith, h .1), (omega (arith, h .2), (omega (arith, h .3), tt))))),
   )
 

@@ -13,9 +13,12 @@ use lib.Dec.{eqb, ltb}
 use borrow.Author.Tests.{not-false, eqb-true}
 use Rattle.base.proofs.Arrays.{upTo-whole}
 use Rattle.base.proofs.Every.{Every}
-use Rattle.catalogue.specs.Parts.{all, wellFormed, malformed, Part, partOf, partsOf, numbers, whole, unfit, pieces, inRow}
-use Rattle.catalogue.proofs.PartNumbers.{both, neither, formed}
-use Rattle.catalogue.proofs.Meaning.{row-snoc}
+use Rattle.base.specs.Lists.{all}
+use Rattle.base.specs.Bytes.{pieces, inRow}
+use Rattle.base.proofs.Cases.{both, neither}
+use Rattle.base.proofs.Pieces.{row-snoc}
+use Rattle.catalogue.specs.Parts.{wellFormed, malformed, Part, partOf, partsOf, numbers, whole, unfit}
+use Rattle.catalogue.proofs.PartNumbers.{formed}
 use Rattle.sheet.specs.Sheets.{partBytes, catalogueOf}
 
 -- ---- one more row, and all of them

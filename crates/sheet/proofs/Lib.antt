@@ -1,3 +1,4 @@
+pub mod Signs
 pub mod LineFaults
 pub mod Laid
 pub mod Answers

@@ -11,9 +11,8 @@ use lib.ListN.{length, drop, getD}
 use lib.Dec.{eqb, leb}
 use borrow.Author.Tests.{leb-true, eqb-true, eqb-false}
 use Rattle.base.specs.Refusals.{Refusal, firstThat, orElse}
-use Rattle.base.proofs.Cases.{cond-cases}
-use Rattle.catalogue.specs.Parts.{all}
-use Rattle.catalogue.proofs.PartNumbers.{both}
+use Rattle.base.proofs.Cases.{cond-cases, both}
+use Rattle.base.specs.Lists.{all}
 use Rattle.text.specs.Grammar.{linesOf, fieldsOf}
 use Rattle.sheet.specs.declared.Rows.{Rows}
 use Rattle.sheet.specs.declared.Rows.the-variants.{Devices, Jobs}

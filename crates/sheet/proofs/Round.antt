@@ -10,19 +10,22 @@ use lib.ListN.{length, take, drop, take-append-drop, length-map}
 use lib.Seq.{take-all, getD-drop}
 use lib.Dec.{eqb, ltb}
 use borrow.Author.Tests.{not-false, ltb-false, eqb-true}
-use Rattle.base.specs.Bytes.{byteAt}
+use Rattle.base.specs.Bytes.{byteAt, pieces, inRow}
 use Rattle.base.specs.Refusals.{_⇒_}
 use Rattle.base.proofs.Arrays.{upTo-take, upTo-same}
 use Rattle.base.proofs.Clear.{clear}
 use Rattle.base.proofs.Every.{Every, every-upTo}
+use Rattle.base.specs.Lists.{all}
+use Rattle.base.proofs.Cases.{both, neither}
+use Rattle.base.proofs.Pieces.{pieces-row}
 use Rattle.tables.specs.declared.Kind.the-variants.{First}
 use Rattle.tables.specs.Records.{firstAt, jobAt, jobBytes}
 use Rattle.tables.specs.Layout.{Bytes}
 use Rattle.tables.proofs.Parts.{part}
 use Rattle.tables.proofs.Reading.{device-part, job-part}
-use Rattle.catalogue.specs.Parts.{all, wellFormed, malformed, repeated, Part, partOf, partsOf, numbers, whole, unfit, pieces, inRow}
-use Rattle.catalogue.proofs.PartNumbers.{both, neither, formed}
-use Rattle.catalogue.proofs.Meaning.{parts-row, pieces-row}
+use Rattle.catalogue.specs.Parts.{wellFormed, malformed, repeated, Part, partOf, partsOf, numbers, whole, unfit}
+use Rattle.catalogue.proofs.PartNumbers.{formed}
+use Rattle.catalogue.proofs.Meaning.{parts-row}
 use Rattle.sheet.specs.Sheets.{catalogueOf, recordsOf, partsIn, jobsIn, partsFault, recordsFault, devicesRefused, jobsRefused, devicesText, jobsText, jobsOf}
 use Rattle.sheet.proofs.Again.{Kept, FitsDevice, FitsJob, devices-again, jobs-again}
 

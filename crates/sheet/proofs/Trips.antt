@@ -10,7 +10,8 @@ use lib.Seq.{take-at}
 use Rattle.tables.specs.Layout.{Bytes}
 use Rattle.planner.specs.declared.Answer.{Answer}
 use Rattle.planner.specs.Promises.{success}
-use Rattle.catalogue.specs.Parts.{partsOf, pieces}
+use Rattle.base.specs.Bytes.{pieces}
+use Rattle.catalogue.specs.Parts.{partsOf}
 use Rattle.sheet.specs.Sheets.{catalogueOf, recordsOf, partsIn, jobsIn, partsFault, recordsFault, devicesRefused, jobsRefused, devicesText, jobsText, jobsOf}
 use Rattle.sheet.specs.Promises.{Filled, ImportedDevices, ImportedJobs, ExportedDevices, ExportedJobs}
 use Rattle.sheet.specs.Promises as P

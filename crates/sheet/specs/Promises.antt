@@ -8,7 +8,8 @@ use lib.IntN.{pos}
 use lib.ListN.{length, drop, replicate}
 use Rattle.planner.specs.declared.Answer.{Answer}
 use Rattle.planner.specs.Promises.{success, refusal, Judged, Margined}
-use Rattle.catalogue.specs.Parts.{partsOf, pieces}
+use Rattle.base.specs.Bytes.{pieces}
+use Rattle.catalogue.specs.Parts.{partsOf}
 use Rattle.sheet.specs.Sheets.{partsIn, jobsIn, partsFault, recordsFault, devicesRefused, jobsRefused, catalogueOf, recordsOf, devicesText, jobsText, jobsOf, planText}
 
 -- Refused by a number, which leaves the lent bytes as they were; or 15 where they have no room; or the bytes made stand at their front, with the horizon and

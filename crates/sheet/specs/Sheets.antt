@@ -7,11 +7,12 @@ use mathlib.Core.Option.{Option, Option·getD}
 use Prim.Native.Nat.{ℕ, _+_}
 use lib.ListN.{length, getD, drop}
 use lib.Dec.{eqb, ltb}
-use Rattle.base.specs.Lists.{upTo, padded}
+use Rattle.base.specs.Lists.{upTo, padded, all}
 use Rattle.base.specs.Refusals.{Refusal, _⇒_, firstThat, orElse}
+use Rattle.base.specs.Bytes.{inRow}
 use Rattle.tables.specs.declared.JobRecord.{JobRecord}
 use Rattle.tables.specs.Records.{averaged, firstAt, firstBytes, jobAt, jobBytes}
-use Rattle.catalogue.specs.Parts.{all, space, front, Part, numbers, unfit, repeated, inRow}
+use Rattle.catalogue.specs.Parts.{space, front, Part, numbers, unfit, repeated}
 use Rattle.text.specs.Grammar.{quote, comma, linesOf, textOf, fieldsOf, unread}
 use Rattle.text.specs.Numerals.{valueOf, isNumber, numbersText}
 use Rattle.sheet.specs.declared.Rows.{Rows}

@@ -1,11 +1,11 @@
 // Sheets: comma-separated text in and out, for purchasing. Here is what the lines of a sheet hold, and the giving of what was made; specs/Promises.antt says the
-// complete outcome of each of the five operations, which stand in importing, exporting and plan_sheet.
+// complete outcome of each of the five operations, which stand in sheet_import and sheet_export.
 ghost use Prim.Native.Nat.{_<_};
 ghost use Rattle.sheet.specs.Promises.{Filled};
+use base::copy;
 use planner::Answer;
 use planner::refusal;
 use planner::success;
-use tables::copy;
 
 // What the lines of a sheet hold.
 pub enum Rows {

@@ -7,7 +7,7 @@ use mathlib.Core.List.{List, _∷_, _++_}
 use Prim.Native.Nat.{ℕ, _+_, _*_, _≤_, min}
 use lib.Dec.{eqb}
 use lib.ListN.{length}
-use Rattle.base.specs.Bytes.{byteAt, pairAt}
+use Rattle.base.specs.Bytes.{byteAt, pairAt, pairBytes}
 use Rattle.base.specs.Refusals.{after}
 use Rattle.tables.specs.declared.Kind.{Kind}
 use Rattle.tables.specs.declared.Kind.the-variants.{First, Second, Third}
@@ -16,7 +16,7 @@ use Rattle.tables.specs.declared.TaskTable.{TaskTable}
 use Rattle.tables.specs.declared.JobTable.{JobTable}
 use Rattle.tables.specs.declared.Tables.{Tables}
 use Rattle.tables.specs.declared.Part.the-variants.{Devices, Tasks, Jobs}
-use Rattle.tables.specs.Records.{pairBytes, deviceAt, deviceSize, taskAt, jobAt}
+use Rattle.tables.specs.Records.{deviceAt, deviceSize, taskAt, jobAt}
 use Rattle.tables.specs.Layout.{devicesHeld, tasksHeld, jobsHeld, recordIn, joined}
 
 -- ---- from bytes

@@ -10,7 +10,7 @@ use lib.Dec.{eqb}
 use lib.ListN.{length, take, drop, length-append, length-drop}
 use lib.Seq.{getD-drop, take-all}
 use borrow.Author.Tests.{eqb-true}
-use Rattle.base.specs.Bytes.{byteAt, pairAt}
+use Rattle.base.specs.Bytes.{byteAt, pairAt, pairBytes}
 use Rattle.base.specs.Lists.{upTo}
 use Rattle.base.specs.Refusals.{after}
 use Rattle.base.proofs.Arrays.{upTo-same, getD-padded, getD-upTo}
@@ -21,7 +21,7 @@ use Rattle.tables.specs.declared.DeviceRecord.{DeviceRecord}
 use Rattle.tables.specs.declared.Tables.{Tables}
 use Rattle.tables.specs.declared.Part.{Part}
 use Rattle.tables.specs.declared.Part.the-variants.{Devices, Tasks, Jobs}
-use Rattle.tables.specs.Records.{pairBytes, deviceAt, deviceSize, taskAt, jobAt, deviceBytes, taskBytes, jobBytes, told, blankDevice, blankTask, blankJob}
+use Rattle.tables.specs.Records.{deviceAt, deviceSize, taskAt, jobAt, deviceBytes, taskBytes, jobBytes, told, blankDevice, blankTask, blankJob}
 use Rattle.tables.specs.Layout.{marker, kindOf, bodyOf, joined, deviceIn, taskIn, jobIn, countIn, recordIn, sectionOf, layoutOf, bytesOf, devicePlace, tasksPlace, taskCount, jobsPlace, tablesAs, tablesOf, counted, Bytes}
 use Rattle.tables.specs.Held.{Whole}
 use Rattle.tables.proofs.Levels.{powers-told}

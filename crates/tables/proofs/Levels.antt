@@ -10,7 +10,8 @@ use lib.Dec.{ltb}
 use lib.ListN.{length}
 use borrow.Author.Tests.{lt-ltb, le-ltb}
 use Rattle.tables.specs.declared.DeviceRecord.{DeviceRecord}
-use Rattle.tables.specs.Records.{pairBytes, powerBytes, powersBytes, thirdBytes}
+use Rattle.base.specs.Bytes.{pairBytes}
+use Rattle.tables.specs.Records.{powerBytes, powersBytes, thirdBytes}
 
 pub listed-min : (n i : ℕ) → i < 4 → ltb i n ≡ ltb i (min n 4)
 listed-min n i h =

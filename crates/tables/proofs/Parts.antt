@@ -8,7 +8,7 @@ use native.Mathlib.Decide.{decLt}
 use native.Mathlib.Nat.{suc-add, zero-add, add-zero, add-suc}
 use lib.ListN.{length, length-append, List·getD-append}
 use lib.Seq.{take-all}
-use Rattle.base.specs.Bytes.{byteAt}
+use Rattle.base.specs.Bytes.{byteAt, pairBytes}
 use Rattle.base.specs.Lists.{upTo}
 use Rattle.base.specs.Refusals as Refusals
 use Rattle.base.proofs.Arrays.{upTo-same, upTo-take}
@@ -16,7 +16,6 @@ use Rattle.base.proofs.Records.{after-more, after-from}
 use Rattle.tables.specs.declared.Tables.{Tables}
 use Rattle.tables.specs.declared.Part.{Part}
 use Rattle.tables.specs.declared.Part.the-variants.{Devices, Tasks, Jobs}
-use Rattle.tables.specs.Records.{pairBytes}
 use Rattle.tables.specs.Layout.{joined, countIn, recordIn, sectionOf, layoutOf}
 use Rattle.tables.proofs.Joining.{joined-le, length-section}
 

@@ -8,14 +8,14 @@ use native.Mathlib.Omega.{arith}
 use native.Mathlib.Nat.{div-add-mod', add-zero, add-assoc}
 use lib.Dec.{ltb}
 use lib.ListN.{length}
-use Rattle.base.specs.Bytes.{byteAt, pairAt}
+use Rattle.base.specs.Bytes.{byteAt, pairAt, pairBytes}
 use Rattle.base.specs.Lists.{upTo}
 use Rattle.tables.specs.declared.Kind.{Kind}
 use Rattle.tables.specs.declared.Kind.the-variants.{First, Second, Third}
 use Rattle.tables.specs.declared.DeviceRecord.{DeviceRecord}
 use Rattle.tables.specs.declared.TaskRecord.{TaskRecord}
 use Rattle.tables.specs.declared.JobRecord.{JobRecord}
-use Rattle.tables.specs.Records.{pairBytes, firstAt, firstBytes, secondAt, secondBytes, powerOf, thirdAt, thirdBytes, deviceAt, deviceSize, deviceBytes, told, taskAt, taskBytes, jobAt, jobBytes}
+use Rattle.tables.specs.Records.{firstAt, firstBytes, secondAt, secondBytes, powerOf, thirdAt, thirdBytes, deviceAt, deviceSize, deviceBytes, told, taskAt, taskBytes, jobAt, jobBytes}
 use Rattle.tables.specs.Layout.{Bytes}
 use Rattle.tables.proofs.Levels.{listed-min, powers, powers-min, powers-told, length-third}
 use Rattle.tables.proofs.Parts.{part}

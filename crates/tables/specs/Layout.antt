@@ -6,7 +6,7 @@ use mathlib.Core.List.{List, [], _∷_, _++_}
 use mathlib.Core.Bool.{cond}
 use lib.Dec.{eqb}
 use lib.ListN.{length, getD, drop}
-use Rattle.base.specs.Bytes.{byteAt, pairAt}
+use Rattle.base.specs.Bytes.{byteAt, pairAt, pairBytes}
 use Rattle.base.specs.Lists.{upTo, padded}
 use Rattle.base.specs.Refusals.{after}
 use Rattle.tables.specs.declared.Kind.{Kind}
@@ -20,7 +20,7 @@ use Rattle.tables.specs.declared.JobTable.{JobTable}
 use Rattle.tables.specs.declared.Tables.{Tables}
 use Rattle.tables.specs.declared.Part.{Part}
 use Rattle.tables.specs.declared.Part.the-variants.{Devices, Tasks, Jobs}
-use Rattle.tables.specs.Records.{pairBytes, deviceAt, deviceSize, deviceBytes, told, taskAt, taskBytes, jobAt, jobBytes, blankDevice, blankTask, blankJob}
+use Rattle.tables.specs.Records.{deviceAt, deviceSize, deviceBytes, told, taskAt, taskBytes, jobAt, jobBytes, blankDevice, blankTask, blankJob}
 
 -- ---- the kind
 

@@ -1,18 +1,15 @@
 -- The records of a request file, each read from its bytes and laid out as them (rules 11 to 13, 76 and 81). A number of two bytes has its high byte first (rule 10).
 -- Assumes nothing.
-use Prim.Native.Nat.{ℕ, _+_, _*_, _/_, _%_, min}
+use Prim.Native.Nat.{ℕ, _+_, _*_, min}
 use mathlib.Core.Bool.{cond}
 use mathlib.Core.List.{List, [], _∷_, _++_}
 use lib.Dec.{ltb}
-use Rattle.base.specs.Bytes.{byteAt, pairAt}
+use Rattle.base.specs.Bytes.{byteAt, pairAt, pairBytes}
 use Rattle.tables.specs.declared.Kind.{Kind}
 use Rattle.tables.specs.declared.Kind.the-variants.{First, Second, Third}
 use Rattle.tables.specs.declared.DeviceRecord.{DeviceRecord}
 use Rattle.tables.specs.declared.TaskRecord.{TaskRecord}
 use Rattle.tables.specs.declared.JobRecord.{JobRecord}
-
-abbrev pub pairBytes : ℕ → List ℕ
-pairBytes n = n / 256 ∷ n % 256 ∷ []
 
 -- A device of which both moves take the same time at the same power, with its sleep levels; and one that has one level.
 abbrev pub leveled : (T Pw P0 levels Ps Ps2 Ps3 Ps4 : ℕ) → DeviceRecord

@@ -1,9 +1,10 @@
 // The bytes of tables, from the first to the last, in an array.
 ghost use mathlib.Core.Path.{_≡_};
-ghost use mathlib.Core.List.{[], _∷_, _++_};
-ghost use Prim.Native.Nat.{ℕ, _+_, _*_, _≤_, _<_, min};
-ghost use lib.ListN.{length, drop, getD};
-ghost use Rattle.tables.specs.Records.{pairBytes, firstBytes, secondBytes, powerBytes, powersBytes, thirdBytes, deviceBytes, taskBytes, jobBytes, blankDevice, blankTask, blankJob};
+ghost use mathlib.Core.List.{[], _∷_};
+ghost use Prim.Native.Nat.{_+_, _≤_, _<_, min};
+ghost use lib.ListN.{length, getD};
+ghost use Rattle.base.specs.Bytes.{pairBytes};
+ghost use Rattle.tables.specs.Records.{firstBytes, secondBytes, powerBytes, powersBytes, thirdBytes, deviceBytes, taskBytes, jobBytes, blankDevice, blankTask, blankJob};
 ghost use Rattle.tables.specs.Layout.{marker, countIn, recordIn, joined, sectionOf, bytesOf};
 ghost use Rattle.tables.specs.Held.{cut, held, appended};
 use crate::DeviceRecord;
@@ -238,16 +239,4 @@ pub fn file_of(t: Tables) -> File
     let b = push_section(a, t, Part::Devices);
     let c = push_section(b, t, Part::Tasks);
     push_section(c, t, Part::Jobs)
-}
-
-// Writes bytes to the front of a lent buffer, and keeps what follows them.
-pub fn copy(s: &[u8], out: &mut [u8])
-    requires { ⌜ length (now s) ≤ length (now out) ⌝ }
-    ensures { λ r. ⌜ now (out .exit) ≡ now (s .entry) ++ drop (length (now (s .entry))) (now (out .entry)) ⌝ }
-{
-    let mut i: usize = 0;
-    while i < s.len() {
-        out[i] = s[i];
-        i += 1;
-    }
 }

@@ -8,7 +8,6 @@ pub use crate::kinds::device_place;
 pub use crate::kinds::device_size;
 pub use crate::kinds::kind_of;
 pub use crate::kinds::marker_size;
-pub use crate::laying::copy;
 pub use crate::laying::empty;
 pub use crate::laying::file_of;
 pub use crate::laying::push;

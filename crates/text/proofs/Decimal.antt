@@ -8,9 +8,9 @@ use native.Mathlib.Omega.{arith}
 use lib.ListN.{length, getD, length-append, List·getD-append}
 use lib.Dec.{leb, ltb}
 use borrow.Author.Tests.{ltb-true, ltb-false, leb-true, le-leb, lt-ltb, le-ltb}
-use Rattle.base.proofs.Cases.{cond-cases}
-use Rattle.catalogue.specs.Parts.{all, sign}
-use Rattle.catalogue.proofs.PartNumbers.{both}
+use Rattle.base.proofs.Cases.{cond-cases, both}
+use Rattle.base.proofs.Every.{Every}
+use Rattle.base.specs.Lists.{all}
 use Rattle.text.specs.Numerals.{digit, valueFrom, valueOf, isNumber, digits, digitsOf}
 
 -- What k + 1 digits can say.
@@ -88,12 +88,12 @@ is-number m n h k =
     let c : leb (valueOf (digitsOf n)) m ≡ true = rw (value-digits 4 n k) (le-leb n m h) in
     rw (a, b, c)
 
--- Digits are signs, as in part numbers.
-digit-sign : (b : ℕ) → digit b ≡ true → sign b ≡ true
-digit-sign b h = rw h
+-- An ordinary byte parts neither lines nor fields, and is no quote: these all stand before the digits.
+abbrev pub Ordinary : ℕ → Type 0
+Ordinary b = 48 ≤ b
 
-pub digits-signs : (s : List ℕ) → all digit s ≡ true → all sign s ≡ true
-digits-signs [] h = refl
-digits-signs (b ∷ s) h =
+pub digits-ordinary : (s : List ℕ) → all digit s ≡ true → Every Ordinary s
+digits-ordinary [] h = tt
+digits-ordinary (b ∷ s) h =
     let p = both (digit b) (all digit s) h in
-    rw (digit-sign b (p .0)) (digits-signs s (p .1))
+    (leb-true 48 b (both (leb 48 b) (leb b 57) (p .0) .0), digits-ordinary s (p .1))

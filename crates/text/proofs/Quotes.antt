@@ -1,4 +1,5 @@
--- No unescaping is needed: a field with a quote in it is no number (29) and no part number (21), so that what two quotes stand for never shows.
+-- No unescaping is needed: a field with a quote in it is no number (29), and no part number either (`quote-21` in sheet/proofs/Signs), so that what two quotes
+-- stand for never shows.
 -- Assumes nothing.
 use mathlib.Core.Path.{_≡_, refl, sym, ap, subst, _∙_}
 use mathlib.Core.Bool.{Bool, true, false, not, cond, _&&_, _||_, true≢false}
@@ -10,11 +11,9 @@ use native.Mathlib.Omega.{arith}
 use lib.ListN.{length, drop, replicate}
 use lib.Dec.{eqb, leb, ltb}
 use borrow.Author.Tests.{eqb-true, not-false}
-use Rattle.base.specs.Lists.{padded}
+use Rattle.base.specs.Lists.{padded, all, one}
 use Rattle.base.specs.Refusals.{Refusal, firstThat, orElse}
-use Rattle.base.proofs.Cases.{test-cases}
-use Rattle.catalogue.specs.Parts.{all, one, sign, space, front, wellFormed}
-use Rattle.catalogue.proofs.PartNumbers.{both, or-right, formed, all-front}
+use Rattle.base.proofs.Cases.{or-right, and-right}
 use Rattle.text.specs.declared.State.{State}
 use Rattle.text.specs.declared.State.the-variants.{Fresh, Plain, Quoted, Closed}
 use Rattle.text.specs.Grammar.{comma, quote, Step, stray, ends, goes, step, last, before, kept, then, after, fieldsFrom, fieldsOf}
@@ -26,25 +25,21 @@ hasQuote = one (λ b. eqb b quote)
 
 -- ---- what a quote in a field makes of it
 
-and-false : (x y : Bool) → y ≡ false → x && y ≡ false
-and-false true y e = e
-and-false false y e = refl
-
 -- A test that a quote fails.
-fails : (t : ℕ → Bool) → t quote ≡ false → (f : List ℕ) → hasQuote f ≡ true → all t f ≡ false
-fails t e [] h = absurd (true≢false (sym h))
-fails t e (b ∷ f) h = go (eqb b quote) refl h (fails t e f)
+pub quote-fails : (t : ℕ → Bool) → t quote ≡ false → (f : List ℕ) → hasQuote f ≡ true → all t f ≡ false
+quote-fails t e [] h = absurd (true≢false (sym h))
+quote-fails t e (b ∷ f) h = go (eqb b quote) refl h (quote-fails t e f)
   where
     go : (x : Bool) → eqb b quote ≡ x → x || hasQuote f ≡ true → (hasQuote f ≡ true → all t f ≡ false) → t b && all t f ≡ false
     go true q k rest = rw (eqb-true b quote q, e)
-    go false q k rest = and-false (t b) (all t f) (rest k)
+    go false q k rest = and-right (t b) (rest k)
 
 -- 29 where a number should stand.
 pub quote-29 : (m : ℕ) (f : List ℕ) → hasQuote f ≡ true → isNumber m f ≡ false
-quote-29 m f h = and-false (ltb 0 (length f)) (all digit f && leb (valueOf f) m) (rw (fails digit refl f h))
+quote-29 m f h = and-right (ltb 0 (length f)) (rw (quote-fails digit refl f h))
 
--- 21 where a part number should stand.
-quote-on : (f g : List ℕ) → hasQuote f ≡ true → hasQuote (f ++ g) ≡ true
+-- In a longer field it stays.
+pub quote-on : (f g : List ℕ) → hasQuote f ≡ true → hasQuote (f ++ g) ≡ true
 quote-on [] g h = absurd (true≢false (sym h))
 quote-on (b ∷ f) g h = go (eqb b quote) h (quote-on f g)
   where
@@ -55,27 +50,6 @@ quote-on (b ∷ f) g h = go (eqb b quote) h (quote-on f g)
 quote-behind : (f g : List ℕ) → hasQuote g ≡ true → hasQuote (f ++ g) ≡ true
 quote-behind [] g h = h
 quote-behind (b ∷ f) g h = or-right (eqb b quote) (quote-behind f g h)
-
-part : ℕ → Bool
-part b = sign b || eqb b space
-
-all-part : (s : List ℕ) (m : ℕ) → all sign s ≡ true → all part (s ++ replicate m space) ≡ true
-unfolding part
-all-part [] zero h = refl
-all-part [] (suc m) h = all-part [] m h
-all-part (b ∷ s) m h = let p = both (sign b) (all sign s) h in rw (p .0) (all-part s m (p .1))
-
-pub quote-21 : (f : List ℕ) → hasQuote f ≡ true → wellFormed (padded 8 space f) ≡ false
-unfolding padded part
-quote-21 f h =
-    test-cases (λ b. b ≡ false) (wellFormed (padded 8 space f))
-    (λ e. absurd (true≢false (sym (clean e) ∙ fails part refl (padded 8 space f) (quote-on f (replicate (8 - length f) space) h))))
-    (λ e. refl)
-  where
-    clean : wellFormed (padded 8 space f) ≡ true → all part (padded 8 space f) ≡ true
-    clean e =
-        let n = formed (padded 8 space f) e .2 in
-        subst (λ (x : List ℕ). all part x ≡ true) (sym n) (all-part (front (padded 8 space f)) (8 - length (front (padded 8 space f))) (all-front (padded 8 space f)))
 
 -- ---- fields with two quotes as one, and as they stand
 

@@ -11,10 +11,9 @@ use lib.ListN.{length, take, drop, getD, length-drop, drop-of-length-le, List·g
 use lib.Seq.{drop-cons, drop-length, drop-drop, getD-drop}
 use lib.Dec.{eqb, leb, ltb}
 use borrow.Author.Tests.{eqb-true, leb-true, leb-false, le-leb, lt-leb, lt-ltb, le-ltb, eq-eqb, ne-eqb, ltb-true, ltb-false}
-use Rattle.base.proofs.Cases.{cond-cases, test-cases}
+use Rattle.base.proofs.Cases.{cond-cases, test-cases, both}
+use Rattle.base.specs.Lists.{all}
 use Rattle.text.specs.Grammar.{cr, lf, onto, linesOf}
-use Rattle.catalogue.specs.Parts.{all}
-use Rattle.catalogue.proofs.PartNumbers.{both}
 use Rattle.text.specs.Numerals.{digit, valueFrom, valueOf, isNumber}
 use Rattle.text.specs.Cursors.{breaksAt, lineLength, nextLine, cappedFrom, numberFrom, numberOf}
 

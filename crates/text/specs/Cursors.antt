@@ -7,7 +7,7 @@ use mathlib.Core.Option.{Option, none, some, Option·getD}
 use Prim.Native.Nat.{ℕ, suc, _+_, _-_, _*_, min}
 use lib.ListN.{length, take, drop, getD}
 use lib.Dec.{eqb, ltb}
-use Rattle.catalogue.specs.Parts.{all}
+use Rattle.base.specs.Lists.{all}
 use Rattle.text.specs.declared.State.{State}
 use Rattle.text.specs.declared.State.the-variants.{Fresh, Plain, Quoted, Closed}
 use Rattle.text.specs.declared.Turn.{Turn}

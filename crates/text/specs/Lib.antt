@@ -1,3 +1,4 @@
 pub mod Grammar
 pub mod Numerals
 pub mod Cursors
+pub mod Putting

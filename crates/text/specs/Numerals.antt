@@ -5,7 +5,7 @@ use mathlib.Core.List.{List, [], _∷_, _++_}
 use Prim.Native.Nat.{ℕ, zero, suc, _+_, _-_, _*_, _/_, _%_}
 use lib.ListN.{length}
 use lib.Dec.{leb, ltb}
-use Rattle.catalogue.specs.Parts.{all}
+use Rattle.base.specs.Lists.{all}
 use Rattle.text.specs.Grammar.{comma}
 
 abbrev pub digit : ℕ → Bool

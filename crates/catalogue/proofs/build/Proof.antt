@@ -3,7 +3,8 @@
 use mathlib.Core.Path.{_≡_, sym, _∙_}
 use mathlib.Core.Bool.{false}
 use borrow.Author.Needs.{needs}
-use Rattle.catalogue.specs.Parts.{partsOf, pieces, numbers, unfit, repeated, lacking}
+use Rattle.base.specs.Bytes.{pieces}
+use Rattle.catalogue.specs.Parts.{partsOf, numbers, unfit, repeated, lacking}
 use Rattle.catalogue.specs.Building as B
 use Rattle.catalogue.proofs.Only.{passed-built}
 use Rattle.catalogue.proofs.build.Statement.{statement}

@@ -5,7 +5,7 @@ use mathlib.Core.List.{[], _∷_, _++_}
 use Prim.Native.Nat.{_+_, _≤_}
 use native.Mathlib.Omega.{arith}
 use Rattle.tables.specs.declared.File.{File}
-use Rattle.tables.specs.Records.{pairBytes}
+use Rattle.base.specs.Bytes.{pairBytes}
 use Rattle.tables.specs.Held.{held, appended}
 use Rattle.tables.proofs.Appending.{appended-more, held-all}
 use Rattle.table_bytes.specs.TableBytes.{kindByte, headOf}

@@ -6,8 +6,9 @@ use native.Mathlib.Omega.{arith}
 use borrow.Author.Needs.{needs}
 use Rattle.base.specs.Lists.{upTo, padded}
 use Rattle.base.proofs.Arrays.{upTo-fill}
+use Rattle.base.proofs.Pieces.{slice-is}
 use Rattle.tables.specs.Records.{blankDevice}
-use Rattle.catalogue.proofs.Pieces.{slice-is, wanted-has, recordFor, wanted-devices}
+use Rattle.catalogue.proofs.Pieces.{wanted-has, recordFor, wanted-devices}
 use Rattle.catalogue.proofs.look_up.devices_of.Statement.{statement}
 use Rattle.catalogue.proofs.look_up.devices_of.Tie as tie
 

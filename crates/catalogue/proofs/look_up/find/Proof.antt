@@ -4,7 +4,8 @@ use mathlib.Core.Path.{_≡_, sym, _∙_}
 use Prim.Native.Nat.{_-_, _*_, _≤_}
 use native.Mathlib.Omega.{arith}
 use borrow.Author.Needs.{needs}
-use Rattle.catalogue.proofs.Pieces.{slice-is, Passed, passed-more}
+use Rattle.base.proofs.Pieces.{slice-is}
+use Rattle.catalogue.proofs.Pieces.{Passed, passed-more}
 use Rattle.catalogue.proofs.look_up.find.Statement.{statement}
 use Rattle.catalogue.proofs.look_up.find.Tie as tie
 

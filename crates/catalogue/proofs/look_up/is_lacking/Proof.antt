@@ -8,7 +8,8 @@ use borrow.Author.Count.{below-more}
 use borrow.Author.Needs.{needs}
 use Rattle.catalogue.specs.Parts.{partsOf, numbers, has}
 use Rattle.catalogue.specs.Places.{wantedAt}
-use Rattle.catalogue.proofs.Pieces.{slice-is, sought-has, sought-none, lacking-cut, lacking-one, lacking-none}
+use Rattle.base.proofs.Pieces.{slice-is}
+use Rattle.catalogue.proofs.Pieces.{sought-has, sought-none, lacking-cut, lacking-one, lacking-none}
 use Rattle.catalogue.proofs.look_up.is_lacking.Statement.{statement}
 use Rattle.catalogue.proofs.look_up.is_lacking.Tie as tie
 

@@ -8,7 +8,8 @@ use borrow.Author.Needs.{needs}
 use Rattle.catalogue.specs.Parts.{partsOf, numbers, repeated}
 use Rattle.catalogue.specs.Places.{numberAt}
 use Rattle.catalogue.proofs.Members.{repeated-next, repeated-stop, repeated-end}
-use Rattle.catalogue.proofs.Pieces.{slice-is, number-of, whole-numbers, sought-has, sought-none}
+use Rattle.base.proofs.Pieces.{slice-is}
+use Rattle.catalogue.proofs.Pieces.{number-of, whole-numbers, sought-has, sought-none}
 use Rattle.catalogue.proofs.look_up.is_repeated.Statement.{statement}
 use Rattle.catalogue.proofs.look_up.is_repeated.Tie as tie
 

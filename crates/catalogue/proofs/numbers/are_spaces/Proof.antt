@@ -5,7 +5,8 @@ use Prim.Native.Nat.{_-_, _≤_}
 use native.Mathlib.Omega.{arith}
 use lib.ListN.{length, drop, replicate}
 use borrow.Author.Needs.{needs}
-use Rattle.catalogue.specs.Parts.{same, space}
+use Rattle.base.specs.Bytes.{same}
+use Rattle.catalogue.specs.Parts.{space}
 use Rattle.catalogue.proofs.Scanning.{spaces-start, spaces-next, spaces-stop, spaces-end}
 use Rattle.catalogue.proofs.numbers.are_spaces.Statement.{statement}
 use Rattle.catalogue.proofs.numbers.are_spaces.Tie as tie

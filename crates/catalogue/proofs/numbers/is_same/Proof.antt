@@ -5,8 +5,8 @@ use Prim.Native.Nat.{_-_, _≤_}
 use native.Mathlib.Omega.{arith}
 use lib.ListN.{length, drop}
 use borrow.Author.Needs.{needs}
-use Rattle.catalogue.specs.Parts.{same}
-use Rattle.catalogue.proofs.Scanning.{same-end, same-next, same-stop, same-lengths}
+use Rattle.base.specs.Bytes.{same}
+use Rattle.base.proofs.Comparing.{same-end, same-next, same-stop, same-lengths}
 use Rattle.catalogue.proofs.numbers.is_same.Statement.{statement}
 use Rattle.catalogue.proofs.numbers.is_same.Tie as tie
 

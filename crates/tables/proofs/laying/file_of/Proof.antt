@@ -8,7 +8,7 @@ use native.Mathlib.Omega.{arith}
 use lib.ListN.{length}
 use Rattle.tables.specs.declared.File.{File}
 use Rattle.tables.specs.declared.Part.the-variants.{Devices, Tasks, Jobs}
-use Rattle.tables.specs.Records.{pairBytes}
+use Rattle.base.specs.Bytes.{pairBytes}
 use Rattle.tables.specs.Layout.{marker, sectionOf, layoutOf, bytesOf}
 use Rattle.tables.specs.Held.{cut, held, appended}
 use Rattle.tables.proofs.Appending.{appended-count, appended-more, held-all}

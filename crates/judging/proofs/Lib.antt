@@ -1,4 +1,0 @@
-pub mod Raw
-pub mod Faults
-pub mod PartFields
-pub mod Tables

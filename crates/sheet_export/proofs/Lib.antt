@@ -1,0 +1,4 @@
+pub mod PlanLines
+pub mod Spares
+pub mod Printed
+pub mod Records

@@ -1,0 +1,6 @@
+pub mod Raw
+pub mod Faults
+pub mod PartFields
+pub mod Tables
+pub mod RowLines
+pub mod Outcomes

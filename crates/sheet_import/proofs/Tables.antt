@@ -1,0 +1,89 @@
+-- A table of rows that were read, as a whole: what refuses it, and its bytes.
+-- Assumes nothing.
+use mathlib.Core.Path.{_≡_, refl, sym, _∙_}
+use mathlib.Core.Bool.{Bool, true, false, not, _||_, true≢false}
+use mathlib.Core.List.{List, [], _∷_}
+use Prim.Native.Nat.{ℕ, zero, suc, _<_, _≤_}
+use native.Mathlib.Omega.{arith}
+use lib.ListN.{length, drop, getD, length-map}
+use lib.Seq.{getD-drop}
+use lib.Dec.{ltb}
+use borrow.Author.Tests.{lt-ltb, le-ltb, ltb-false, not-false}
+use Rattle.base.specs.Lists.{padded, all}
+use Rattle.base.proofs.Clear.{clear}
+use Rattle.base.proofs.Records.{orElse-zero}
+use Rattle.base.proofs.Cases.{both, neither}
+use Rattle.catalogue.specs.Parts.{space, wellFormed, malformed, Part, numbers, whole, unfit}
+use Rattle.text.specs.Grammar.{linesOf}
+use Rattle.text.specs.Numerals.{isNumber}
+use Rattle.text.specs.Cursors.{rawOf, fieldAt}
+use Rattle.sheet.specs.declared.Rows.{Rows}
+use Rattle.sheet.specs.Sheets.{layout, areNumbers, lineTable, lineFault, linesFault}
+use Rattle.sheet_import.specs.Reading.{rawIn, partRaw, devicesRaw, Sound, Formed, EachLine}
+use Rattle.sheet_import.proofs.Raw.{raw-fault}
+use Rattle.sheet_import.proofs.Faults.{most-count}
+
+-- ---- lines without fault
+
+numbers-at : (ms : List ℕ) (fs : List (List ℕ)) → areNumbers ms fs ≡ true → (k : ℕ) → k < length ms → isNumber (getD ms k 0) (getD fs k []) ≡ true
+numbers-at [] fs h k l = absurd (omega arith)
+numbers-at (m ∷ ms) [] h k l = absurd (true≢false (sym h))
+numbers-at (m ∷ ms) (f ∷ fs) h zero l = both (isNumber m f) (areNumbers ms fs) h .0
+numbers-at (m ∷ ms) (f ∷ fs) h (suc k) l = numbers-at ms fs (both (isNumber m f) (areNumbers ms fs) h .1) k (omega arith)
+
+sound : (r : Rows) (l : List ℕ) → lineFault r l ≡ 0 → Sound r l
+sound r l e =
+    let c = clear (lineTable r (rawOf l)) (tt, (tt, (tt, tt))) (sym e ∙ raw-fault r l) in
+    let n = not-false _ (c .1 .1 .0) in
+    record {
+      reads = c .0;
+      numbers = λ k h. rw (← getD-drop (layout r .texts) (rawIn l) k []) (numbers-at (layout r .most) (drop (layout r .texts) (rawIn l)) n k (omega (arith, most-count r)));
+    }
+
+pub sound-lines : (r : Rows) (text : List ℕ) → linesFault r (linesOf text) ≡ 0 → EachLine (Sound r) text
+sound-lines r text e = go (linesOf text) (sym e)
+  where
+    go : (ls : List (List ℕ)) → 0 ≡ linesFault r ls → (k : ℕ) → k < length ls → Sound r (getD ls k [])
+    go [] h k l = absurd (omega arith)
+    go (m ∷ ls) h zero l = sound r m (sym (orElse-zero (lineFault r m) (linesFault r ls) h .0))
+    go (m ∷ ls) h (suc k) l = go ls (orElse-zero (lineFault r m) (linesFault r ls) h .1) k (omega arith)
+
+-- ---- 21
+
+abbrev isFormed : List ℕ → Bool
+isFormed l = wellFormed (padded 8 space (fieldAt (rawOf l) 0))
+
+formed-numbers : (ls : List (List ℕ)) → all wellFormed (numbers (devicesRaw ls)) ≡ all isFormed ls
+formed-numbers [] = refl
+formed-numbers (l ∷ ls) = rw (formed-numbers ls)
+
+whole-rows : (ls : List (List ℕ)) → all whole (devicesRaw ls) ≡ true
+whole-rows [] = refl
+whole-rows (l ∷ ls) = whole-rows ls
+
+rows-count : (ls : List (List ℕ)) → length (numbers (devicesRaw ls)) ≡ length ls
+rows-count ls = length-map (devicesRaw ls) (λ (p : Part). p .number) ∙ length-map ls partRaw
+
+or-none : (x : Bool) → x || false ≡ x
+or-none true = refl
+or-none false = refl
+
+pub unfit-many : (ls : List (List ℕ)) → 64 < length ls → unfit (devicesRaw ls) ≡ true
+unfit-many ls h = rw (lt-ltb 64 (length (numbers (devicesRaw ls))) (omega (arith, rows-count ls)))
+
+pub unfit-few : (ls : List (List ℕ)) → length ls ≤ 64 → unfit (devicesRaw ls) ≡ not (all isFormed ls)
+unfit-few ls h =
+    rw (le-ltb 64 (length (numbers (devicesRaw ls))) (omega (arith, rows-count ls)), formed-numbers ls, whole-rows ls) (or-none (not (all isFormed ls)))
+
+pub fit-lines : (text : List ℕ) → unfit (devicesRaw (linesOf text)) ≡ false → (length (linesOf text) ≤ 64) × EachLine Formed text
+fit-lines text u =
+    let ls = linesOf text in
+    let m = neither (malformed (numbers (devicesRaw ls))) (not (all whole (devicesRaw ls))) u .0 in
+    let p = neither (ltb 64 (length (numbers (devicesRaw ls)))) (not (all wellFormed (numbers (devicesRaw ls)))) m in
+    let few = ltb-false 64 (length (numbers (devicesRaw ls))) (p .0) in
+    (omega (arith, rows-count ls), go ls (sym (formed-numbers ls) ∙ not-false _ (p .1)))
+  where
+    go : (ls : List (List ℕ)) → all isFormed ls ≡ true → (k : ℕ) → k < length ls → Formed (getD ls k [])
+    go [] h k l = absurd (omega arith)
+    go (m ∷ ls) h zero l = both (isFormed m) (all isFormed ls) h .0
+    go (m ∷ ls) h (suc k) l = go ls (both (isFormed m) (all isFormed ls) h .1) k (omega arith)

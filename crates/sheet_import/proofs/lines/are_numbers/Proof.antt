@@ -1,0 +1,95 @@
+-- `sheet_import::lines::are_numbers` meets its contract.
+-- Assumes nothing.
+use mathlib.Core.Path.{_≡_, sym, ap, _∙_}
+use mathlib.Core.List.{[]}
+use Prim.Native.Nat.{ℕ, _+_, _-_, _≤_}
+use native.Mathlib.Omega.{arith}
+use lib.ListN.{drop, getD}
+use Rattle.text.specs.Cursors.{numberOf}
+use Rattle.sheet.specs.Sheets.{layout, areNumbers}
+use Rattle.sheet_import.specs.Reading.{rawIn}
+use Rattle.sheet_import.proofs.Faults.{few-texts, number-fails, number-passes, numbers-done}
+use borrow.Author.Needs.{needs}
+use Rattle.sheet_import.proofs.lines.are_numbers.Statement.{statement}
+use Rattle.sheet_import.proofs.lines.are_numbers.Tie as tie
+
+abbrev Inv-loop : tie.InvT-loop
+Inv-loop line rows first k₀ k = (k ≤ 4) × (areNumbers (layout rows .most) (drop (layout rows .texts) (rawIn line)) ≡ areNumbers (drop k (layout rows .most)) (drop (layout rows .texts + k) (rawIn line)))
+
+abbrev μ-loop : tie.MeasureT-loop
+μ-loop line rows first k₀ k = 4 - k
+
+texts-requires : tie.Need-texts-requires Inv-loop μ-loop
+texts-requires c κs = search needs
+
+loop-holds : tie.Need-loop-holds Inv-loop μ-loop
+loop-holds c =
+    let a = c .before .before .args in
+    let none : layout (a .rows) .texts ≡ layout (a .rows) .texts + 0 = omega arith in
+    (omega arith, ap (λ (x : ℕ). areNumbers (layout (a .rows) .most) (drop x (rawIn (a .line .now)))) none)
+
+most-requires : tie.Need-most-requires Inv-loop μ-loop
+most-requires c κs = search needs
+
+add-field : tie.Need-add-field Inv-loop μ-loop
+add-field c = omega (arith, c .before .before .before .texts .ensures, few-texts (c .before .before .before .before .before .args .rows))
+
+field-requires : tie.Need-field-requires Inv-loop μ-loop
+field-requires c κs = c .before .before .before .before .before .pre
+
+number-of-requires : tie.Need-number-of-requires Inv-loop μ-loop
+number-of-requires c κs = search needs
+
+returns : tie.Need-returns Inv-loop μ-loop
+returns c =
+    let l = c .before .before .before .before .before .loop in
+    let a = c .before .before .before .before .before .before .before .before .args in
+    let fs = rawIn (a .line .now) in
+    let first = c .before .before .before .before .before .before .texts .ensures in
+    let place : c .before .before .before .before .before .before .texts .result + l .k ≡ layout (a .rows) .texts + l .k = ap (λ (x : ℕ). x + l .k) first in
+    let number : c .before .number-of .result ≡ numberOf (getD fs (layout (a .rows) .texts + l .k) []) =
+    c .before .number-of .ensures ∙ ap numberOf (c .before .before .field .ensures ∙ ap (λ (x : ℕ). getD fs x []) place) in
+    let bound = c .before .before .before .most .ensures in
+    sym (l .inv .1 ∙ number-fails (a .rows) fs (l .k) (omega arith) (omega arith))
+
+add-k : tie.Need-add-k Inv-loop μ-loop
+add-k c = search needs
+
+loop-less : tie.Need-loop-less Inv-loop μ-loop
+loop-less c = search needs
+
+loop-again : tie.Need-loop-again Inv-loop μ-loop
+loop-again c =
+    let l = c .before .before .before .before .before .loop in
+    let a = c .before .before .before .before .before .before .before .before .args in
+    let fs = rawIn (a .line .now) in
+    let first = c .before .before .before .before .before .before .texts .ensures in
+    let place : c .before .before .before .before .before .before .texts .result + l .k ≡ layout (a .rows) .texts + l .k = ap (λ (x : ℕ). x + l .k) first in
+    let number : c .before .number-of .result ≡ numberOf (getD fs (layout (a .rows) .texts + l .k) []) =
+    c .before .number-of .ensures ∙ ap numberOf (c .before .before .field .ensures ∙ ap (λ (x : ℕ). getD fs x []) place) in
+    let bound = c .before .before .before .most .ensures in
+    (omega arith, l .inv .1 ∙ number-passes (a .rows) fs (l .k) (omega arith) (omega arith))
+
+returns-2 : tie.Need-returns-2 Inv-loop μ-loop
+returns-2 c =
+    let l = c .before .loop in
+    let a = c .before .before .before .before .args in
+    sym (l .inv .1 ∙ numbers-done (a .rows) (rawIn (a .line .now)) (l .k) (omega arith))
+
+pub are-numbers-spec : {M : Type 1} → statement M
+are-numbers-spec =
+    tie.close
+    (tie.spec
+    Inv-loop
+    μ-loop
+    texts-requires
+    loop-holds
+    most-requires
+    add-field
+    field-requires
+    number-of-requires
+    returns
+    add-k
+    loop-less
+    loop-again
+    returns-2)

@@ -1,0 +1,82 @@
+// What refuses a line of a sheet, and a text by its first faulty line.
+ghost use mathlib.Core.Path.{_≡_};
+ghost use mathlib.Core.Bool.{false};
+ghost use Prim.Native.Nat.{_<_};
+ghost use lib.ListN.{drop, getD};
+ghost use Rattle.text.specs.Grammar.{linesOf, unread};
+ghost use Rattle.text.specs.Cursors.{rawOf};
+ghost use Rattle.sheet.specs.Sheets.{layout, areNumbers, lineFault, linesFault};
+ghost use Rattle.sheet_import.specs.Reading.{rawIn};
+use sheet::Rows;
+use text::count_fields;
+use text::field;
+use text::line_end;
+use text::next_line;
+use text::number_of;
+
+// How many fields of text stand before the four numbers.
+fn texts(rows: Rows) -> usize
+    ensures { λ r. ⌜ r ≡ layout rows .texts ⌝ }
+{
+    match rows {
+        Rows::Devices => 1,
+        Rows::Jobs => 0,
+    }
+}
+
+// The most that number k may be: T and the device set have a byte, the others two.
+fn most(rows: Rows, k: usize) -> u32
+    requires { ⌜ k < 4 ⌝ }
+    ensures { λ r. ⌜ r ≡ getD (layout rows .most) k 0 ⌝ }
+{
+    match rows {
+        Rows::Devices => { if k == 0 { 255 } else { 65535 } }
+        Rows::Jobs => { if k == 3 { 255 } else { 65535 } }
+    }
+}
+
+fn are_numbers(line: &[u8], rows: Rows) -> bool
+    requires { ⌜ unread (rawOf (now line)) ≡ false ⌝ }
+    ensures { λ r. ⌜ r ≡ areNumbers (layout rows .most) (drop (layout rows .texts) (rawIn (now (line .entry)))) ⌝ }
+{
+    let first = texts(rows);
+    let mut k = 0;
+    while k < 4 {
+        if most(rows, k) < number_of(field(line, first + k)) {
+            return false;
+        }
+        k += 1;
+    }
+    true
+}
+
+// 27, 28 or 29, in this order; 0 for a line without fault.
+fn line_fault(line: &[u8], rows: Rows) -> u8
+    ensures { λ r. ⌜ r ≡ lineFault rows (now (line .entry)) ⌝ }
+{
+    let count = count_fields(line);
+    if count == 0 {
+        return 27;
+    }
+    if count != texts(rows) + 4 {
+        return 28;
+    }
+    if are_numbers(line, rows) { 0 } else { 29 }
+}
+
+// The number of the first line at fault.
+pub(crate) fn lines_fault(text: &[u8], rows: Rows) -> u8
+    ensures { λ r. ⌜ r ≡ linesFault rows (linesOf (now (text .entry))) ⌝ }
+{
+    let n = text.len();
+    let mut at = 0;
+    while at < n {
+        let end = at + line_end(&text[at..]);
+        let fault = line_fault(&text[at..end], rows);
+        if fault != 0 {
+            return fault;
+        }
+        at += next_line(&text[at..]);
+    }
+    0
+}
