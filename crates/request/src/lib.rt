@@ -3,7 +3,7 @@ mod checks; // checks.rt: what refuses a record, and the records of a section in
 mod euclid; // euclid.rt: the greatest common divisor and the least common multiple
 mod horizon; // horizon.rt: the horizon, given or worked out from the tasks
 mod jobs; // jobs.rt: the jobs in an array, listed or unfolded
-mod layout; // layout.rt: what a file without a fault says, laid out in arrays
+mod recorders; // recorders.rt: the recorder of a file without a fault
 mod records; // records.rt: what is planned with, from the records of the file
 mod sections; // sections.rt: the sections in turn, and the first fault
 
@@ -57,13 +57,13 @@ fn read_as(s: &[u8], kind: Kind) -> Request
 {
     let number = sections::fault_of(s, kind);
     if number == 0 {
-        let recorder = layout::recorder_in(s, kind);
+        let recorder = recorders::recorder_in(s, kind);
         Request {
             number: 0,
             recorder,
         }
     } else {
-        let recorder = layout::no_recorder();
+        let recorder = recorders::no_recorder();
         Request { number, recorder }
     }
 }

@@ -1,9 +1,9 @@
--- `request::layout::no_recorder` meets its contract.
+-- `request::recorders::no_recorder` meets its contract.
 -- Assumes nothing.
 use borrow.Author.Needs.{needs}
 use Rattle.request.proofs.Packed.{packed-none}
-use Rattle.request.proofs.layout.no_recorder.Statement.{statement}
-use Rattle.request.proofs.layout.no_recorder.Tie as tie
+use Rattle.request.proofs.recorders.no_recorder.Statement.{statement}
+use Rattle.request.proofs.recorders.no_recorder.Tie as tie
 
 no-devices-requires : tie.Need-no-devices-requires
 no-devices-requires c κs = search needs

@@ -1,9 +1,9 @@
--- `request::layout::no_devices` meets its contract.
+-- `request::recorders::no_devices` meets its contract.
 -- Assumes nothing.
 use mathlib.Core.Path.{refl}
 use Rattle.base.specs.Lists.{padded}
-use Rattle.request.proofs.layout.no_devices.Statement.{statement}
-use Rattle.request.proofs.layout.no_devices.Tie as tie
+use Rattle.request.proofs.recorders.no_devices.Statement.{statement}
+use Rattle.request.proofs.recorders.no_devices.Tie as tie
 
 returns : tie.Need-returns
 unfolding padded

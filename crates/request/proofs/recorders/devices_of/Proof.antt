@@ -1,4 +1,4 @@
--- `request::layout::devices_of` meets its contract.
+-- `request::recorders::devices_of` meets its contract.
 -- Assumes nothing.
 use borrow.Author.Needs.{needs}
 use mathlib.Core.Path.{_≡_, refl, sym}
@@ -11,8 +11,8 @@ use Rattle.base.proofs.Records.{after-more, after-one}
 use Rattle.tables.specs.Records.{deviceAt, deviceSize}
 use Rattle.tables.specs.Layout.{devicePlace}
 use Rattle.request.specs.Format.{deviceOf, emptyDevice}
-use Rattle.request.proofs.layout.devices_of.Statement.{statement}
-use Rattle.request.proofs.layout.devices_of.Tie as tie
+use Rattle.request.proofs.recorders.devices_of.Statement.{statement}
+use Rattle.request.proofs.recorders.devices_of.Tie as tie
 
 abbrev Inv-loop : tie.InvT-loop
 Inv-loop s kind n devices₀ at₀ k₀ devices at k =

@@ -1,4 +1,4 @@
--- `request::layout::recorder_in` meets its contract.
+-- `request::recorders::recorder_in` meets its contract.
 -- Assumes nothing.
 use borrow.Author.Needs.{needs}
 use mathlib.Core.Path.{_≡_}
@@ -13,8 +13,8 @@ use Rattle.request.specs.Held.{SoundTasks}
 use Rattle.request.proofs.Checked.{tasks-sound, jobs-room}
 use Rattle.request.proofs.Faultless.{Faultless, faultless, length-jobs}
 use Rattle.request.proofs.Packed.{packed-held}
-use Rattle.request.proofs.layout.recorder_in.Statement.{statement}
-use Rattle.request.proofs.layout.recorder_in.Tie as tie
+use Rattle.request.proofs.recorders.recorder_in.Statement.{statement}
+use Rattle.request.proofs.recorders.recorder_in.Tie as tie
 
 ok : (c : tie.After-shared-slice-known2) → Faultless (c .before .before .args .kind) (c .before .before .args .s .now)
 ok c = faultless _ _ (c .before .before .pre)

@@ -1,4 +1,4 @@
-// What a file without a fault says, laid out in arrays: the search reads devices and jobs at every vertex.
+// The recorder of a file without a fault: its devices and jobs in arrays, since the search reads them at every vertex.
 ghost use mathlib.Core.Path.{_≡_};
 ghost use mathlib.Core.List.{[]};
 ghost use Prim.Native.Nat.{ℕ, _≤_};
