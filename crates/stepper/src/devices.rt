@@ -14,11 +14,11 @@ use crate::ordering::order_of;
 use base::JobNumber;
 use schedule::Recorder;
 use schedule::running_order;
-use steps::Stepper;
+use steps::Stepped;
 use steps::run;
 
 // Device k over the round: its state at H, and the energy that it has spent.
-fn run_device(r: Recorder, starts: &[u16], order: [JobNumber; 16], k: usize) -> Stepper
+fn run_device(r: Recorder, starts: &[u16], order: [JobNumber; 16], k: usize) -> Stepped
     requires { ⌜ Valid r × Feasible r (now starts) × (order ≡ orderOf (now starts)) × (k < r .devices .count) ⌝ }
     ensures { λ x. ⌜ (x ≡ steppedBy r (now (starts .entry)) k) × (x .energy ≤ 65535 * r .horizon) ⌝ }
 {

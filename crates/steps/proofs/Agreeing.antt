@@ -13,7 +13,7 @@ use Rattle.schedule.specs.declared.Recorder.{Recorder}
 use Rattle.schedule.specs.Quantities.{device, run, Valid}
 use Rattle.schedule.specs.Listing.{Feasible, Place, running}
 use Rattle.steps.specs.declared.State.{State}
-use Rattle.steps.specs.declared.Stepper.{Stepper}
+use Rattle.steps.specs.declared.Stepped.{Stepped}
 use Rattle.steps.specs.declared.Order.{Order}
 use Rattle.steps.specs.Stepping.{atStart, atEnd, endOf, nextUses, nextStart, spent, finally}
 use Rattle.steps.specs.Running.{alone, later, end, after, nextBegin, nextUse, fresh, turn, stepped, Shows, steppedBy}
@@ -30,7 +30,7 @@ module _ (R : Recorder) (k : ℕ) (o : Order) where
   shows-begin i [] h = rw (le-ltb i (o .count) (omega arith))
   shows-begin i (q ∷ r) h = rw (lt-ltb i (o .count) (h .0)) (h .1)
 
-  abbrev sofar : ℕ → Stepper
+  abbrev sofar : ℕ → Stepped
   sofar i = each (turn (device R k) (R .horizon) o) i fresh
 
   -- What the steps from job i on add.
@@ -87,7 +87,7 @@ stepped-is R valid s f k o h =
     let x = adds R k o (running R s) 0 h in
     (x .0 ∙ sym (finally-is R valid s f k), rw (row-is R valid s f k) (omega (arith, x .1)))
 
-both : (x : Stepper) (st : State) (e : ℕ) → x .state ≡ st → x .energy ≡ e → x ≡ record { state = st; energy = e }
+both : (x : Stepped) (st : State) (e : ℕ) → x .state ≡ st → x .energy ≡ e → x ≡ record { state = st; energy = e }
 both x st e p q = rw (← p, ← q)
 
 pub stepped-by : (R : Recorder) → Valid R → (s : List ℕ) → Feasible R s → (k : ℕ) (o : Order) → Shows R k o 0 (running R s)

@@ -13,7 +13,7 @@ use borrow.Author.Tests.{ltb-true}
 use Rattle.device.specs.declared.Device.{Device}
 use Rattle.device.specs.Row.{Sound, powerAt, power, energy}
 use Rattle.steps.specs.declared.State.{State}
-use Rattle.steps.specs.declared.Stepper.{Stepper}
+use Rattle.steps.specs.declared.Stepped.{Stepped}
 use Rattle.steps.specs.declared.Order.{Order}
 use Rattle.steps.specs.declared.State.the-variants.{Working, Asleep, Down, Up}
 use Rattle.steps.specs.Stepping.{letter, passed, atStart, Events, rowBy}
@@ -71,7 +71,7 @@ module _ (o : Order) (h : ℕ) (sp : Spaced o h) where
       (λ q. sp .rising (suc i) (ltb-true (suc i) (o .count) q)) (λ q. end-within i l))
 
   module _ (d : Device) (small : Most d 65535) where
-    turn-most : (i : ℕ) (x : Stepper) → turn d h o i x .energy ≤ x .energy + 65535 * (begin o i - after o i) + 65535 * (end o i - begin o i)
+    turn-most : (i : ℕ) (x : Stepped) → turn d h o i x .energy ≤ x .energy + 65535 * (begin o i - after o i) + 65535 * (end o i - begin o i)
     unfolding turn
     turn-most i x =
         omega (
@@ -104,7 +104,7 @@ module _ (o : Order) (h : ℕ) (sp : Spaced o h) where
         )
 
 -- A turn of the loop, by what its parts gave.
-pub turn-is : (d : Device) (h : ℕ) (o : Order) (i : ℕ) (x r : Stepper) (at nb : ℕ) (nu : Bool) → at ≡ after o i → nb ≡ nextBegin h o (i + 1) → nu ≡ nextUse o (i + 1)
+pub turn-is : (d : Device) (h : ℕ) (o : Order) (i : ℕ) (x r : Stepped) (at nb : ℕ) (nu : Bool) → at ≡ after o i → nb ≡ nextBegin h o (i + 1) → nu ≡ nextUse o (i + 1)
     → r ≡ jobOver d (begin o i - at) (end o i - begin o i) (usesAt o i) nu (nb - end o i) x → r ≡ turn d h o i x
 unfolding turn
 turn-is d h o i x r at nb nu p q u e = rw (← p, ← q, ← u) e

@@ -15,7 +15,7 @@ use Rattle.schedule.specs.Quantities.{uses}
 use Rattle.schedule.specs.Listing.{Place}
 use Rattle.steps.specs.declared.State.{State}
 use Rattle.steps.specs.declared.State.the-variants.{Working}
-use Rattle.steps.specs.declared.Stepper.{Stepper}
+use Rattle.steps.specs.declared.Stepped.{Stepped}
 use Rattle.steps.specs.declared.Order.{Order}
 use Rattle.steps.specs.Stepping.{letter, passed, moveTime, Rule, atStart, atEnd, endOf, spent, finally}
 
@@ -29,13 +29,13 @@ later zero st = st
 later (suc n) st = later n (passed st)
 
 -- The device's record: n ticks pass, a rule is put to it, and both for a whole job.
-abbrev pub passOver : Device → ℕ → Stepper → Stepper
+abbrev pub passOver : Device → ℕ → Stepped → Stepped
 passOver d n x = record { state = later n (x .state); energy = x .energy + energy d (alone n (x .state)) }
 
-abbrev pub ruledTo : Rule → Device → (this next : Bool) (pause : ℕ) → Stepper → Stepper
+abbrev pub ruledTo : Rule → Device → (this next : Bool) (pause : ℕ) → Stepped → Stepped
 ruledTo f d this next pause x = record { state = f (moveTime d) this next pause (x .state); energy = x .energy }
 
-abbrev pub jobOver : Device → (gap run : ℕ) (this next : Bool) (pause : ℕ) → Stepper → Stepper
+abbrev pub jobOver : Device → (gap run : ℕ) (this next : Bool) (pause : ℕ) → Stepped → Stepped
 jobOver d gap run this next pause x = ruledTo atEnd d this next pause (passOver d run (ruledTo atStart d this next pause (passOver d gap x)))
 
 -- ---- the jobs in running order
@@ -67,14 +67,14 @@ pub record Spaced (o : Order) (h : ℕ) : Type 0 where
   pub lasting : (i : ℕ) → i < o .count → begin o i < end o i
   pub within : after o (o .count) ≤ h
 
-abbrev pub fresh : Stepper
+abbrev pub fresh : Stepped
 fresh = record { state = Working; energy = 0 }
 
-unfoldable pub turn : Device → ℕ → Order → ℕ → Stepper → Stepper
+unfoldable pub turn : Device → ℕ → Order → ℕ → Stepped → Stepped
 turn d h o i x = jobOver d (begin o i - after o i) (end o i - begin o i) (usesAt o i) (nextUse o (i + 1)) (nextBegin h o (i + 1) - end o i) x
 
 -- All jobs in turn, and the ticks after the last.
-unfoldable pub stepped : Device → ℕ → Order → Stepper
+unfoldable pub stepped : Device → ℕ → Order → Stepped
 stepped d h o = passOver d (h - after o (o .count)) (each (turn d h o) (o .count) fresh)
 
 -- What device k sees of the places of a schedule, from job i on.
@@ -84,5 +84,5 @@ Shows R k o i (p ∷ r) =
     (i < o .count) × (begin o i ≡ p .start) × (end o i ≡ endOf R k p) × (usesAt o i ≡ uses R k (p .job)) × Shows R k o (suc i) r
 
 -- What a schedule leaves of device k: its state at H, and the energy of its row.
-abbrev pub steppedBy : Recorder → List ℕ → ℕ → Stepper
+abbrev pub steppedBy : Recorder → List ℕ → ℕ → Stepped
 steppedBy R s k = record { state = finally R k s; energy = spent R k s }

@@ -16,8 +16,8 @@ pub enum State {
     Up(u8),
 }
 
-// A device's record: its state, and the energy that it has spent.
-pub struct Stepper {
+// A stepped device's record (rule 90): its state, and the energy that it has spent.
+pub struct Stepped {
     pub state: State,
     pub energy: u32,
 }

@@ -6,7 +6,7 @@ ghost use Rattle.steps.specs.Stepping.{atStart, atEnd};
 ghost use Rattle.steps.specs.Running.{passOver, ruledTo, jobOver, nextBegin, nextUse, stepped, Spaced};
 use crate::Order;
 use crate::State;
-use crate::Stepper;
+use crate::Stepped;
 use crate::rules::end_state;
 use crate::rules::start_state;
 use crate::ticks::after_ticks;
@@ -14,38 +14,38 @@ use crate::ticks::energy_ticks;
 use device::Device;
 
 // The step of time: n ticks pass.
-pub fn pass(d: Device, n: u16, x: Stepper) -> Stepper
+pub fn pass(d: Device, n: u16, x: Stepped) -> Stepped
     requires { ⌜ Sound d × (x .energy + 65535 * n < 4294967296) ⌝ }
     ensures { λ r. ⌜ r ≡ passOver d n x ⌝ }
 {
     let st = x.state;
     let spent = x.energy + energy_ticks(d, n, st);
     let now = after_ticks(n, st);
-    Stepper {
+    Stepped {
         state: now,
         energy: spent,
     }
 }
 
 // The step of a start: `this` job uses the device or not, the `next` uses it or not, and the pause between them is so long.
-pub fn on_start(d: Device, this: bool, next: bool, pause: u16, x: Stepper) -> Stepper
+pub fn on_start(d: Device, this: bool, next: bool, pause: u16, x: Stepped) -> Stepped
     ensures { λ r. ⌜ r ≡ ruledTo atStart d this next pause x ⌝ }
 {
     let st = x.state;
     let now = start_state(d.shut, this, next, pause, st);
-    Stepper {
+    Stepped {
         state: now,
         energy: x.energy,
     }
 }
 
 // The step of a completion.
-pub fn on_end(d: Device, this: bool, next: bool, pause: u16, x: Stepper) -> Stepper
+pub fn on_end(d: Device, this: bool, next: bool, pause: u16, x: Stepped) -> Stepped
     ensures { λ r. ⌜ r ≡ ruledTo atEnd d this next pause x ⌝ }
 {
     let st = x.state;
     let now = end_state(d.shut, this, next, pause, st);
-    Stepper {
+    Stepped {
         state: now,
         energy: x.energy,
     }
@@ -59,8 +59,8 @@ fn job_over(
     this: bool,
     next: bool,
     pause: u16,
-    x: Stepper,
-) -> Stepper
+    x: Stepped,
+) -> Stepped
     requires { ⌜ Sound d × (x .energy + 65535 * (gap + run) < 4294967296) ⌝ }
     ensures { λ r. ⌜ r ≡ jobOver d gap run this next pause x ⌝ }
 {
@@ -93,11 +93,11 @@ fn next_use(o: Order, j: usize) -> bool
 }
 
 // The device over h ticks.
-pub fn run(d: Device, h: u16, o: Order) -> Stepper
+pub fn run(d: Device, h: u16, o: Order) -> Stepped
     requires { ⌜ Sound d × Spaced o h ⌝ }
     ensures { λ r. ⌜ (r ≡ stepped d h o) × (r .energy ≤ 65535 * h) ⌝ }
 {
-    let mut x = Stepper {
+    let mut x = Stepped {
         state: State::Working,
         energy: 0,
     };
