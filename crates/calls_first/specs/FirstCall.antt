@@ -6,5 +6,5 @@ use Prim.Native.Nat.{ℕ}
 use Rattle.first.specs.Promises.{FirstOf}
 use Rattle.calls.specs.Calls.{StartsCalled}
 
-abbrev pub FirstCalled : List ℕ → List ℕ → List ℕ → ℕ → List ℕ → List ℕ → Type 0
+abbrev pub FirstCalled : (file lent result : List ℕ) (n : ℕ) (lent′ result′ : List ℕ) → Type 0
 FirstCalled file lent result n lent′ result′ = StartsCalled FirstOf file lent result n lent′ result′

@@ -6,5 +6,5 @@ use Prim.Native.Nat.{ℕ}
 use Rattle.calls.specs.Calls.{StartsCalled}
 use Rattle.cheapest.specs.Promises.{LeastOf}
 
-abbrev pub LeastCalled : List ℕ → ℕ → List ℕ → List ℕ → ℕ → List ℕ → List ℕ → Type 0
+abbrev pub LeastCalled : (file : List ℕ) (budget : ℕ) (lent result : List ℕ) (n : ℕ) (lent′ result′ : List ℕ) → Type 0
 LeastCalled file budget lent result n lent′ result′ = StartsCalled (LeastOf budget) file lent result n lent′ result′

@@ -175,11 +175,11 @@ unfoldable pub mixed : ℕ → ℕ → ℕ → Bool
 mixed tasks field count = not (eqb tasks 0) && (not (eqb field 0) || not (eqb count 0))
 
 -- The number of jobs, given or unfolded.
-unfoldable pub countOf : List ℕ → ℕ → ℕ → ℕ → ℕ → ℕ
+unfoldable pub countOf : (file : List ℕ) (tasks from count horizon : ℕ) → ℕ
 countOf s tasks from count h = cond (eqb tasks 0) count (length (unfolded s tasks from h))
 
 -- 12, then the job records, then 2.
-unfoldable pub jobRecords : List ℕ → ℕ → ℕ → ℕ → ℕ → ℕ → ℕ
+unfoldable pub jobRecords : (file : List ℕ) (devices tasks from at horizon : ℕ) → ℕ
 jobRecords s n tasks from at h =
     cond (ltb 16 (countOf s tasks from (byteAt s at) h)) 12
     (orElse (recordsFault s (JobRecords n h) (byteAt s at) (at + 1))
@@ -187,7 +187,7 @@ jobRecords s n tasks from at h =
     0))
 
 -- Once the job count is there: 11, 10, and what follows them (rule 15).
-unfoldable pub jobSection : List ℕ → ℕ → ℕ → ℕ → ℕ → ℕ
+unfoldable pub jobSection : (file : List ℕ) (devices tasks from at : ℕ) → ℕ
 jobSection s n tasks from at =
     cond (leb (length s) at) 1
     (cond (mixed tasks (pairAt s 0) (byteAt s at)) 11
