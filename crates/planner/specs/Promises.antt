@@ -37,6 +37,23 @@ refusalAt n j = record { number = n; job = record { 0 = j }; horizon = 0; energy
 abbrev pub refusalAfter : ℕ → ℕ → Answer
 refusalAfter n c = record { number = n; job = record { 0 = 0 }; horizon = 0; energy = 0; count = c }
 
+-- ---- the order of refusals
+
+-- Where its test holds a refusal is answered, and the lent memory stays as it was (rule 19); unless it does, the rest decides. So refusals stand in their order
+-- (rule 16), each said once.
+pub data Unless {L : Type 0} (Test : Type 0) (a : Answer) (lent : L) (Rest : Answer → L → Type 0) : Answer → L → Type 0 where
+  stops : Test → Unless Test a lent Rest a lent
+  passes : {b : Answer} {after : L} → (Test → ⊥) → Rest b after → Unless Test a lent Rest b after
+
+-- The same for given start times: the first fault is answered with its job (rules 22, 23), unless they are feasible (rule 20).
+pub data UnlessFaulty {L : Type 0} (R : Recorder) (starts : List ℕ) (lent : L) (Rest : Answer → L → Type 0) : Answer → L → Type 0 where
+  faulty : {n j : ℕ} → Fault R starts n j → UnlessFaulty R starts lent Rest (refusalAt n j) lent
+  feasible : {b : Answer} {after : L} → Feasible R starts → Rest b after → UnlessFaulty R starts lent Rest b after
+
+-- At last, where no refusal is: the answer, and the lent memory after it.
+pub data Gives {L : Type 0} (a : Answer) (after : L) : Answer → L → Type 0 where
+  gives : Gives a after a after
+
 -- ---- the file
 
 -- The file is refused, by one of the numbers 1 to 13 or 26 (rules 15 and 83); or it is read as the recorder R.

@@ -16,13 +16,13 @@ use Rattle.request.specs.Format.{recorderIn}
 use Rattle.request.specs.Format as Format
 use Rattle.tables.specs.Layout as Layout
 use Rattle.schedule.specs.Visiting.{written}
-use Rattle.planner.specs.Promises.{success, refusal}
+use Rattle.planner.specs.Promises.{success, refusal, stops, passes, feasible, gives}
 use Rattle.planner.specs.Promises as Frame
 use Rattle.steps.specs.declared.State.{State}
 use Rattle.steps.specs.declared.State.the-variants.{Working, Asleep}
 use Rattle.steps.specs.Stepping.{S, rowBy, stateBy, starts, ends, events, row, spent, finally}
 use Rattle.stepper.specs.Promises.{Unfit, marked, unlike, Brief, shorter, SteppedThrough}
-use Rattle.stepper.specs.Promises as P
+use Rattle.stepper.proofs.Fitting.{past}
 
 -- What a file's device k does at given starts: its row, what it spends, and its state at H.
 abbrev On : ℕ → List ℕ → List ℕ → List Letter → ℕ → State → Type 0
@@ -120,11 +120,13 @@ pub outcomes-hold :
 unfolding Format.readOf Format.readAs Format.faultAs Layout.kindOf Format.taskSection Format.jobSection Format.jobRecords Format.countOf Format.mixed Format.recordFault Format.recordTable Format.deviceTable Format.powersTable Format.noLower Format.taskTable Format.jobTable Format.lacks firstOf Format.horizonOf Format.jobsOf Format.recorderAs upTo padded remove soonest ordered row spent rowBy events starts ends written
 outcomes-hold = (
   Frame.OfFile.read {R = recorderIn single} refl
-      (P.StepsOf.stepped (omega arith) (run-feasible (recorderIn single) (place 0 0 ∷ []) (inl refl, omega arith, omega arith, refl)) single-fit single-long),
+      (past (recorderIn single) (0 ∷ []) (7 ∷ 7 ∷ []) refl (omega arith)
+      (feasible (run-feasible (recorderIn single) (place 0 0 ∷ []) (inl refl, omega arith, omega arith, refl)) (passes single-fit (passes single-long gives)))),
   Frame.OfFile.read {R = recorderIn short} refl
-      (P.StepsOf.brief (omega arith)
-      (run-feasible (recorderIn short) (place 0 0 ∷ place 1 8 ∷ []) (inl refl, omega arith, omega arith, (inl refl, omega arith, omega arith, refl))) short-fit
-      (shorter {j = 0} {k = 0} (omega arith) (omega arith) (omega arith))),
+      (past (recorderIn short) (0 ∷ 8 ∷ []) (7 ∷ []) refl (omega arith)
+      (feasible (run-feasible (recorderIn short) (place 0 0 ∷ place 1 8 ∷ []) (inl refl, omega arith, omega arith, (inl refl, omega arith, omega arith, refl)))
+      (passes short-fit (stops (shorter {j = 0} {k = 0} (omega arith) (omega arith) (omega arith)))))),
   Frame.OfFile.read {R = recorderIn second} refl
-      (P.StepsOf.unfit (omega arith) (run-feasible (recorderIn second) (place 0 0 ∷ []) (inl refl, omega arith, omega arith, refl)) (marked refl)),
+      (past (recorderIn second) (0 ∷ []) [] refl (omega arith)
+      (feasible (run-feasible (recorderIn second) (place 0 0 ∷ []) (inl refl, omega arith, omega arith, refl)) (stops (marked refl)))),
 )

@@ -3,7 +3,7 @@
 use mathlib.Core.Path.{_≡_, refl, sym, ap, _∙_}
 use mathlib.Core.Bool.{true, false, cond}
 use mathlib.Core.List.{List}
-use Prim.Native.Nat.{ℕ, _≤_}
+use Prim.Native.Nat.{ℕ, _≤_, _<_}
 use native.Mathlib.Omega.{arith}
 use lib.Dec.{eqb}
 use lib.ListN.{length}
@@ -16,11 +16,17 @@ use Rattle.schedule.specs.Listing.{Feasible}
 use Rattle.schedule.specs.Judging.{verdict, Judgement}
 use Rattle.schedule.specs.Judging as J
 use Rattle.schedule.proofs.Judgements.{fault-some}
-use Rattle.planner.specs.Promises.{refusal, refusalAt}
+use Rattle.planner.specs.declared.Answer.{Answer}
+use Rattle.planner.specs.Promises.{refusal, refusalAt, Unless, stops, passes, faulty, feasible}
 use Rattle.stepper.specs.Promises.{Unfit, marked, unlike, Brief, StepsOf}
-use Rattle.stepper.specs.Promises as P
 use Rattle.stepper.specs.Fitness.{Fitness, Unlike}
 use Rattle.stepper.specs.Fitness as F
+
+-- 14 and 15 are passed.
+pub past : (R : Recorder) (starts lent : List ℕ) → length starts ≡ jobs R → R .devices .count ≤ length lent
+    → {a : Answer} {l : List ℕ} {Rest : Answer → List ℕ → Type 0} → Rest a l
+    → Unless (length starts ≡ jobs R → ⊥) (refusal 14) lent (Unless (length lent < R .devices .count) (refusal 15) lent Rest) a l
+past R starts lent e room r = passes (λ u. u e) (passes (λ s. omega (arith, s, room)) r)
 
 module _ (file : List ℕ) (R : Recorder) where
   pub mark-unfit : eqb (byteAt file 0) 255 ≡ true → Unfit file R
@@ -36,8 +42,8 @@ module _ (file : List ℕ) (R : Recorder) where
   -- The first fault, of the start times or of the recorder, and what is refused by it; or none.
   module _ (starts lent : List ℕ) (e : length starts ≡ jobs R) (room : R .devices .count ≤ length lent) where
     fitness-refused : Feasible R starts → {n : ℕ} → Fitness file R n → (n ≡ 0 → ⊥) → StepsOf file starts lent R (refusal n) lent
-    fitness-refused f (F.Fitness.unfit u) ne = P.StepsOf.unfit room f u
-    fitness-refused f (F.Fitness.brief u b) ne = P.StepsOf.brief room f u b
+    fitness-refused f (F.Fitness.unfit u) ne = past R starts lent e room (feasible f (stops u))
+    fitness-refused f (F.Fitness.brief u b) ne = past R starts lent e room (feasible f (passes u (stops b)))
     fitness-refused f (F.Fitness.fit u b) ne = absurd (ne refl)
 
     fitness-fit : {n : ℕ} → Fitness file R n → n ≡ 0 → (Unfit file R → ⊥) × (Brief R → ⊥)
@@ -49,7 +55,7 @@ module _ (file : List ℕ) (R : Recorder) where
         → (v .number ≡ 0 → ⊥) → StepsOf file starts lent R (refusalAt (v .number) (v .job .0)) lent
     first-refused judged v n (J.Judgement.faulty {n = m} {j = i} f) h is ne =
         let q : v ≡ verdict m i = rw (ne-eqb m 0 (fault-some R starts f)) at is in
-        rw q (P.StepsOf.faulty e room f)
+        rw q (past R starts lent e room (faulty f))
     first-refused judged v n (J.Judgement.feasible g) h is ne =
         let q : v ≡ verdict n 0 = is in
         rw q (fitness-refused g h (λ z. ne (ap (λ (x : Verdict). x .number) q ∙ z)))

@@ -2,9 +2,9 @@
 -- Assumes nothing.
 use borrow.Author.Needs.{needs}
 use Rattle.schedule.specs.Listing.{Feasible}
+use Rattle.planner.specs.Promises.{stops, passes, feasible, gives}
 use Rattle.stepper.specs.Promises.{Unfit, Brief}
-use Rattle.stepper.specs.Promises as P
-use Rattle.stepper.proofs.Fitting.{first-refused, first-fit}
+use Rattle.stepper.proofs.Fitting.{past, first-refused, first-fit}
 use Rattle.stepper.proofs.step_recorder.Statement.{statement}
 use Rattle.stepper.proofs.step_recorder.Tie as tie
 
@@ -21,13 +21,13 @@ refusal-requires : tie.Need-refusal-requires
 refusal-requires c κs = search needs
 
 returns : tie.Need-returns
-returns c = rw (c .refusal .ensures) (P.StepsOf.unequal (c .before .if1 .taken))
+returns c = rw (c .refusal .ensures) (stops (c .before .if1 .taken))
 
 refusal-requires-2 : tie.Need-refusal-requires-2
 refusal-requires-2 c κs = search needs
 
 returns-2 : tie.Need-returns-2
-returns-2 c = rw (c .refusal2 .ensures) (P.StepsOf.short (c .before .before .before .if1 .left) (c .before .if2 .taken))
+returns-2 c = rw (c .refusal2 .ensures) (passes (λ u. u (c .before .before .before .if1 .left)) (stops (c .before .if2 .taken)))
 
 judge-requires : tie.Need-judge-requires
 judge-requires c κs = search needs
@@ -63,8 +63,9 @@ returns-4 : tie.Need-returns-4
 returns-4 c =
     let l = c .before .before .before .before .before in
     let w = faultless l in
+    let a = l .before .before .before .before .before .before .before .before .before .before .before .before .args in
     rw (c .success .ensures, c .before .before .before .run-devices .ensures .0, c .before .before .before .run-devices .ensures .1)
-    (P.StepsOf.stepped (l .before .before .before .before .before .if2 .left) (w .0) (w .1) (w .2))
+    (past (a .r) (a .starts .now) (a .energies .now) (w .0 .one-each) (l .before .before .before .before .before .if2 .left) (feasible (w .0) (passes (w .1) (passes (w .2) gives))))
 
 pub step-recorder-spec : {M : Type 1} → statement M
 step-recorder-spec =
