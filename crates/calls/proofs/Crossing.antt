@@ -1,6 +1,6 @@
 -- What the library promises, as it crosses to C.
 -- Assumes nothing.
-use mathlib.Core.Path.{_≡_, refl, sym, ap, subst, _∙_}
+use mathlib.Core.Path.{_≡_, sym, ap, subst, _∙_}
 use mathlib.Core.List.{List, _++_}
 use Prim.Native.Nat.{ℕ, _*_, _≤_, _<_}
 use native.Mathlib.Omega.{arith}
@@ -11,10 +11,10 @@ use Rattle.base.proofs.Arrays.{length-upTo}
 use Rattle.schedule.specs.declared.Recorder.{Recorder}
 use Rattle.schedule.specs.Quantities.{jobs}
 use Rattle.planner.specs.declared.Answer.{Answer}
-use Rattle.planner.specs.Promises.{refusal, Reads, OfFile, refused, read, SearchOf}
+use Rattle.planner.specs.Promises.{refusal, stops, passes, Reads, OfFile, refused, read, SearchOf}
 use Rattle.planner.specs.Promises as P
 use Rattle.calls.specs.Bytes.{spread, startsIn}
-use Rattle.calls.specs.Calls.{told, Roomed, cramped, roomy, Called, called, blank, StartsOf, kept, given, RowsCallOf, RowsCalled}
+use Rattle.calls.specs.Calls.{told, Roomed, Called, called, blank, StartsOf, kept, given, RowsCalled}
 use Rattle.calls.specs.Cramped.{Cramped}
 use Rattle.calls.proofs.Digits.{told-none}
 
@@ -36,18 +36,18 @@ module _ {L : Type 0} (file result : List ℕ) (lent : L) (X : Recorder → Answ
   cramped-call h (Cramped.refused {n = n} r) =
       subst (λ (m : List ℕ). Called file result lent (λ R a l. Roomed result lent (X R) a l) n m lent) (told-none (refusal n) result h) (called (refused r))
   cramped-call h (Cramped.read r) =
-      subst (λ (m : List ℕ). Called file result lent (λ R a l. Roomed result lent (X R) a l) 15 m lent) (told-none (refusal 15) result h) (called (read r (cramped h)))
+      subst (λ (m : List ℕ). Called file result lent (λ R a l. Roomed result lent (X R) a l) 15 m lent) (told-none (refusal 15) result h) (called (read r (stops h)))
 
   pub roomy-call : {a : Answer} {after : L} → 11 ≤ length result → OfFile file lent X a after
       → Called file result lent (λ R b l. Roomed result lent (X R) b l) (a .number) (told a result) after
   roomy-call h (refused r) = called (refused r)
-  roomy-call h (read r t) = called (read r (roomy h t))
+  roomy-call h (read r t) = called (read r (passes (λ s. omega (arith, s, h)) t))
 
 -- Rows that find no room for their answer.
 pub rows-cramped : (file starts lent result : List ℕ) {R : Recorder} → Reads file R → length starts ≡ jobs R * 2 → length result < 11
     → RowsCalled file starts lent result 15 lent result
 rows-cramped file starts lent result r e h =
-    subst (λ (m : List ℕ). RowsCalled file starts lent result 15 lent m) (told-none (refusal 15) result h) (called (read r (RowsCallOf.equal e (cramped h))))
+    subst (λ (m : List ℕ). RowsCalled file starts lent result 15 lent m) (told-none (refusal 15) result h) (called (read r (passes (λ u. u e) (stops h))))
 
 -- The first n places of a list z come back written: there are still as many.
 pub front-room : {A : Type 0} (z front : List A) (n k : ℕ) → n ≤ length z → k ≤ n → length front ≡ length (take n z) → k ≤ length (front ++ drop n z)

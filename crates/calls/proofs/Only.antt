@@ -3,16 +3,16 @@
 use mathlib.Core.Path.{_≡_, refl, sym, ap, _∙_}
 use mathlib.Core.List.{List, _++_}
 use Prim.Native.Nat.{ℕ, _*_}
-use native.Mathlib.Omega.{arith}
 use lib.ListN.{take, drop}
 use Rattle.schedule.specs.declared.Recorder.{Recorder}
 use Rattle.schedule.specs.Quantities.{jobs, Valid}
 use Rattle.tables.specs.Layout.{tablesOf}
 use Rattle.planner.specs.declared.Answer.{Answer}
-use Rattle.planner.specs.Promises.{CheckOf, SizesOf, RowsOf, SearchOf}
+use Rattle.planner.specs.Promises.{SizesOf, SearchOf}
+use Rattle.planner.proofs.Refusing.{one-unless}
 use Rattle.planner.proofs.Only.{only-of-file, one-check, one-sizes, one-rows, one-search}
 use Rattle.calls.specs.Bytes.{spread, startsIn}
-use Rattle.calls.specs.Calls.{told, Roomed, cramped, roomy, Called, called, CheckCallOf, CheckCalled, SizesCalled, blank, StartsOf, kept, given, StartsCalled, SearchCalled}
+use Rattle.calls.specs.Calls.{told, Roomed, Called, called, CheckCallOf, CheckCalled, SizesCalled, blank, StartsOf, kept, given, StartsCalled, SearchCalled}
 use Rattle.calls.specs.Calls.{RowsCallOf, RowsCalled}
 
 -- The law of every call: what has one outcome for each valid recorder has one for each file and result buffer.
@@ -23,19 +23,11 @@ only-called file result lent Then one (called p) (called p′) =
     let e = only-of-file file lent Then one p p′ in
     (ap (λ (a : Answer). a .number) (e .0), ap (λ (a : Answer). told a result) (e .0), e .1)
 
-one-roomed : {L : Type 0} (result : List ℕ) (lent : L) (X : Answer → L → Type 0)
-    → ((a a′ : Answer) (l l′ : L) → X a l → X a′ l′ → (a ≡ a′) × (l ≡ l′))
-    → {a a′ : Answer} {l l′ : L} → Roomed result lent X a l → Roomed result lent X a′ l′ → (a ≡ a′) × (l ≡ l′)
-one-roomed result lent X one (cramped h) (cramped h′) = (refl, refl)
-one-roomed result lent X one (cramped h) (roomy h′ x′) = absurd (omega arith)
-one-roomed result lent X one (roomy h x) (cramped h′) = absurd (omega arith)
-one-roomed result lent X one (roomy {a = a} {after = l} h x) (roomy {a = a′} {after = l′} h′ x′) = one a a′ l l′ x x′
-
 pub only-check-called : (file result : List ℕ) {n n′ : ℕ} {r r′ : List ℕ}
     → CheckCalled file result n r → CheckCalled file result n′ r′ → (n ≡ n′) × (r ≡ r′)
 only-check-called file result p p′ =
     let e = only-called {L = Unit {0}} file result tt (CheckCallOf result)
-    (λ R v a a′ u u′. one-roomed {L = Unit {0}} result tt (λ b w. CheckOf R b) (λ b b′ w w′ x x′. (one-check R x x′, refl))) p p′ in
+    (λ R v. one-unless {L = Unit {0}} (λ b b′ w w′ x x′. (one-check R x x′, refl))) p p′ in
     (e .0, e .1)
 
 pub only-sizes-called : (file lent result : List ℕ) {n n′ : ℕ} {l l′ r r′ : List ℕ}
@@ -43,7 +35,7 @@ pub only-sizes-called : (file lent result : List ℕ) {n n′ : ℕ} {l l′ r r
 only-sizes-called file lent result =
     let tasks = tablesOf file .tasks .count in
     only-called file result lent (λ R a l. Roomed result lent (SizesOf tasks lent R) a l)
-    (λ R v a a′ l l′. one-roomed result lent (SizesOf tasks lent R) (λ b b′ m m′. one-sizes tasks lent R))
+    (λ R v. one-unless (λ b b′ m m′. one-sizes tasks lent R))
 
 -- What is planned is given or kept by the number of its answer.
 one-starts : (Plans : List ℕ → Recorder → Answer → List ℕ → Type 0) (lent : List ℕ) (R : Recorder)
@@ -63,21 +55,13 @@ pub only-starts-called : (Plans : List ℕ → Recorder → Answer → List ℕ 
     → StartsCalled Plans file lent result n l r → StartsCalled Plans file lent result n′ l′ r′ → (n ≡ n′) × (r ≡ r′) × (l ≡ l′)
 only-starts-called Plans one file lent result =
     only-called file result lent (λ R a l. Roomed result lent (StartsOf Plans lent R) a l)
-    (λ R v a a′ l l′. one-roomed result lent (StartsOf Plans lent R) (λ b b′ m m′. one-starts Plans lent R (one (blank lent) R v)))
+    (λ R v. one-unless (λ b b′ m m′. one-starts Plans lent R (one (blank lent) R v)))
 
 pub only-search-called : (file : List ℕ) (budget : ℕ) (lent result : List ℕ) {n n′ : ℕ} {l l′ r r′ : List ℕ}
     → SearchCalled file budget lent result n l r → SearchCalled file budget lent result n′ l′ r′ → (n ≡ n′) × (r ≡ r′) × (l ≡ l′)
 only-search-called file budget = only-starts-called (SearchOf budget) (λ lent R v a a′ l l′. one-search budget lent R v) file
 
-one-rows-call : (starts lent result : List ℕ) (R : Recorder) → Valid R → {a a′ : Answer} {l l′ : List ℕ}
-    → RowsCallOf starts lent result R a l → RowsCallOf starts lent result R a′ l′ → (a ≡ a′) × (l ≡ l′)
-one-rows-call starts lent result R v (RowsCallOf.unequal u) (RowsCallOf.unequal u′) = (refl, refl)
-one-rows-call starts lent result R v (RowsCallOf.unequal u) (RowsCallOf.equal e′ x′) = absurd (u e′)
-one-rows-call starts lent result R v (RowsCallOf.equal e x) (RowsCallOf.unequal u′) = absurd (u′ e)
-one-rows-call starts lent result R v (RowsCallOf.equal e x) (RowsCallOf.equal e′ x′) =
-    one-roomed result lent (RowsOf (startsIn starts (jobs R)) lent R) (λ b b′ m m′. one-rows (startsIn starts (jobs R)) lent R v) x x′
-
 pub only-rows-called : (file starts lent result : List ℕ) {n n′ : ℕ} {l l′ r r′ : List ℕ}
     → RowsCalled file starts lent result n l r → RowsCalled file starts lent result n′ l′ r′ → (n ≡ n′) × (r ≡ r′) × (l ≡ l′)
 only-rows-called file starts lent result =
-    only-called file result lent (RowsCallOf starts lent result) (λ R v a a′ l l′. one-rows-call starts lent result R v)
+    only-called file result lent (RowsCallOf starts lent result) (λ R v. one-unless (one-unless (λ b b′ m m′. one-rows (startsIn starts (jobs R)) lent R v)))

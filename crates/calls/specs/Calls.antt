@@ -4,14 +4,14 @@
 use mathlib.Core.Path.{_≡_}
 use mathlib.Core.Bool.{cond}
 use mathlib.Core.List.{List, _++_}
-use Prim.Native.Nat.{ℕ, _*_, _/_, _≤_, _<_}
+use Prim.Native.Nat.{ℕ, _*_, _/_, _<_}
 use lib.Dec.{leb}
 use lib.ListN.{length, take, drop, replicate}
 use Rattle.schedule.specs.declared.Recorder.{Recorder}
 use Rattle.schedule.specs.Quantities.{jobs}
 use Rattle.tables.specs.Layout.{tablesOf}
 use Rattle.planner.specs.declared.Answer.{Answer}
-use Rattle.planner.specs.Promises.{refusal, OfFile, CheckOf, SizesOf, RowsOf, SearchOf}
+use Rattle.planner.specs.Promises.{refusal, Unless, OfFile, CheckOf, SizesOf, RowsOf, SearchOf}
 use Rattle.calls.specs.Bytes.{eleven, spread, startsIn}
 
 -- ---- the result buffer
@@ -21,9 +21,8 @@ unfoldable pub told : Answer → List ℕ → List ℕ
 told a result = cond (leb 11 (length result)) (eleven a ++ drop 11 result) result
 
 -- Too little room for the eleven bytes is a 15; else the call goes on to what `Then` says (rule 72).
-pub data Roomed {L : Type 0} (result : List ℕ) (lent : L) (Then : Answer → L → Type 0) : Answer → L → Type 0 where
-  cramped : length result < 11 → Roomed result lent Then (refusal 15) lent
-  roomy : {a : Answer} {after : L} → 11 ≤ length result → Then a after → Roomed result lent Then a after
+abbrev pub Roomed : {L : Type 0} → (result : List ℕ) (lent : L) (Then : Answer → L → Type 0) → Answer → L → Type 0
+Roomed result lent Then = Unless (length result < 11) (refusal 15) lent Then
 
 -- The outcome of a call on a file: the answer's number is returned, and its eleven bytes are in the result buffer.
 pub data Called {L : Type 0} (file result : List ℕ) (lent : L) (Then : Recorder → Answer → L → Type 0) : ℕ → List ℕ → L → Type 0 where
@@ -39,7 +38,7 @@ CheckCalled file result n after = Called {L = Unit {0}} file result tt (CheckCal
 
 -- ---- `floe_sizes`: three bytes, the numbers of devices, tasks and jobs
 
-abbrev pub SizesCalled : List ℕ → List ℕ → List ℕ → ℕ → List ℕ → List ℕ → Type 0
+abbrev pub SizesCalled : (file lent result : List ℕ) (n : ℕ) (lent′ result′ : List ℕ) → Type 0
 SizesCalled file lent result n lent′ result′ =
     Called file result lent (λ R a l. Roomed result lent (SizesOf (tablesOf file .tasks .count) lent R) a l) n result′ lent′
 
@@ -54,21 +53,21 @@ pub data StartsOf (Plans : List ℕ → Recorder → Answer → List ℕ → Typ
   given : {a : Answer} {starts : List ℕ} → a .number ≡ 0 → Plans (blank lent) R a starts
       → StartsOf Plans lent R a (spread (take (jobs R) starts) ++ drop (jobs R * 2) lent)
 
-abbrev pub StartsCalled : (List ℕ → Recorder → Answer → List ℕ → Type 0) → List ℕ → List ℕ → List ℕ → ℕ → List ℕ → List ℕ → Type 0
+abbrev pub StartsCalled : (Plans : List ℕ → Recorder → Answer → List ℕ → Type 0) (file lent result : List ℕ) (n : ℕ) (lent′ result′ : List ℕ) → Type 0
 StartsCalled Plans file lent result n lent′ result′ =
     Called file result lent (λ R a l. Roomed result lent (StartsOf Plans lent R) a l) n result′ lent′
 
 -- ---- `floe_search`
 
-abbrev pub SearchCalled : List ℕ → ℕ → List ℕ → List ℕ → ℕ → List ℕ → List ℕ → Type 0
+abbrev pub SearchCalled : (file : List ℕ) (budget : ℕ) (lent result : List ℕ) (n : ℕ) (lent′ result′ : List ℕ) → Type 0
 SearchCalled file budget lent result n lent′ result′ = StartsCalled (SearchOf budget) file lent result n lent′ result′
 
 -- ---- `floe_rows`: two bytes a job, neither more nor fewer (rule 73)
 
-pub data RowsCallOf (starts lent result : List ℕ) (R : Recorder) : Answer → List ℕ → Type 0 where
-  unequal : (length starts ≡ jobs R * 2 → ⊥) → RowsCallOf starts lent result R (refusal 14) lent
-  equal : {a : Answer} {after : List ℕ} → length starts ≡ jobs R * 2 → Roomed result lent (RowsOf (startsIn starts (jobs R)) lent R) a after
-      → RowsCallOf starts lent result R a after
+abbrev pub RowsCallOf : (starts lent result : List ℕ) → Recorder → Answer → List ℕ → Type 0
+RowsCallOf starts lent result R =
+    Unless (length starts ≡ jobs R * 2 → ⊥) (refusal 14) lent
+    (Roomed result lent (RowsOf (startsIn starts (jobs R)) lent R))
 
-abbrev pub RowsCalled : List ℕ → List ℕ → List ℕ → List ℕ → ℕ → List ℕ → List ℕ → Type 0
+abbrev pub RowsCalled : (file starts lent result : List ℕ) (n : ℕ) (lent′ result′ : List ℕ) → Type 0
 RowsCalled file starts lent result n lent′ result′ = Called file result lent (RowsCallOf starts lent result) n result′ lent′

@@ -16,11 +16,11 @@ module _ (file lent result : List ℕ) where
   -- What is not given up.
   told-called : (b : ℕ) {n : ℕ} {l r : List ℕ} → LeastCalled file b lent result n l r → (n ≡ 20 → ⊥) → StartsCalled Told file lent result n l r
   told-called b (Calls.Called.called (Frame.OfFile.refused r)) e = Calls.Called.called (Frame.OfFile.refused r)
-  told-called b (Calls.Called.called (Frame.OfFile.read r (Calls.Roomed.cramped h))) e = Calls.Called.called (Frame.OfFile.read r (Calls.Roomed.cramped h))
-  told-called b (Calls.Called.called (Frame.OfFile.read {R = R} r (Calls.Roomed.roomy h (Calls.StartsOf.kept n x)))) e =
-      Calls.Called.called (Frame.OfFile.read r (Calls.Roomed.roomy h (Calls.StartsOf.kept n (told-of b (blank lent) R x e))))
-  told-called b (Calls.Called.called (Frame.OfFile.read {R = R} r (Calls.Roomed.roomy h (Calls.StartsOf.given z x)))) e =
-      Calls.Called.called (Frame.OfFile.read r (Calls.Roomed.roomy h (Calls.StartsOf.given z (told-of b (blank lent) R x e))))
+  told-called b (Calls.Called.called (Frame.OfFile.read r (Frame.Unless.stops h))) e = Calls.Called.called (Frame.OfFile.read r (Frame.Unless.stops h))
+  told-called b (Calls.Called.called (Frame.OfFile.read {R = R} r (Frame.Unless.passes h (Calls.StartsOf.kept n x)))) e =
+      Calls.Called.called (Frame.OfFile.read r (Frame.Unless.passes h (Calls.StartsOf.kept n (told-of b (blank lent) R x e))))
+  told-called b (Calls.Called.called (Frame.OfFile.read {R = R} r (Frame.Unless.passes h (Calls.StartsOf.given z x)))) e =
+      Calls.Called.called (Frame.OfFile.read r (Frame.Unless.passes h (Calls.StartsOf.given z (told-of b (blank lent) R x e))))
 
   pub only-least-called : (b b′ : ℕ) {n n′ : ℕ} {l l′ r r′ : List ℕ} → LeastCalled file b lent result n l r → LeastCalled file b′ lent result n′ l′ r′
       → (n ≡ 20 → ⊥) → (n′ ≡ 20 → ⊥) → (n ≡ n′) × (r ≡ r′) × (l ≡ l′)
@@ -31,10 +31,10 @@ module _ (file lent result : List ℕ) where
   module _ (b : ℕ) where
     over-called : {n : ℕ} {l r : List ℕ} → LeastCalled file b lent result n l r → n ≡ 20 → StartsCalled (λ given R. Over b given) file lent result n l r
     over-called (Calls.Called.called (Frame.OfFile.refused r)) e = Calls.Called.called (Frame.OfFile.refused r)
-    over-called (Calls.Called.called (Frame.OfFile.read r (Calls.Roomed.cramped h))) e = absurd (omega arith)
-    over-called (Calls.Called.called (Frame.OfFile.read {R = R} r (Calls.Roomed.roomy h (Calls.StartsOf.kept n x)))) e =
-        Calls.Called.called (Frame.OfFile.read r (Calls.Roomed.roomy h (Calls.StartsOf.kept n (over-of b (blank lent) R x e))))
-    over-called (Calls.Called.called (Frame.OfFile.read r (Calls.Roomed.roomy h (Calls.StartsOf.given z x)))) e = absurd (omega arith)
+    over-called (Calls.Called.called (Frame.OfFile.read r (Frame.Unless.stops h))) e = absurd (omega arith)
+    over-called (Calls.Called.called (Frame.OfFile.read {R = R} r (Frame.Unless.passes h (Calls.StartsOf.kept n x)))) e =
+        Calls.Called.called (Frame.OfFile.read r (Frame.Unless.passes h (Calls.StartsOf.kept n (over-of b (blank lent) R x e))))
+    over-called (Calls.Called.called (Frame.OfFile.read r (Frame.Unless.passes h (Calls.StartsOf.given z x)))) e = absurd (omega arith)
 
     pub only-call-given-up : {n n′ : ℕ} {l l′ r r′ : List ℕ} → LeastCalled file b lent result n l r → LeastCalled file b lent result n′ l′ r′
         → n ≡ 20 → n′ ≡ 20 → (n ≡ n′) × (r ≡ r′) × (l ≡ l′)

@@ -47,10 +47,10 @@ same-length-2 : tie.Need-same-length-2
 same-length-2 c = search needs
 
 returns-2 : tie.Need-returns-2
-returns-2 c = let told = c .before .before .tell2 .ensures in rw (told .0, told .1, c .before .before .before .before .refusal2 .ensures) (Calls.called (P.OfFile.read (recorded (c .before .before .before .before .before .before)) (Calls.RowsCallOf.unequal (c .before .before .before .before .before .if2 .taken))))
+returns-2 c = let told = c .before .before .tell2 .ensures in rw (told .0, told .1, c .before .before .before .before .refusal2 .ensures) (Calls.called (P.OfFile.read (recorded (c .before .before .before .before .before .before)) (P.stops (c .before .before .before .before .before .if2 .taken))))
 
 returns-3 : tie.Need-returns-3
-returns-3 c = rows-cramped _ _ _ _ (recorded (c .before .before)) (c .before .if2 .left) (c .if3 .taken)
+returns-3 c = let a = c .before .before .before .before .before .before .before .before .before .args in rows-cramped (a .file .now) (a .starts .now) (a .out .now) (a .result .now) (recorded (c .before .before)) (c .before .if2 .left) (c .if3 .taken)
 
 rows-bytes-requires : tie.Need-rows-bytes-requires
 rows-bytes-requires c κs = (accepted-valid _ _ (recorded (c .before .before .before)), c .before .before .if2 .left)
@@ -68,7 +68,7 @@ returns-4 : tie.Need-returns-4
 returns-4 c =
     let told = c .before .before .tell3 .ensures in
     let r = recorded (c .before .before .before .before .before .before .before .before .before .before) in
-    rw (told .0, told .1) (Calls.called (P.OfFile.read r (Calls.RowsCallOf.equal (c .before .before .before .before .before .before .before .before .before .if2 .left) (Calls.roomy (c .before .before .before .before .before .before .before .before .if3 .left) (c .before .before .before .before .before .before .rows-bytes .ensures)))))
+    rw (told .0, told .1) (Calls.called (P.OfFile.read r (P.passes (λ u. u (c .before .before .before .before .before .before .before .before .before .if2 .left)) (P.passes (λ s. omega (arith, s, c .before .before .before .before .before .before .before .before .if3 .left)) (c .before .before .before .before .before .before .rows-bytes .ensures)))))
 
 pub floe-rows-spec : {M : Type 1} → statement M
 floe-rows-spec =
