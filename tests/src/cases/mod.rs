@@ -4,6 +4,7 @@ pub mod damage;
 mod drawn;
 pub mod example;
 pub mod faults;
+pub mod figures;
 pub mod fixed;
 pub mod random;
 pub mod recorders;

@@ -225,46 +225,6 @@ mod tests {
     const SEED: u64 = 13;
     const CALLS: u64 = 6_000;
 
-    fn call(parts: &[(&str, [u8; 7])], wanted: &[&str], horizon: u16) -> Call {
-        let part = |(number, record): &(&str, [u8; 7])| [&padded(number), &record[..]].concat();
-        Call {
-            catalogue: parts.iter().flat_map(part).collect(),
-            wanted: wanted.iter().flat_map(|number| padded(number)).collect(),
-            others: Given {
-                horizon,
-                ..Given::default()
-            },
-        }
-    }
-
-    const A: [u8; 7] = [1, 0, 5, 0, 1, 0, 3];
-    const B: [u8; 7] = [2, 0, 9, 0, 2, 0, 4];
-
-    #[test]
-    fn figures() {
-        let mut both = call(&[("00417", A), ("417", B)], &["417"], 5);
-        let job = vec![0, 0, 0, 5, 0, 2, 1];
-        both.others.tables[2] = Table {
-            count: 1,
-            records: vec![job.clone()],
-        };
-        let file = [&[0, 5, 1], &B[..], &[0, 1], &job].concat();
-        assert_eq!(built(&both), Ok((5, file)));
-        assert_eq!(built(&call(&[("00417", A)], &["417"], 5)), Err(23));
-        let twice = [&[0, 2, 2], &A[..], &A, &[0, 0]].concat();
-        assert_eq!(built(&call(&[("A", A)], &["A", "A"], 2)), Ok((2, twice)));
-        let both = [("A", A), ("A", A), ("b", A)];
-        assert_eq!(built(&call(&both, &["B"], 0)), Err(21));
-        assert_eq!(built(&call(&both[..2], &["B"], 0)), Err(22));
-        let mut unsound = A;
-        unsound[0] = 0;
-        let parts = [("A", unsound), ("B", A)];
-        let one = [&[0, 2, 1], &A[..], &[0, 0]].concat();
-        assert_eq!(built(&call(&parts, &["B"], 2)), Ok((2, one)));
-        assert_eq!(built(&call(&parts, &["A"], 2)), Err(4));
-        assert_eq!(built(&call(&[("A", A)], &["A"; 9], 1)), Err(3));
-    }
-
     #[test]
     fn every_number_is_met() {
         let mut met = [0; 24];

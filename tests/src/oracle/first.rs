@@ -84,7 +84,11 @@ pub fn expected(request: &Request) -> Option<Vec<u32>> {
 }
 
 /// The whole outcome, where `first` says of the request what comes first.
-fn outcome(file: &[u8], lent: &[u16], first: impl Fn(&Request) -> Option<Vec<u32>>) -> Outcome {
+pub(crate) fn outcome(
+    file: &[u8],
+    lent: &[u16],
+    first: impl Fn(&Request) -> Option<Vec<u32>>,
+) -> Outcome {
     let refused = |number| Outcome::new(number, 0, 0, lent.to_vec());
     let request = match read(file) {
         Ok(request) => request,
@@ -291,21 +295,5 @@ mod tests {
                 outcome
             }));
         }
-    }
-
-    #[test]
-    fn figures() {
-        let two = |jobs| Tables {
-            horizon: 4,
-            jobs,
-            ..Tables::default()
-        };
-        let ask = |tables: Tables| outcome(&tables.bytes(), &[7, 7, 7], expected);
-        let swapped = two(vec![job(0, 4, 2, 0), job(0, 2, 2, 0)]);
-        assert_eq!(ask(swapped), Outcome::new(0, 4, 0, vec![2, 0, 7]));
-        let none = two(vec![job(0, 2, 2, 0), job(0, 2, 2, 0)]);
-        assert_eq!(ask(none), Outcome::new(19, 0, 0, vec![7, 7, 7]));
-        let empty = two(Vec::new());
-        assert_eq!(ask(empty), Outcome::new(0, 4, 0, vec![7, 7, 7]));
     }
 }

@@ -99,7 +99,7 @@ fn size(jobs: &[Job]) -> u64 {
 
 /// By listing. A job comes out late exactly if it and those before it have no schedule, and those
 /// before it have one.
-fn listed(request: &Request, given: &[u16]) -> Mended {
+pub(crate) fn listed(request: &Request, given: &[u16]) -> Mended {
     let order = order(given);
     let mut smallest = Vec::new();
     for count in 1..=order.len() {
@@ -178,7 +178,7 @@ fn mended(request: &Request, given: &[u16]) -> Mended {
 }
 
 /// The whole outcome: the answer, and what the two lent lists hold after it.
-fn outcome(
+pub(crate) fn outcome(
     file: &[u8],
     given: &[u16],
     starts: &[u16],
@@ -452,46 +452,6 @@ mod tests {
         }
         assert!(met.moved > 400 && met.unmoved > 100, "{met:?}");
         assert!(met.mended.iter().all(|&mended| mended > 100), "{met:?}");
-    }
-
-    #[test]
-    fn figures() {
-        let two = Tables {
-            horizon: 9,
-            jobs: vec![job(1, 4, 2, 0), job(5, 8, 2, 0)],
-            ..Tables::default()
-        };
-        let three = Tables {
-            horizon: 10,
-            jobs: vec![job(0, 10, 3, 0), job(0, 10, 2, 0), job(4, 10, 2, 0)],
-            ..Tables::default()
-        };
-        let tight = Tables {
-            horizon: 10,
-            jobs: vec![job(0, 3, 3, 0), job(0, 5, 3, 0)],
-            ..Tables::default()
-        };
-        let mended = |tables: &Tables, given: &[u16]| {
-            let lent = vec![7; 10];
-            let (answer, starts, moved) = outcome(&tables.bytes(), given, &lent, &lent, listed);
-            let moves = 3 * answer.count as usize;
-            (
-                answer.number,
-                answer.job,
-                starts[..given.len()].to_vec(),
-                moved[..moves].to_vec(),
-            )
-        };
-        assert_eq!(
-            mended(&two, &[0, 0]),
-            (0, 0, vec![1, 5], vec![0, 0, 1, 1, 0, 5])
-        );
-        assert_eq!(
-            mended(&three, &[2, 2, 2]),
-            (0, 0, vec![2, 5, 7], vec![1, 2, 5, 2, 2, 7])
-        );
-        assert_eq!(mended(&three, &[4, 0, 8]), (0, 0, vec![4, 0, 8], vec![]));
-        assert_eq!(mended(&tight, &[1, 1]), (17, 0, vec![7, 7], vec![]));
     }
 
     #[test]

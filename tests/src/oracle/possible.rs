@@ -184,6 +184,11 @@ fn outcome(file: &[u8], budget: u32, lent: &[u16], answer: impl Fn(&Request) -> 
     Outcome::new(0, request.horizon, answer.count as u32, after)
 }
 
+/// What a call has to give.
+pub fn asked(file: &[u8], budget: u32, lent: &[u16]) -> Outcome {
+    outcome(file, budget, lent, expected)
+}
+
 fn expected(request: &Request) -> Answer {
     laid_out(request).unwrap_or_else(|| visited(request, LIMIT))
 }
@@ -368,27 +373,5 @@ mod tests {
             ..answer
         };
         assert!(is_refused(by(whole)));
-    }
-
-    #[test]
-    fn figures() {
-        let one = [0, 5, 1, 1, 0, 5, 0, 1, 0, 3, 0, 1, 0, 0, 0, 5, 0, 2, 1];
-        let three = [
-            0, 6, 1, 1, 0, 5, 0, 1, 0, 3, 0, 3, 0, 0, 0, 6, 0, 1, 1, 0, 0, 0, 6, 0, 1, 0, 0, 0, 0,
-            6, 0, 1, 1,
-        ];
-        let none = [0, 4, 0, 0, 2, 0, 0, 0, 2, 0, 2, 0, 0, 0, 0, 2, 0, 2, 0];
-        let ask = |file: &[u8], budget: u32, lent: &[u16]| outcome(file, budget, lent, expected);
-        assert_eq!(ask(&one, 1_000_000, &[7]), Outcome::new(0, 5, 2, vec![0]));
-        assert_eq!(ask(&one, 2, &[7]), Outcome::new(0, 5, 2, vec![0]));
-        assert_eq!(ask(&one, 1, &[7]), Outcome::new(20, 0, 1, vec![7]));
-        assert_eq!(
-            ask(&three, 1_000_000, &[7, 7, 7, 7]),
-            Outcome::new(0, 6, 4, vec![0, 1, 2, 7])
-        );
-        assert_eq!(
-            ask(&none, 1_000_000, &[7, 7]),
-            Outcome::new(19, 0, 3, vec![7, 7])
-        );
     }
 }

@@ -557,7 +557,6 @@ mod tests {
         (0..digits.len()).step_by(2).map(byte).collect()
     }
 
-    const P3: &str = "00050101000500010003000100000005000201";
     const TABLE_2: &str = "002d0501000500010003010005000100030100050001000301000500010003010005000100030008000000050003040002000a000702000b0014000611001400190004080014001e000515001e0023000300001f00260004130028002d000200";
 
     #[test]
@@ -567,38 +566,6 @@ mod tests {
             assert!(met.get(&number).is_some_and(|&count| count > 5), "{met:?}");
         }
         assert!(met[&0] > CALLS / 3, "{met:?}");
-    }
-
-    #[test]
-    fn figures_come_out() {
-        let step = |digits: &str, starts: &[u16], count: usize| {
-            let outcome = stepped(&hex(digits), starts, &vec![7; count + 1]);
-            assert_eq!(outcome.energies[count], 7);
-            (
-                outcome.number,
-                outcome.horizon,
-                outcome.energy,
-                outcome.energies[..count].to_vec(),
-            )
-        };
-        assert_eq!(step(P3, &[0], 1), (0, 5, 15, vec![15]));
-        assert_eq!(step(P3, &[1], 1), (0, 5, 19, vec![19]));
-        assert_eq!(step(P3, &[3], 1), (0, 5, 25, vec![25]));
-        assert_eq!(
-            step("000501010005000100030000", &[], 1),
-            (0, 5, 25, vec![25])
-        );
-        let starts = [0, 3, 11, 20, 24, 30, 33, 40];
-        let energies = vec![139, 115, 95, 75, 139];
-        assert_eq!(step(TABLE_2, &starts, 5), (0, 45, 563, energies));
-        let waits = "000c0102000500010003000300000003000201000200060003000006000c000201";
-        assert_eq!(step(waits, &[0, 2, 6], 1), (0, 12, 48, vec![48]));
-        let brief = "000c01020005000100030002000000030001010008000c000201";
-        assert_eq!(step(brief, &[0, 8], 1), (24, 0, 0, vec![7]));
-        assert_eq!(
-            step("ff02000c0000010000000c000200", &[0], 0),
-            (25, 0, 0, vec![])
-        );
     }
 
     #[test]

@@ -112,6 +112,29 @@ impl Given {
         bytes
     }
 
+    /// The other way. The bytes are those of tables.
+    pub fn of_bytes(bytes: &[u8]) -> Given {
+        let pair = |at: usize| u16::from_be_bytes([bytes[at], bytes[at + 1]]);
+        let kinds = [FileKind::First, FileKind::Second, FileKind::Third];
+        let kind = kinds[usize::from(bytes[0]) - 1];
+        let mut rest = &bytes[9..];
+        let mut table = |part: usize| {
+            let count = pair(3 + 2 * part);
+            let mut records = Vec::new();
+            for _ in 0..usize::from(count).min(MOST[part]) {
+                let (record, others) = rest.split_at(size(kind, part, rest));
+                records.push(record.to_vec());
+                rest = others;
+            }
+            Table { count, records }
+        };
+        Given {
+            kind,
+            horizon: pair(1),
+            tables: [table(0), table(1), table(2)],
+        }
+    }
+
     /// What follows the mark in the file that the tables make. A count that no byte holds stands as 255, which is refused as
     /// it is, before any record that there would be.
     fn layout(&self) -> Vec<u8> {
