@@ -42,13 +42,6 @@ pub record Exactly (P : Type 0) (row sleep work : List Letter) : Type 0 where
   pub sleeps : P → row ≡ sleep
   pub works : (P → ⊥) → row ≡ work
 
--- They are two rows.
-pub slept-moves : (shut wake g : ℕ) → 1 ≤ shut → slept shut wake g ≡ replicate g W → ⊥
-slept-moves shut wake g h e =
-    let m : moved (slept shut wake g) ≡ shut + wake = simp (total-append, total-replicate) (omega arith) in
-    let n : moved (replicate g W) ≡ 0 = simp total-replicate (omega arith) in
-    absurd (omega (arith, ap moved e))
-
 -- With one sleep level a gap is slept exactly when both moves have room and sleeping costs less than working through.
 module _ (wake shut Pw Ps Pwake Pshut g : ℕ) where
   abbrev test : Bool

@@ -84,10 +84,6 @@ module _ (R : Recorder) where
     outcome-best : (o : Option (List ℕ)) → Outcome same (Earlier R) (Feasible R) o → visitedTillFound R .best ≡ o
     outcome-best o h = outcome-only same (Earlier R) (earlier-asym R) (Feasible R) (visitedTillFound R .best) o outcome h
 
-    pub first-found : (s : List ℕ) → First R s → visitedTillFound R .best ≡ some s
-    unfolding Outcome
-    first-found s h = outcome-best (some s) (first-chosen s h)
-
     -- and nothing is found exactly if nothing is feasible.
     pub found-none : visitedTillFound R .best ≡ none → (s : List ℕ) → Feasible R s → ⊥
     unfolding Outcome

@@ -165,30 +165,12 @@ module _ (R : Recorder) (k : ℕ) (r : List Place) (h : ℕ) (w : InTurn R 0 h r
       (use-cases R k r 0 h w))
       (λ q. rw sub-zero (paid-is R k r h w))
 
-  -- No tick of it costs more than Pw.
-  pub paid-most : Sound (device R k) → paid R k r ≤ device R k .pw * (lastEnd R k 0 r - since R k r)
-  paid-most ok =
-      let u = pattern (used R k r) (since R k r) (lastEnd R k 0 r - since R k r) in
-      let most : energyOf false (device R k) u ≤ device R k .pw * length u = energy-most (device R k) ok false u in
-      rw (paid-since, length-pattern) at most
-
   pub since-by : since R k r ≤ lastEnd R k 0 r
   unfolding since
   since-by =
       test-cases (λ b. cond b (firstStart R k r) 0 ≤ lastEnd R k 0 r) (R .round)
       (λ q. ⊎-elim (λ u. rw (u .first) (omega arith)) (λ u. omega (arith, parts u .within)) (use-cases R k r 0 h w))
       (λ q. omega arith)
-
-  -- So the floor's share before the end of the last use costs no more than working.
-  pub front-most : Sound (device R k) → deep (device R k) * since R k r + paid R k r ≤ device R k .pw * lastEnd R k 0 r
-  front-most ok =
-      let d = device R k in
-      let all : since R k r + (lastEnd R k 0 r - since R k r) ≡ lastEnd R k 0 r = omega (arith, since-by) in
-      front (deep d) (d .pw) (since R k r) (lastEnd R k 0 r - since R k r) (lastEnd R k 0 r) (paid R k r) all
-      (deep-low d ok 0 (omega arith)) (paid-most ok)
-    where
-      front : (p w a n e c : ℕ) → a + n ≡ e → p ≤ w → c ≤ w * n → p * a + c ≤ w * e
-      front p w a n e c s l m = rw (← s) (omega (arith, mul-le-mul-right a l))
 
 module _ (R : Recorder) (k : ℕ) (r : List Place) (w : InTurn R 0 (R .horizon) r) where
   -- All ticks: a round without a use,
@@ -228,12 +210,6 @@ module _ (R : Recorder) (k : ℕ) (r : List Place) (w : InTurn R 0 (R .horizon) 
       (λ q. ⊎-elim (λ u. rw (u .last 0) (whole-unused u)) (λ u. rw (ends-late R k r (R .horizon) w u) (whole-used u))
       (use-cases R k r 0 (R .horizon) w))
       (λ q. rw zero-add (close-is R k r (R .horizon) w))
-
-  pub whole-most : Sound (device R k) → paidWhole R k r ≤ device R k .pw * R .horizon
-  whole-most ok =
-      let u = pattern (used R k r) 0 (R .horizon) in
-      let most : energyOf (R .round) (device R k) u ≤ device R k .pw * length u = energy-most (device R k) ok (R .round) u in
-      rw (whole-is, length-pattern) at most
 
   -- By itself, from work to work, the row costs no less.
   pub round-saves : Sound (device R k)

@@ -107,13 +107,6 @@ module _ (R : Recorder) (k : ℕ) where
         let before = later (p .start - a) st in
         rw (same p r (ran R k atStart atEnd p r before) (h .0), row-alike r (endOf R k p) (ended R k atStart atEnd p r before) (h .1))
 
-    pub last-alike : (r : List Place) (a : ℕ) (st : State) → Along R k atStart atEnd P a r st → jobsLast R k atStart ending a r st ≡ jobsLast R k atStart atEnd a r st
-    unfolding jobsLast Along
-    last-alike [] a st h = refl
-    last-alike (p ∷ r) a st h =
-        let before = later (p .start - a) st in
-        rw (same p r (ran R k atStart atEnd p r before) (h .0)) (last-alike r (endOf R k p) (ended R k atStart atEnd p r before) (h .1))
-
   pub along-map : (P Q : Place → List Place → State → Type 0)
       → ((p : Place) (r : List Place) (st : State) → InTurn R (endOf R k p) (R .horizon) r → P p r st → Q p r st)
       → (r : List Place) (a : ℕ) (st : State) → InTurn R a (R .horizon) r → Along R k atStart atEnd P a r st → Along R k atStart atEnd Q a r st

@@ -153,21 +153,9 @@ module _ (R : Recorder) (valid : Valid R) (s : List ℕ) (f : Feasible R s) (k :
         rw whole at (row-jobs R k atStart atAnyEnd (λ p q x. Unit {0}) (events R k atStart atAnyEnd) (ends-first R k atStart atAnyEnd) r 0 Working turn (along-any R k atStart atAnyEnd r 0 Working))
         ∙ row-alike R k atAnyEnd (Settled R k) (settled-any R k moves) r 0 Working (keeps .along) ∙ sym row-is
 
-    pub any-end-last :
-        events R k atStart atAnyEnd r (R .horizon) (stateBy (events R k atStart atAnyEnd r) 0 (R .horizon) Working) ≡ finally R k s
-    any-end-last =
-        rw whole at (last-jobs R k atStart atAnyEnd (λ p q x. Unit {0}) (events R k atStart atAnyEnd) (ends-first R k atStart atAnyEnd) r 0 Working turn (along-any R k atStart atAnyEnd r 0 Working))
-        ∙ last-alike R k atAnyEnd (Settled R k) (settled-any R k moves) r 0 Working (keeps .along) ∙ sym finally-is
-
     -- Which of a completion and a start at one tick is first changes nothing.
     pub starts-first-row : rowBy (startsFirst R k atStart atEnd r) 0 (R .horizon) Working ≡ row R k s
     starts-first-row =
         rw whole at (row-jobs R k atStart atEnd _ (startsFirst R k atStart atEnd) (starts-first R k atStart atEnd) r 0 Working turn
         (along-map R k (Settled R k) _ (settled-first R k moves) r 0 Working turn (keeps .along)))
         ∙ sym row-is
-
-    pub starts-first-last : startsFirst R k atStart atEnd r (R .horizon) (stateBy (startsFirst R k atStart atEnd r) 0 (R .horizon) Working) ≡ finally R k s
-    starts-first-last =
-        rw whole at (last-jobs R k atStart atEnd _ (startsFirst R k atStart atEnd) (starts-first R k atStart atEnd) r 0 Working turn
-        (along-map R k (Settled R k) _ (settled-first R k moves) r 0 Working turn (keeps .along)))
-        ∙ sym finally-is

@@ -121,10 +121,6 @@ module _ (T : Tables) where
   unfolding layoutOf
   layout-counted = cc (horizon-counted, section-counted Devices, section-counted Tasks, section-counted Jobs)
 
-  pub bytes-counted : bytesOf (counted T) ≡ bytesOf T
-  unfolding bytesOf counted
-  bytes-counted = ap (λ (l : List ℕ). marker (T .kind) ++ l) layout-counted
-
 -- ---- laying out what was read
 
 module _ (k : Kind) (s : List ℕ) (ok : Whole k s) (b : Bytes s) where

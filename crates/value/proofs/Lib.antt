@@ -6,6 +6,5 @@ pub mod Waits
 pub mod Tails
 pub mod Ticks
 pub mod Recalls
-pub mod Drops
 pub mod Steps
 pub mod Tries

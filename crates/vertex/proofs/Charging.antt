@@ -27,10 +27,6 @@ module _ (w b e t : ℕ) (o : w < 65536) (h : b ≤ w * e) (l : e ≤ t) where
   before-fits : w * e ≤ 65535 * e
   before-fits = mul-le-mul-right e (omega arith)
 
-  -- With a gap that costs g; and with a ticks of use, and the power p for every other.
-  pub closing-fits : (g : ℕ) → g ≤ 65535 * (t - e) → b + g ≤ 65535 * t
-  closing-fits g k = omega (arith, before-fits)
-
   pub flooring-fits : (p : ℕ) → p < 65536 → (a : ℕ) → e + a ≤ t → b + (w * a + p * (t - e - a)) ≤ 65535 * t
   flooring-fits p s a k =
       let g : w * a ≤ 65535 * a = mul-le-mul-right a (omega arith) in

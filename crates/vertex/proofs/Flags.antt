@@ -59,12 +59,6 @@ none-upTo m h (suc n) = rw (h n, none-upTo m h n)
 pub none-flagged : (m : List Bool) → ((k : ℕ) → flagged m k ≡ false) → (n : ℕ) → unflagged m n ≡ upFrom 0 n
 none-flagged m h n = none-upTo m h n ∙ upTo-map (λ k. k) n ∙ map-id (upFrom 0 n)
 
-remove-absent : (j : ℕ) (l : List ℕ) → (In j l → ⊥) → remove j l ≡ l
-unfolding remove
-remove-absent j [] h = refl
-remove-absent j (i ∷ l) h =
-    rw (ne-eqb i j (λ (e : i ≡ j). h (inl (sym e)))) (ap (λ (w : List ℕ). i ∷ w) (remove-absent j l (λ w. h (inr w))))
-
 remove-last : (j : ℕ) (l : List ℕ) → (In j l → ⊥) → remove j (l ++ j ∷ []) ≡ l
 unfolding remove
 remove-last j [] h = rw (eq-eqb j j refl)
