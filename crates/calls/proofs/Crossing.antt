@@ -15,7 +15,7 @@ use Rattle.planner.specs.Promises.{refusal, stops, passes, Reads, OfFile, refus
 use Rattle.planner.specs.Promises as P
 use Rattle.calls.specs.Bytes.{spread, startsIn}
 use Rattle.calls.specs.Calls.{told, Roomed, Called, called, blank, StartsOf, kept, given, RowsCalled}
-use Rattle.calls.specs.Cramped.{Cramped}
+use Rattle.calls.specs.inside.Cramped.{Cramped}
 use Rattle.calls.proofs.Digits.{told-none}
 
 -- An outcome on a file that reads as R is one of R's.

@@ -1,7 +1,7 @@
 // The result buffer: eleven bytes for what an answer has besides its number.
 ghost use mathlib.Core.Path.{_≡_};
 ghost use Rattle.calls.specs.Calls.{told};
-ghost use Rattle.calls.specs.Cramped.{Cramped};
+ghost use Rattle.calls.specs.inside.Cramped.{Cramped};
 use crate::bytes::put;
 use planner::Answer;
 use request::read;

@@ -21,7 +21,7 @@ use Rattle.base.proofs.Members.{all-holds, all-fails, one-holds, one-fails}
 use Rattle.tables.specs.declared.DeviceRecord.{DeviceRecord}
 use Rattle.tables.specs.Records.{firstAt, blankDevice}
 use Rattle.catalogue.specs.Parts.{has, wellFormed, malformed, Part, partOf, partsOf, numbers, whole, unfit, lacking, recordOf}
-use Rattle.catalogue.specs.Places.{numberAt, wantedAt, Sought}
+use Rattle.catalogue.specs.inside.Places.{numberAt, wantedAt, Sought}
 use Rattle.catalogue.specs.Building.{devicesOf}
 use Rattle.catalogue.proofs.Members.{noPart, record-at}
 use Rattle.catalogue.proofs.Meaning.{whole-catalogue}

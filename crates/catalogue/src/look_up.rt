@@ -7,7 +7,7 @@ ghost use lib.ListN.{length};
 ghost use Rattle.tables.specs.Records.{firstAt};
 ghost use Rattle.base.specs.Bytes.{pieces};
 ghost use Rattle.catalogue.specs.Parts.{partsOf, numbers, has, unfit, repeated, lacking, recordOf};
-ghost use Rattle.catalogue.specs.Places.{Sought};
+ghost use Rattle.catalogue.specs.inside.Places.{Sought};
 ghost use Rattle.catalogue.specs.Building.{devicesOf};
 use crate::numbers::is_formed;
 use crate::numbers::is_same;

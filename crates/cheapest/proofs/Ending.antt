@@ -13,13 +13,13 @@ use Rattle.schedule.specs.declared.Recorder.{Recorder}
 use Rattle.schedule.specs.Quantities.{jobs, Valid}
 use Rattle.schedule.specs.Listing.{FirstLeast}
 use Rattle.schedule.specs.Visiting.{planEnergy}
-use Rattle.latest.specs.Latest.{latestOf, Laid}
+use Rattle.latest.specs.inside.Latest.{latestOf, Laid}
 use Rattle.latest.proofs.Feasibility.{feasible-latest, latest-feasible}
 use Rattle.planner.specs.declared.Answer.{Answer}
 use Rattle.planner.specs.Promises.{success, refusal, refusalAfter}
-use Rattle.least.specs.Outcome as O
+use Rattle.least.specs.inside.Outcome as O
 use Rattle.least.specs.Effort.{mostVertices}
-use Rattle.least.specs.Outcome.{ReadOff}
+use Rattle.least.specs.inside.Outcome.{ReadOff}
 use Rattle.cheapest.specs.Promises as P
 use Rattle.cheapest.specs.Promises.{LeastOf}
 

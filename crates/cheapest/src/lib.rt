@@ -23,10 +23,10 @@ ghost use lib.ListN.{getD, length, drop, replicate};
 ghost use Rattle.schedule.specs.Quantities.{Valid, jobs};
 ghost use Rattle.schedule.specs.Listing.{Feasible};
 ghost use Rattle.schedule.specs.Visiting.{planEnergy};
-ghost use Rattle.flat.specs.Flat.{recorderOf};
-ghost use Rattle.latest.specs.Latest.{latestOf, Laid};
+ghost use Rattle.flat.specs.inside.Flat.{recorderOf};
+ghost use Rattle.latest.specs.inside.Latest.{latestOf, Laid};
 ghost use Rattle.planner.specs.Promises as Promises;
-ghost use Rattle.least.specs.Outcome.{ReadOff};
+ghost use Rattle.least.specs.inside.Outcome.{ReadOff};
 ghost use Rattle.cheapest.specs.Promises.{LeastOf, LeastPlanned};
 
 // Whether all n jobs can be run from tick 0 on.

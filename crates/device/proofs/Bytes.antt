@@ -14,8 +14,8 @@ use Rattle.device.specs.declared.Device.{Device}
 use Rattle.device.specs.declared.Uses.{Uses}
 use Rattle.device.specs.Row.{byteOf, trip, gapRow, rowOf, pattern}
 use Rattle.device.specs.Row as Row
-use Rattle.device.specs.Trips.{shared, tripBytes, around}
-use Rattle.device.specs.Uses.{begin, end, usedIn, afterFrom, front, idle, Spaced}
+use Rattle.device.specs.inside.Trips.{shared, tripBytes, around}
+use Rattle.device.specs.inside.Uses.{begin, end, usedIn, afterFrom, front, idle, Spaced}
 use Rattle.device.proofs.Prefix.{map-replicate}
 use Rattle.device.proofs.Chosen.{length-gap, gap-none}
 use Rattle.device.proofs.Spacing.{row-use, last-front, row-whole}

@@ -19,7 +19,7 @@ use Rattle.device.specs.declared.Device.{Device}
 use Rattle.device.specs.declared.Uses.{Uses}
 use Rattle.device.specs.Row.{W, deep, power, energy, gapRow, gapCost, rowOf, energyOf, pattern}
 use Rattle.device.specs.Row as Row
-use Rattle.device.specs.Uses.{begin, end, usedBefore, usedIn, after, afterFrom, front, idle, Spaced}
+use Rattle.device.specs.inside.Uses.{begin, end, usedBefore, usedIn, after, afterFrom, front, idle, Spaced}
 use Rattle.device.proofs.Pattern.{Ended, fresh, placed, ended-place, pattern-split, pattern-const, pattern-place, pattern-close}
 use Rattle.device.proofs.Chosen.{length-gap}
 use Rattle.device.proofs.Least.{row-place, row-close, energy-place, round-row, round-never, seam-energy}

@@ -1,3 +1,2 @@
 pub mod Row
-pub mod Uses
-pub mod Trips
+pub mod inside

@@ -3,8 +3,8 @@ ghost use mathlib.Core.Path.{_≡_};
 ghost use mathlib.Core.Bool.{false};
 ghost use Prim.Native.Nat.{_+_, _-_, _*_, _≤_, _<_};
 ghost use Rattle.device.specs.Row.{Sound, deep, gapCost, energyOf, pattern};
-ghost use Rattle.device.specs.Trips.{Chosen};
-ghost use Rattle.device.specs.Uses.{begin, usedIn, afterFrom, front, idle, Spaced};
+ghost use Rattle.device.specs.inside.Trips.{Chosen};
+ghost use Rattle.device.specs.inside.Uses.{begin, usedIn, afterFrom, front, idle, Spaced};
 use crate::Device;
 use crate::Uses;
 

@@ -15,7 +15,7 @@ use Rattle.tables.specs.declared.File.{File}
 use Rattle.tables.specs.Records.{deviceAt, told}
 use Rattle.tables.specs.declared.Tables.{Tables}
 use Rattle.tables.specs.Layout.{kindOf, bodyOf, tablesAs, tablesOf, noTables}
-use Rattle.tables.specs.Held.{held}
+use Rattle.tables.specs.inside.Held.{held}
 use Rattle.tables.proofs.Appending.{held-front, held-long}
 use Rattle.request.specs.Format.{readOf}
 use Rattle.request.proofs.Accepted.{refused-number}

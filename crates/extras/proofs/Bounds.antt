@@ -7,8 +7,8 @@ use lib.Dec.{eqb}
 use Rattle.base.proofs.Cases.{cond-cases}
 use Rattle.device.specs.declared.Device.{Device}
 use Rattle.device.proofs.Least.{gap-most}
-use Rattle.keys.specs.Keys.{extra, capFrom}
-use Rattle.value.specs.Leasts.{riseOf, fallOf}
+use Rattle.keys.specs.inside.Keys.{extra, capFrom}
+use Rattle.value.specs.inside.Leasts.{riseOf, fallOf}
 
 module _ (d : Device) where
   -- No gap of up to 4,096 ticks costs more than work at the largest power.

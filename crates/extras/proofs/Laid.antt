@@ -16,12 +16,12 @@ use Rattle.device.specs.declared.Device.{Device}
 use Rattle.device.specs.Row.{deep, gapCost}
 use Rattle.schedule.specs.declared.Recorder.{Recorder}
 use Rattle.schedule.specs.Quantities.{Valid, device}
-use Rattle.keys.specs.Keys.{extra, Capped, capFrom, capOf}
+use Rattle.keys.specs.inside.Keys.{extra, Capped, capFrom, capOf}
 use Rattle.keys.proofs.Extras.{cap-of}
-use Rattle.value.specs.Leasts.{Rises, Falls, riseOf, fallOf}
+use Rattle.value.specs.inside.Leasts.{Rises, Falls, riseOf, fallOf}
 use Rattle.value.proofs.Ticks.{rise-of, fall-of}
-use Rattle.extras.specs.Tabled.{extraAt, capAt, riseAt, fallAt, Tabled}
-use Rattle.extras.specs.Parts.{Gaps, LaidGaps, Stands, LaidDevice}
+use Rattle.extras.specs.inside.Tabled.{extraAt, capAt, riseAt, fallAt, Tabled}
+use Rattle.extras.specs.inside.Parts.{Gaps, LaidGaps, Stands, LaidDevice}
 use Rattle.extras.proofs.Bounds.{extra-most, cap-most, rise-most, fall-most}
 
 -- ---- one device: the gaps of fewer than n ticks

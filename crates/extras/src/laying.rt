@@ -16,11 +16,11 @@ ghost use lib.ListN.{length};
 ghost use Rattle.device.specs.declared.Device.{Device};
 ghost use Rattle.device.specs.Row.{Sound, deep};
 ghost use Rattle.schedule.specs.Quantities.{Valid, device};
-ghost use Rattle.flat.specs.Flat.{recorderOf};
-ghost use Rattle.keys.specs.Keys.{capOf};
-ghost use Rattle.value.specs.Leasts.{riseOf, fallOf};
-ghost use Rattle.extras.specs.Tabled.{Tabled};
-ghost use Rattle.extras.specs.Parts.{Gaps, LaidGaps, LaidDevice};
+ghost use Rattle.flat.specs.inside.Flat.{recorderOf};
+ghost use Rattle.keys.specs.inside.Keys.{capOf};
+ghost use Rattle.value.specs.inside.Leasts.{riseOf, fallOf};
+ghost use Rattle.extras.specs.inside.Tabled.{Tabled};
+ghost use Rattle.extras.specs.inside.Parts.{Gaps, LaidGaps, LaidDevice};
 
 // The extras of device k, which is d and has the power `sleep` in its deepest sleep, up to h ticks.
 fn lay_gaps(d: Device, sleep: u32, k: usize, h: u16, extras: &mut Extras)

@@ -2,7 +2,7 @@
 // tick more changes it at most.
 ghost use mathlib.Core.Path.{_≡_};
 ghost use Prim.Native.Nat.{_<_, _≤_};
-ghost use Rattle.extras.specs.Tabled.{extraAt};
+ghost use Rattle.extras.specs.inside.Tabled.{extraAt};
 
 pub mod laying; // laying.rt: the table filled
 

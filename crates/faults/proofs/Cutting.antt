@@ -18,7 +18,7 @@ use Rattle.tables.specs.declared.Tables.{Tables}
 use Rattle.tables.specs.declared.Part.{Part}
 use Rattle.tables.specs.declared.Part.the-variants.{Devices, Tasks, Jobs}
 use Rattle.tables.specs.Layout.{recordIn, layoutOf, tasksPlace}
-use Rattle.tables.specs.Held.{cut}
+use Rattle.tables.specs.inside.Held.{cut}
 use Rattle.tables.proofs.Back.{read-horizon, tasks-place, jobs-place}
 use Rattle.tables.proofs.Joining.{record-cut, length-layout, length-section}
 use Rattle.tables.proofs.Parts.{placeIn, count-is, front-long, tasks-front, jobs-front, tasks-at-same, jobs-at-same}

@@ -4,7 +4,7 @@ ghost use Prim.Native.Nat.{ℕ, _+_, _*_, _≤_, _<_};
 ghost use lib.ListN.{length};
 ghost use Rattle.base.specs.Bytes.{byteAt};
 ghost use Rattle.tables.specs.Layout.{marker};
-ghost use Rattle.request.specs.Held.{SoundTasks};
+ghost use Rattle.request.specs.inside.Held.{SoundTasks};
 ghost use Rattle.faults.specs.declared.Place.the-variants.{Horizon, End};
 ghost use Rattle.faults.specs.Places.{placeAt, FaultAs};
 ghost use Rattle.faults.specs.inside.Walk.{jobsWalk, jobWalk, taskWalk, walk};

@@ -19,7 +19,7 @@ use Rattle.schedule.specs.declared.Recorder.{Recorder}
 use Rattle.schedule.specs.Quantities.{jobs, release, deadline, run, Valid}
 use Rattle.schedule.specs.Listing.{start, Feasible, margin, laid}
 use Rattle.schedule.specs.Visiting.{Visited, planRow, planEnergy, visited, vertices}
-use Rattle.schedule.specs.Judging.{windowFault, clashes}
+use Rattle.schedule.specs.inside.Judging.{windowFault, clashes}
 use Rattle.schedule.proofs.Judgements.{window-met, clash-apart, apart-none, none-feasible}
 use Rattle.schedule.proofs.Outcome.{plan-rows, plan-costs, visited-first, visited-none}
 use Rattle.request.specs.Format.{Reading, readOf}

@@ -9,7 +9,7 @@ use native.Mathlib.Omega.{arith}
 use Rattle.base.specs.Lists.{upTo, padded, remove}
 use Rattle.base.specs.Refusals.{firstOf}
 use Rattle.device.specs.Row.{trip}
-use Rattle.schedule.specs.Judging.{windowFault, clashes}
+use Rattle.schedule.specs.inside.Judging.{windowFault, clashes}
 use Rattle.schedule.specs.Listing.{used, laid, soonest, ordered}
 use Rattle.schedule.specs.Visiting.{written, starts, choices, late, cutA, planEnergy, better, lastEnd, firstStart, since, deviceFloor, floor, cutB, complete, examine, visit, visited}
 use Rattle.tables.specs.Layout.{kindOf}

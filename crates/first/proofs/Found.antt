@@ -17,8 +17,8 @@ use Rattle.schedule.specs.Listing.{Place, start, running}
 use Rattle.schedule.specs.Visiting.{written}
 use Rattle.schedule.proofs.Runs.{Run, FullRun, startsBy, all-known, run-feasible, run-running, feasible-run, feasible-starts}
 use Rattle.possible.specs.TillFound.{First}
-use Rattle.flat.specs.Flat.{recorderOf}
-use Rattle.latest.specs.Latest.{latestOf, Laid, Greedy, Led}
+use Rattle.flat.specs.inside.Flat.{recorderOf}
+use Rattle.latest.specs.inside.Latest.{latestOf, Laid, Greedy, Led}
 use Rattle.latest.proofs.Members.{members-all}
 use Rattle.latest.proofs.Feasibility.{feasible-latest}
 use Rattle.latest.proofs.Tabled.{power-few}

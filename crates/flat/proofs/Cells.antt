@@ -18,7 +18,7 @@ use Rattle.device.specs.Row.{Sound, deep, powerAt}
 use Rattle.schedule.specs.declared.Job.{Job}
 use Rattle.schedule.specs.declared.Recorder.{Recorder}
 use Rattle.schedule.specs.Quantities.{job, device, release, deadline, run, uses, noJob, noDevice}
-use Rattle.flat.specs.Flat.{cell, jobColumn, deviceRow, recorderOf, jobNumber, deviceNumber, ownNumber, numberOf}
+use Rattle.flat.specs.inside.Flat.{cell, jobColumn, deviceRow, recorderOf, jobNumber, deviceNumber, ownNumber, numberOf}
 use Rattle.flat.proofs.Shapes.{Shaped}
 
 -- ---- a flag as a number

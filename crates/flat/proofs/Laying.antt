@@ -12,7 +12,7 @@ use Rattle.device.specs.declared.Device.{Device}
 use Rattle.device.specs.Row.{gapCost}
 use Rattle.schedule.specs.declared.Recorder.{Recorder}
 use Rattle.schedule.specs.Quantities.{Valid, device}
-use Rattle.flat.specs.Costs.{costAt, LaidGaps, Ready}
+use Rattle.flat.specs.inside.Costs.{costAt, LaidGaps, Ready}
 
 -- ---- one device: the gaps of fewer than n ticks
 

@@ -10,8 +10,8 @@ ghost use Prim.Native.Nat.{_<_, _≤_};
 ghost use lib.ListN.{length};
 ghost use Rattle.device.specs.Row.{Sound};
 ghost use Rattle.schedule.specs.Quantities.{Valid};
-ghost use Rattle.flat.specs.Flat.{recorderOf};
-ghost use Rattle.flat.specs.Costs.{costAt, LaidGaps, Ready};
+ghost use Rattle.flat.specs.inside.Flat.{recorderOf};
+ghost use Rattle.flat.specs.inside.Costs.{costAt, LaidGaps, Ready};
 
 // 4,097 numbers a device: that of a gap of g ticks stands at place g of its part.
 pub type Costs = [u32; 32776];

@@ -1,4 +1,4 @@
-// The recorder laid flat, twenty rows of sixteen numbers (specs/Flat says which). A struct that goes by value is copied at every call; this is lent, so that
+// The recorder laid flat, twenty rows of sixteen numbers (specs/inside/Flat says which). A struct that goes by value is copied at every call; this is lent, so that
 // nothing of the recorder is copied at a vertex.
 use device::Device;
 use schedule::Job;
@@ -7,7 +7,7 @@ ghost use mathlib.Core.Path.{_≡_};
 ghost use Prim.Native.Nat.{_<_};
 ghost use Rattle.device.specs.Row.{Sound, deep};
 ghost use Rattle.schedule.specs.Quantities.{Valid, device, jobs, release, deadline, run, uses};
-ghost use Rattle.flat.specs.Flat.{recorderOf, jobNumber, deviceNumber, ownNumber, numberOf};
+ghost use Rattle.flat.specs.inside.Flat.{recorderOf, jobNumber, deviceNumber, ownNumber, numberOf};
 
 pub mod costs; // costs.rt: what each gap costs
 pub mod numbers; // numbers.rt: sums past sixteen bits

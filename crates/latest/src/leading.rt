@@ -11,8 +11,8 @@ use flat::run_of;
 ghost use Prim.Native.Nat.{_-_, _^_, _<_, _≤_};
 ghost use lib.ListN.{length};
 ghost use Rattle.schedule.specs.Quantities.{Valid, jobs};
-ghost use Rattle.flat.specs.Flat.{recorderOf};
-ghost use Rattle.latest.specs.Latest.{latestOf, Laid, Leads, Led};
+ghost use Rattle.flat.specs.inside.Flat.{recorderOf};
+ghost use Rattle.latest.specs.inside.Latest.{latestOf, Laid, Leads, Led};
 
 // The job that goes first, of the set m from time t on.
 fn first_job(r: &Flat, table: &Table, t: u16, m: usize) -> usize

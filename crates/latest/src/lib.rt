@@ -10,8 +10,8 @@ ghost use mathlib.Core.Path.{_≡_};
 ghost use Prim.Native.Nat.{suc, _-_, _/_, _^_, _<_, _≤_, max, min};
 ghost use lib.ListN.{getD, length};
 ghost use Rattle.schedule.specs.Quantities.{Valid, jobs};
-ghost use Rattle.flat.specs.Flat.{recorderOf};
-ghost use Rattle.latest.specs.Latest.{slot, offer, latestBy, Laid};
+ghost use Rattle.flat.specs.inside.Flat.{recorderOf};
+ghost use Rattle.latest.specs.inside.Latest.{slot, offer, latestBy, Laid};
 
 pub mod leading; // leading.rt: the first run of all jobs
 

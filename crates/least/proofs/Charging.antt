@@ -11,8 +11,8 @@ use lib.Seq.{getD-set-same, getD-set-other}
 use Rattle.schedule.specs.declared.Recorder.{Recorder}
 use Rattle.schedule.specs.Quantities.{run, uses}
 use Rattle.schedule.specs.Visiting.{ticks}
-use Rattle.vertex.specs.Vertices.{unused}
-use Rattle.least.specs.Shown.{endAt, firstAt, aheadAt, charged, fresh, Placed}
+use Rattle.vertex.specs.inside.Vertices.{unused}
+use Rattle.least.specs.inside.Shown.{endAt, firstAt, aheadAt, charged, fresh, Placed}
 
 -- Device k has the same numbers in both.
 abbrev Kept : List ℕ → List ℕ → ℕ → Type 0

@@ -15,15 +15,15 @@ use Rattle.base.specs.Lists.{upFrom}
 use Rattle.schedule.specs.declared.Recorder.{Recorder}
 use Rattle.schedule.specs.Quantities.{jobs, Valid}
 use Rattle.schedule.specs.Visiting.{Vertex}
-use Rattle.latest.specs.Sets.{has}
+use Rattle.latest.specs.inside.Sets.{has}
 use Rattle.latest.proofs.Members.{has-le}
-use Rattle.value.specs.Options.{lesser, leastIn, Answers}
-use Rattle.value.specs.Leasts.{viaChild, startsTo}
+use Rattle.value.specs.inside.Options.{lesser, leastIn, Answers}
+use Rattle.value.specs.inside.Leasts.{viaChild, startsTo}
 use Rattle.value.proofs.Waits.{leastTo}
 use Rattle.value.proofs.Tries.{ChosenTo, choosing-start, choosing-placed, choosing-tried, choosing-done}
-use Rattle.least.specs.Shown.{Shows, Held}
+use Rattle.least.specs.inside.Shown.{Shows, Held}
 use Rattle.least.specs.Effort.{mostOf}
-use Rattle.least.specs.Outcome.{Came, told, stopped}
+use Rattle.least.specs.inside.Outcome.{Came, told, stopped}
 use Rattle.least.proofs.Showing.{set-some, job-in, in-job}
 use Rattle.least.proofs.Counting.{came-stop, came-small, came-from}
 

@@ -8,7 +8,7 @@ use native.Mathlib.Omega.{arith}
 use Rattle.schedule.specs.declared.Recorder.{Recorder}
 use Rattle.schedule.specs.Quantities.{jobs}
 use Rattle.least.specs.Effort.{mostOf}
-use Rattle.least.specs.Outcome.{Came, told, stopped}
+use Rattle.least.specs.inside.Outcome.{Came, told, stopped}
 
 -- ---- calls
 

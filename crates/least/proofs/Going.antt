@@ -17,23 +17,23 @@ use Rattle.schedule.specs.declared.Recorder.{Recorder}
 use Rattle.schedule.specs.Quantities.{jobs, release, deadline, run, Valid}
 use Rattle.schedule.specs.Visiting.{Vertex, child, earliest}
 use Rattle.schedule.proofs.Runs.{Run}
-use Rattle.latest.specs.Sets.{has}
-use Rattle.latest.specs.Latest.{slot, latestOf, jobsOf, Laid}
+use Rattle.latest.specs.inside.Sets.{has}
+use Rattle.latest.specs.inside.Latest.{slot, latestOf, jobsOf, Laid}
 use Rattle.latest.proofs.Members.{has-le}
 use Rattle.latest.proofs.Feasibility.{latest-opens, run-latest}
 use Rattle.latest.proofs.Spared.{reached-set}
-use Rattle.value.specs.Options.{AtMost, Answers, Holds}
-use Rattle.value.specs.Leasts.{closeOf, leastOf, waited}
+use Rattle.value.specs.inside.Options.{AtMost, Answers, Holds}
+use Rattle.value.specs.inside.Leasts.{closeOf, leastOf, waited}
 use Rattle.value.proofs.Limits.{answer-exact, answer-raise, answer-less, entry-answers}
 use Rattle.value.proofs.Waits.{leastTo, answer-waited}
 use Rattle.value.proofs.Steps.{wait-over, latest-gone}
-use Rattle.extras.specs.Tabled.{Tabled, capAt}
+use Rattle.extras.specs.inside.Tabled.{Tabled, capAt}
 use Rattle.least.specs.declared.naming.Key.{Key}
 use Rattle.least.specs.declared.memory.Spot.{Spot}
-use Rattle.least.specs.Shown.{closesBy, keyBy, Ordered, Placed, Shows, Held}
-use Rattle.least.specs.Entries.{Looked, kept, knownOf}
+use Rattle.least.specs.inside.Shown.{closesBy, keyBy, Ordered, Placed, Shows, Held}
+use Rattle.least.specs.inside.Entries.{Looked, kept, knownOf}
 use Rattle.least.specs.Effort.{mostOf}
-use Rattle.least.specs.Outcome.{Named, Recalls, Lent, Offers, Came, Tried, entered}
+use Rattle.least.specs.inside.Outcome.{Named, Recalls, Lent, Offers, Came, Tried, entered}
 use Rattle.least.proofs.Showing.{ordered-later, shown-ordered, closes-shown, set-few, set-none, set-some, waited-shown, child-shown, job-in, in-job}
 use Rattle.least.proofs.Keyed.{key-named, named-recalls, recalls-none}
 use Rattle.least.proofs.Kept.{right-looked, right-kept}

@@ -16,15 +16,15 @@ use Rattle.schedule.specs.declared.Recorder.{Recorder}
 use Rattle.schedule.specs.Quantities.{jobs, release, deadline, run, Valid}
 use Rattle.schedule.specs.Visiting.{Vertex, child, earliest}
 use Rattle.schedule.proofs.Tree.{in-starts, starts-in}
-use Rattle.latest.specs.Sets.{has}
-use Rattle.latest.specs.Latest.{slot, latestOf}
-use Rattle.value.specs.Options.{plus, Answers}
-use Rattle.value.specs.Leasts.{leadOf, leastOf, viaChild}
+use Rattle.latest.specs.inside.Sets.{has}
+use Rattle.latest.specs.inside.Latest.{slot, latestOf}
+use Rattle.value.specs.inside.Options.{plus, Answers}
+use Rattle.value.specs.inside.Leasts.{leadOf, leastOf, viaChild}
 use Rattle.value.proofs.Steps.{answer-hits, hits-answer, lead-misses, none-misses}
-use Rattle.least.specs.Shown.{leadsBy, Shows}
+use Rattle.least.specs.inside.Shown.{leadsBy, Shows}
 use Rattle.least.specs.Effort.{mostOf}
-use Rattle.least.specs.Outcome.{Came, told, stopped}
-use Rattle.least.specs.Readings.{Hit, hit, missed, FirstStart, first, nowhere}
+use Rattle.least.specs.inside.Outcome.{Came, told, stopped}
+use Rattle.least.specs.inside.Readings.{Hit, hit, missed, FirstStart, first, nowhere}
 use Rattle.least.proofs.Showing.{leads-shown, job-in}
 use Rattle.least.proofs.Counting.{came-stop, came-go, came-from}
 use Rattle.least.proofs.Trials.{gone}

@@ -9,7 +9,7 @@ use lib.Dec.{ltb}
 use borrow.Author.Tests.{lt-ltb, le-ltb}
 use Rattle.base.proofs.Cases.{cond-cases}
 use Rattle.schedule.specs.declared.Recorder.{Recorder}
-use Rattle.least.specs.Shown.{endAt, firstAt, aheadAt, fresh, idleBy, firstBy}
+use Rattle.least.specs.inside.Shown.{endAt, firstAt, aheadAt, fresh, idleBy, firstBy}
 
 module _ (R : Recorder) (cap : ℕ → ℕ) (l : List ℕ) (k : ℕ) where
   -- A device that is there.

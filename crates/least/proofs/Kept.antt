@@ -14,7 +14,7 @@ use borrow.Author.Tests.{leb-true}
 use Rattle.base.proofs.Cases.{cond-cases}
 use Rattle.least.specs.declared.naming.Key.{Key}
 use Rattle.least.specs.declared.memory.Spot.{Spot}
-use Rattle.least.specs.Entries.{word, keyAt, knownAt, Right, Looked, wrote, kept}
+use Rattle.least.specs.inside.Entries.{word, keyAt, knownAt, Right, Looked, wrote, kept}
 
 abbrev pub noKey : Key
 noKey = record { head = 0; idle = 0; idle4 = 0; first = 0; first4 = 0 }

@@ -17,21 +17,21 @@ use Rattle.schedule.specs.declared.Recorder.{Recorder}
 use Rattle.schedule.specs.Quantities.{jobs, Valid}
 use Rattle.schedule.specs.Visiting.{Vertex}
 use Rattle.schedule.proofs.Tree.{Reached}
-use Rattle.latest.specs.Latest.{jobsOf}
-use Rattle.latest.specs.Sparing.{setOf}
+use Rattle.latest.specs.inside.Latest.{jobsOf}
+use Rattle.latest.specs.inside.Sparing.{setOf}
 use Rattle.latest.proofs.Spared.{reached-set}
 use Rattle.latest.proofs.Tabled.{power-few}
-use Rattle.keys.specs.Keys.{Caps}
+use Rattle.keys.specs.inside.Keys.{Caps}
 use Rattle.keys.proofs.Words.{needed-ticks, ready-time}
-use Rattle.value.specs.Options.{Holds}
-use Rattle.value.specs.Leasts.{leastOf}
-use Rattle.value.specs.Stored.{idleKey, firstKey}
+use Rattle.value.specs.inside.Options.{Holds}
+use Rattle.value.specs.inside.Leasts.{leastOf}
+use Rattle.value.specs.inside.Stored.{idleKey, firstKey}
 use Rattle.value.proofs.Limits.{bound-entry}
 use Rattle.value.proofs.Recalls.{told-least, idle-key-most, first-key-most}
 use Rattle.value.proofs.Tries.{most-zero}
 use Rattle.least.specs.declared.naming.Key.{Key}
-use Rattle.least.specs.Shown.{endAt, firstAt, aheadAt, fresh, idleBy, firstBy, four, keyBy, Shows}
-use Rattle.least.specs.Outcome.{ofDevices, Named, Recalls}
+use Rattle.least.specs.inside.Shown.{endAt, firstAt, aheadAt, fresh, idleBy, firstBy, four, keyBy, Shows}
+use Rattle.least.specs.inside.Outcome.{ofDevices, Named, Recalls}
 
 -- ---- four numbers in a word
 

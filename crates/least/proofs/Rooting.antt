@@ -16,12 +16,12 @@ use Rattle.schedule.specs.declared.Recorder.{Recorder}
 use Rattle.schedule.specs.Quantities.{Valid, jobs}
 use Rattle.schedule.specs.Visiting.{root, lastEnd, firstStart, since, ticks}
 use Rattle.schedule.proofs.Tree.{root-reached}
-use Rattle.vertex.specs.Vertices.{Vertex, flagged, ahead}
-use Rattle.vertex.specs.Layout.{placedOf, vertexOf, rootCells}
+use Rattle.vertex.specs.inside.Vertices.{Vertex, flagged, ahead}
+use Rattle.vertex.specs.inside.Layout.{placedOf, vertexOf, rootCells}
 use Rattle.vertex.proofs.Flags.{none-flagged}
 use Rattle.vertex.proofs.Rooting.{root-is, root-holds}
-use Rattle.latest.specs.Sparing.{setOf}
-use Rattle.least.specs.Shown.{Shows}
+use Rattle.latest.specs.inside.Sparing.{setOf}
+use Rattle.least.specs.inside.Shown.{Shows}
 
 -- ---- the ticks to come, of which the whole vertex's numbers have the sums
 

@@ -14,14 +14,14 @@ use Rattle.schedule.specs.declared.Recorder.{Recorder}
 use Rattle.schedule.specs.Quantities.{jobs, Valid}
 use Rattle.schedule.specs.Visiting.{Vertex, starts}
 use Rattle.schedule.proofs.Tree.{in-starts}
-use Rattle.latest.specs.Sets.{has}
-use Rattle.value.specs.Leasts.{leastOf, viaChild, FirstChild}
+use Rattle.latest.specs.inside.Sets.{has}
+use Rattle.value.specs.inside.Leasts.{leastOf, viaChild, FirstChild}
 use Rattle.value.proofs.Reading.{no-hit}
 use Rattle.value.proofs.Steps.{first-by}
-use Rattle.least.specs.Shown.{Shows}
+use Rattle.least.specs.inside.Shown.{Shows}
 use Rattle.least.specs.Effort.{mostOf}
-use Rattle.least.specs.Outcome.{Came, told, stopped}
-use Rattle.least.specs.Readings.{FirstStart, first, nowhere}
+use Rattle.least.specs.inside.Outcome.{Came, told, stopped}
+use Rattle.least.specs.inside.Readings.{FirstStart, first, nowhere}
 use Rattle.least.proofs.Showing.{job-in, in-job}
 use Rattle.least.proofs.Counting.{came-from}
 

@@ -14,20 +14,20 @@ use Rattle.schedule.specs.Quantities.{jobs, deadline, run, Valid}
 use Rattle.schedule.specs.Listing.{Place, place, FirstLeast}
 use Rattle.schedule.specs.Visiting.{Vertex, root, child, startsOf, planEnergy, written}
 use Rattle.schedule.proofs.Tree.{Reached, in-starts, root-reached}
-use Rattle.latest.specs.Latest.{latestOf}
-use Rattle.latest.specs.Sparing.{setOf}
+use Rattle.latest.specs.inside.Latest.{latestOf}
+use Rattle.latest.specs.inside.Sparing.{setOf}
 use Rattle.latest.proofs.Feasibility.{latest-feasible}
 use Rattle.latest.proofs.Laying.{written-snoc}
-use Rattle.value.specs.Options.{Answers}
-use Rattle.value.specs.Leasts.{leastOf, FirstChild}
+use Rattle.value.specs.inside.Options.{Answers}
+use Rattle.value.specs.inside.Leasts.{leastOf, FirstChild}
 use Rattle.value.proofs.Lesser.{most-some}
 use Rattle.value.proofs.Reading.{settles-root, settles-child, settles-end, root-nothing}
 use Rattle.value.proofs.Steps.{child-goal, least-most}
-use Rattle.extras.specs.Tabled.{Tabled}
-use Rattle.least.specs.Shown.{leadsBy, Placed, Shows, Held}
+use Rattle.extras.specs.inside.Tabled.{Tabled}
+use Rattle.least.specs.inside.Shown.{leadsBy, Placed, Shows, Held}
 use Rattle.least.specs.Effort.{mostOf, mostVertices}
-use Rattle.least.specs.Outcome.{Offers, Came, told, stopped, ReadOff, read}
-use Rattle.least.specs.Readings.{Reads}
+use Rattle.least.specs.inside.Outcome.{Offers, Came, told, stopped, ReadOff, read}
+use Rattle.least.specs.inside.Readings.{Reads}
 use Rattle.least.proofs.Showing.{leads-shown, set-none, set-some}
 use Rattle.least.proofs.Counting.{came-what, came-count, most-children}
 use Rattle.least.proofs.Going.{child-shows}

@@ -17,17 +17,17 @@ use Rattle.schedule.specs.Visiting.{Vertex, child, earliest, lastEnd, since, ti
 use Rattle.schedule.proofs.Tree.{child-reached}
 use Rattle.schedule.proofs.Gaps.{last-by, last-snoc}
 use Rattle.schedule.proofs.Rounds.{since-by, since-place}
-use Rattle.latest.specs.Sets.{has}
-use Rattle.latest.specs.Latest.{jobsOf}
-use Rattle.latest.specs.Sparing.{setOf}
+use Rattle.latest.specs.inside.Sets.{has}
+use Rattle.latest.specs.inside.Latest.{jobsOf}
+use Rattle.latest.specs.inside.Sparing.{setOf}
 use Rattle.latest.proofs.Members.{members-none}
 use Rattle.latest.proofs.Feasibility.{one-of, of-set}
 use Rattle.latest.proofs.Tabled.{power-few}
 use Rattle.latest.proofs.Spared.{reached-set, set-without}
-use Rattle.keys.specs.Keys.{leads, closes}
-use Rattle.value.specs.Leasts.{leadOf, closeOf, dropAt, dropOf, waited}
+use Rattle.keys.specs.inside.Keys.{leads, closes}
+use Rattle.value.specs.inside.Leasts.{leadOf, closeOf, dropAt, dropOf, waited}
 use Rattle.value.proofs.Waits.{waited-reached}
-use Rattle.least.specs.Shown.{leadBy, closeBy, fallBy, leadsBy, closesBy, fallsBy, firstAt, aheadAt, Ordered, Placed, Shows}
+use Rattle.least.specs.inside.Shown.{leadBy, closeBy, fallBy, leadsBy, closesBy, fallsBy, firstAt, aheadAt, Ordered, Placed, Shows}
 
 -- ---- over plain tests and numbers
 

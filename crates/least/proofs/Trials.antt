@@ -17,19 +17,19 @@ use Rattle.schedule.specs.declared.Recorder.{Recorder}
 use Rattle.schedule.specs.Quantities.{jobs, release, deadline, run, Valid}
 use Rattle.schedule.specs.Visiting.{Vertex, child, earliest}
 use Rattle.schedule.proofs.Runs.{Run}
-use Rattle.latest.specs.Sets.{has}
-use Rattle.latest.specs.Latest.{slot, latestOf, jobsOf}
+use Rattle.latest.specs.inside.Sets.{has}
+use Rattle.latest.specs.inside.Latest.{slot, latestOf, jobsOf}
 use Rattle.latest.proofs.Feasibility.{run-latest, jobs-without}
 use Rattle.latest.proofs.Spared.{reached-set}
-use Rattle.value.specs.Options.{lesser, plus, leastIn, NoMore, Answers}
-use Rattle.value.specs.Leasts.{leadOf, leastOf, viaChild}
+use Rattle.value.specs.inside.Options.{lesser, plus, leastIn, NoMore, Answers}
+use Rattle.value.specs.inside.Leasts.{leadOf, leastOf, viaChild}
 use Rattle.value.proofs.Ticks.{one-tick}
 use Rattle.value.proofs.Steps.{least-span, latest-gone}
 use Rattle.value.proofs.Tries.{Trying, Falling, trying-start, trying-pass, trying-enter}
-use Rattle.extras.specs.Tabled.{Tabled, riseAt, fallAt}
-use Rattle.least.specs.Shown.{leadsBy, fallsBy, Shows, Held}
+use Rattle.extras.specs.inside.Tabled.{Tabled, riseAt, fallAt}
+use Rattle.least.specs.inside.Shown.{leadsBy, fallsBy, Shows, Held}
 use Rattle.least.specs.Effort.{mostOf}
-use Rattle.least.specs.Outcome.{Came, told, stopped, Tried, passed, entered}
+use Rattle.least.specs.inside.Outcome.{Came, told, stopped, Tried, passed, entered}
 use Rattle.least.proofs.Showing.{leads-shown, falls-shown, job-in, in-job}
 use Rattle.least.proofs.Counting.{came-stop, came-small, came-from}
 use Rattle.least.proofs.Choosing.{held-open, has-some, before}

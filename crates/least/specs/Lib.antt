@@ -1,5 +1,2 @@
-pub mod Shown
-pub mod Entries
 pub mod Effort
-pub mod Outcome
-pub mod Readings
+pub mod inside

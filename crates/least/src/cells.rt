@@ -1,4 +1,4 @@
-// A vertex as lent numbers (specs/Shown): what of it decides how much is still to pay. The root, and a job placed.
+// A vertex as lent numbers (specs/inside/Shown): what of it decides how much is still to pay. The root, and a job placed.
 use flat::Flat;
 use flat::device_count;
 use flat::is_round;
@@ -12,9 +12,9 @@ ghost use Prim.Native.Nat.{ℕ, _+_, _-_, _<_, _≤_};
 ghost use lib.ListN.{length};
 ghost use Rattle.schedule.specs.Quantities.{Valid, jobs, run};
 ghost use Rattle.schedule.specs.Visiting.{root, ticks};
-ghost use Rattle.flat.specs.Flat.{recorderOf};
-ghost use Rattle.latest.specs.Sparing.{setOf};
-ghost use Rattle.least.specs.Shown.{charged, aheadAt, Placed, Shows};
+ghost use Rattle.flat.specs.inside.Flat.{recorderOf};
+ghost use Rattle.latest.specs.inside.Sparing.{setOf};
+ghost use Rattle.least.specs.inside.Shown.{charged, aheadAt, Placed, Shows};
 
 // Of device k: the end of its last use at k (0 where it has none yet), in a round the start of its first use at 8 + k, and at 16 + k the ticks for which unplaced jobs
 // will use it.

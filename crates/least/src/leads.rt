@@ -14,11 +14,11 @@ ghost use mathlib.Core.Path.{_≡_};
 ghost use mathlib.Core.Bool.{cond};
 ghost use Prim.Native.Nat.{_+_, _-_, _<_, _≤_};
 ghost use Rattle.schedule.specs.Quantities.{device, uses};
-ghost use Rattle.flat.specs.Flat.{recorderOf};
-ghost use Rattle.vertex.specs.Vertices.{unused};
-ghost use Rattle.keys.specs.Keys.{extra};
-ghost use Rattle.extras.specs.Tabled.{Tabled, riseAt, fallAt};
-ghost use Rattle.least.specs.Shown.{leadsBy, closesBy, fallsBy, Ordered};
+ghost use Rattle.flat.specs.inside.Flat.{recorderOf};
+ghost use Rattle.vertex.specs.inside.Vertices.{unused};
+ghost use Rattle.keys.specs.inside.Keys.{extra};
+ghost use Rattle.extras.specs.inside.Tabled.{Tabled, riseAt, fallAt};
+ghost use Rattle.least.specs.inside.Shown.{leadsBy, closesBy, fallsBy, Ordered};
 
 // What device k pays for the gap before job j, if it uses the device, where it starts at s.
 fn lead_with(r: &Flat, extras: &Extras, round: bool, k: usize, j: usize, end: u32, s: u32) -> u32

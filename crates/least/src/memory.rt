@@ -1,11 +1,11 @@
-// What the search remembers: entries of five words (specs/Entries), four to a row. Which row a key has is of no matter to what is found there: an entry holds its whole
+// What the search remembers: entries of five words (specs/inside/Entries), four to a row. Which row a key has is of no matter to what is found there: an entry holds its whole
 // key. A word of 0 is no entry: of a key that is looked for some job is unplaced.
 use crate::naming::Key;
 ghost use mathlib.Core.Path.{_≡_};
 ghost use mathlib.Core.Bool.{true};
 ghost use Prim.Native.Nat.{ℕ, _+_, _*_, _<_, _≤_};
 ghost use lib.ListN.{getD, length};
-ghost use Rattle.least.specs.Entries.{keyAt, Looked, kept, knownOf};
+ghost use Rattle.least.specs.inside.Entries.{keyAt, Looked, kept, knownOf};
 
 const TWO29: u64 = 536870912;
 

@@ -1,4 +1,4 @@
-// The key of a vertex: all that what is still to pay depends on (value/specs/Stored).
+// The key of a vertex: all that what is still to pay depends on (value/specs/inside/Stored).
 use crate::cells::Cells;
 use extras::Extras;
 use flat::Flat;
@@ -12,9 +12,9 @@ ghost use mathlib.Core.Path.{_≡_};
 ghost use mathlib.Core.Bool.{cond};
 ghost use Prim.Native.Nat.{_+_, _-_, _*_, _<_, _≤_, min};
 ghost use lib.Dec.{ltb};
-ghost use Rattle.flat.specs.Flat.{recorderOf};
-ghost use Rattle.extras.specs.Tabled.{Tabled, capAt};
-ghost use Rattle.least.specs.Shown.{idleBy, firstBy, four, keyBy, Ordered};
+ghost use Rattle.flat.specs.inside.Flat.{recorderOf};
+ghost use Rattle.extras.specs.inside.Tabled.{Tabled, capAt};
+ghost use Rattle.least.specs.inside.Shown.{idleBy, firstBy, four, keyBy, Ordered};
 
 // head: the set of the unplaced jobs, and 65,536 times the time. Then the idle times of the devices from 0 and from 4 on, and their first uses, sixteen bits each.
 pub struct Key {

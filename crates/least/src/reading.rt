@@ -24,14 +24,14 @@ ghost use Prim.Native.Nat.{ℕ, suc, _-_, _*_, _^_, _<_, _≤_};
 ghost use lib.ListN.{replicate};
 ghost use Rattle.schedule.specs.Quantities.{jobs};
 ghost use Rattle.schedule.specs.Visiting.{Vertex};
-ghost use Rattle.flat.specs.Flat.{recorderOf};
-ghost use Rattle.latest.specs.Sets.{has};
-ghost use Rattle.latest.specs.Latest.{latestOf};
-ghost use Rattle.value.specs.Leasts.{leadOf, leastOf, viaChild, FirstChild};
-ghost use Rattle.least.specs.Shown.{Shows, Held};
+ghost use Rattle.flat.specs.inside.Flat.{recorderOf};
+ghost use Rattle.latest.specs.inside.Sets.{has};
+ghost use Rattle.latest.specs.inside.Latest.{latestOf};
+ghost use Rattle.value.specs.inside.Leasts.{leadOf, leastOf, viaChild, FirstChild};
+ghost use Rattle.least.specs.inside.Shown.{Shows, Held};
 ghost use Rattle.least.specs.Effort.{mostOf};
-ghost use Rattle.least.specs.Outcome.{Lent, Offers, Came, ReadOff};
-ghost use Rattle.least.specs.Readings.{Hit, FirstStart, Reads};
+ghost use Rattle.least.specs.inside.Outcome.{Lent, Offers, Came, ReadOff};
+ghost use Rattle.least.specs.inside.Readings.{Hit, FirstStart, Reads};
 
 // A job and its start.
 pub struct Child {

@@ -30,17 +30,17 @@ ghost use lib.Dec.{eqb, leb};
 ghost use lib.ListN.{getD};
 ghost use Rattle.schedule.specs.Quantities.{jobs, release, deadline, run};
 ghost use Rattle.schedule.specs.Visiting.{Vertex, child};
-ghost use Rattle.flat.specs.Flat.{recorderOf};
-ghost use Rattle.latest.specs.Sets.{has};
-ghost use Rattle.latest.specs.Latest.{slot};
-ghost use Rattle.value.specs.Options.{lesser, leastIn, Answers};
-ghost use Rattle.value.specs.Leasts.{leastOf, viaChild, startsTo};
+ghost use Rattle.flat.specs.inside.Flat.{recorderOf};
+ghost use Rattle.latest.specs.inside.Sets.{has};
+ghost use Rattle.latest.specs.inside.Latest.{slot};
+ghost use Rattle.value.specs.inside.Options.{lesser, leastIn, Answers};
+ghost use Rattle.value.specs.inside.Leasts.{leastOf, viaChild, startsTo};
 ghost use Rattle.value.proofs.Waits.{leastTo};
-ghost use Rattle.extras.specs.Tabled.{capAt};
-ghost use Rattle.least.specs.Shown.{keyBy, Shows, Held};
-ghost use Rattle.least.specs.Entries.{Looked};
+ghost use Rattle.extras.specs.inside.Tabled.{capAt};
+ghost use Rattle.least.specs.inside.Shown.{keyBy, Shows, Held};
+ghost use Rattle.least.specs.inside.Entries.{Looked};
 ghost use Rattle.least.specs.Effort.{mostOf};
-ghost use Rattle.least.specs.Outcome.{Lent, Offers, Came, Tried};
+ghost use Rattle.least.specs.inside.Outcome.{Lent, Offers, Came, Tried};
 
 // More than any extras: 8 devices, 4,096 ticks, 65,535 a tick are 2,147,450,880.
 pub const NEVER: u32 = 2147483647;

@@ -18,7 +18,7 @@ use Rattle.request.proofs.Accepted.{accepted-valid}
 use Rattle.planner.specs.Promises.{success, refusalAt, Reads}
 use Rattle.planner.specs.Promises as Frame
 use Rattle.mend.specs.Mending.{moves, numbers}
-use Rattle.mend.specs.Settling.{settle, lateOf, mended, firstLate}
+use Rattle.mend.specs.inside.Settling.{settle, lateOf, mended, firstLate}
 use Rattle.mend.specs.Promises as P
 use Rattle.mend.specs.Promises.{Lent, lending, Room, Mended}
 use Rattle.mend.proofs.Outcome.{mended-comes-out, late-none, none-late, some-late}

@@ -13,7 +13,7 @@ use Rattle.base.proofs.Cases.{cond-cases, test-cases}
 use Rattle.base.proofs.Filling.{Filled, filled-none, filled-store}
 use Rattle.schedule.specs.Listing.{start}
 use Rattle.mend.specs.Mending.{Move, moves, numbers}
-use Rattle.mend.specs.Moving.{countWith, listWith}
+use Rattle.mend.specs.inside.Moving.{countWith, listWith}
 
 -- No more jobs move than there are, and none where the starts stay.
 pub moves-few : (given s : List ℕ) (n : ℕ) → length (moves given s n) ≤ n

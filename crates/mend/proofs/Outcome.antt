@@ -16,7 +16,7 @@ use Rattle.schedule.specs.Quantities.{jobs, run, Valid}
 use Rattle.schedule.specs.Listing.{start, InTime, Feasible}
 use Rattle.schedule.proofs.Runs.{all-known}
 use Rattle.mend.specs.Mending.{Ahead, Keeps, Fits, Queues, Smallest, Mends, ComesOut, FirstLate}
-use Rattle.mend.specs.Settling.{mended, firstLate}
+use Rattle.mend.specs.inside.Settling.{mended, firstLate}
 use Rattle.schedule.proofs.Leading.{first-least}
 use Rattle.mend.proofs.Order.{ahead-one-way, ahead-first, one-ahead}
 use Rattle.mend.proofs.Queue.{Waiting, settle-length, settle-from, settle-next, settle-least, LateOf, settle-late}

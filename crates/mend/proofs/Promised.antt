@@ -18,8 +18,8 @@ use Rattle.schedule.specs.Listing.{start}
 use Rattle.planner.specs.Promises.{success, refusalAt}
 use Rattle.mend.specs.declared.settling.Settled.{Settled}
 use Rattle.mend.specs.Mending.{Mends, moves, numbers}
-use Rattle.mend.specs.Settling as S
-use Rattle.mend.specs.Settling.{Settles}
+use Rattle.mend.specs.inside.Settling as S
+use Rattle.mend.specs.inside.Settling.{Settles}
 use Rattle.mend.specs.Promises as P
 use Rattle.mend.specs.Promises.{Lent, lending, Room, MendOf}
 use Rattle.mend.proofs.Outcome.{late-none}

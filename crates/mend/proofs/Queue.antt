@@ -19,7 +19,7 @@ use Rattle.schedule.specs.Quantities.{release, deadline, run}
 use Rattle.schedule.specs.Listing.{start, InTime, soonest}
 use Rattle.schedule.proofs.Runs.{soonest-in}
 use Rattle.mend.specs.Mending.{Ahead}
-use Rattle.mend.specs.Settling.{latest, settle, lateOf}
+use Rattle.mend.specs.inside.Settling.{latest, settle, lateOf}
 use Rattle.schedule.proofs.Leading.{soonest-first}
 use Rattle.mend.proofs.Order.{ahead-one-way, first-ahead}
 

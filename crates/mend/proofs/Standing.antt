@@ -17,7 +17,7 @@ use Rattle.schedule.specs.Quantities.{jobs, deadline, run, Valid}
 use Rattle.schedule.specs.Listing.{start, Place, place, soonest, ordered, running}
 use Rattle.schedule.proofs.Runs.{soonest-in, all-known}
 use Rattle.schedule.proofs.InOrder.{nth, running-length}
-use Rattle.mend.specs.Settling.{latest, settle, lateOf, mended, firstLate}
+use Rattle.mend.specs.inside.Settling.{latest, settle, lateOf, mended, firstLate}
 use Rattle.mend.proofs.Queue.{Waiting, waiting-less, settle-length}
 
 module _ (R : Recorder) (given : List ℕ) where

@@ -1,4 +1,3 @@
 pub mod Mending
-pub mod Settling
-pub mod Moving
 pub mod Promises
+pub mod inside

@@ -6,7 +6,7 @@ ghost use lib.ListN.{length, drop};
 ghost use Rattle.base.specs.Lists.{upTo};
 ghost use Rattle.schedule.specs.Listing.{start};
 ghost use Rattle.mend.specs.Mending.{moves, numbers};
-ghost use Rattle.mend.specs.Moving.{countWith, listWith};
+ghost use Rattle.mend.specs.inside.Moving.{countWith, listWith};
 use base::JobNumber;
 
 // Writes the first n starts, and keeps the places after them.

@@ -4,7 +4,7 @@ ghost use Prim.Native.Nat.{_+_, max};
 ghost use lib.Dec.{ltb};
 ghost use lib.ListN.{length};
 ghost use Rattle.schedule.specs.Quantities.{jobs, Valid};
-ghost use Rattle.mend.specs.Settling.{Settles};
+ghost use Rattle.mend.specs.inside.Settling.{Settles};
 use base::JobNumber;
 use schedule::Recorder;
 use schedule::running_order;

@@ -3,7 +3,7 @@ use mathlib.Core.List.{List}
 use Prim.Native.Nat.{ℕ}
 use Rattle.schedule.specs.declared.Recorder.{Recorder}
 use Rattle.tables.specs.Layout.{kindOf, bodyOf}
-use Rattle.tables.specs.Held.{Whole}
+use Rattle.tables.specs.inside.Held.{Whole}
 use Rattle.request.specs.Format.{readOf}
 use Rattle.request.proofs.Cutting.{accepted-whole}
 use Rattle.planner.specs.Promises.{Reads}

@@ -17,8 +17,8 @@ use Rattle.visit.specs.declared.Found.{Found}
 use Rattle.schedule.specs.Quantities.{jobs, Valid}
 use Rattle.schedule.specs.Listing.{FirstLeast}
 use Rattle.schedule.specs.Visiting.{vertices}
-use Rattle.visit.specs.Steps.{searched, answerOf, copyStart, writtenOf}
-use Rattle.visit.specs.Steps as Steps
+use Rattle.visit.specs.inside.Steps.{searched, answerOf, copyStart, writtenOf}
+use Rattle.visit.specs.inside.Steps as Steps
 use Rattle.visit.proofs.Agreement.{searched-count, searched-none, searched-best}
 use Rattle.schedule.proofs.Outcome.{visited-first, visited-none}
 use Rattle.planner.specs.declared.Answer.{Answer}

@@ -18,13 +18,13 @@ use Rattle.schedule.specs.Quantities.{jobs, run}
 use Rattle.schedule.specs.Listing.{place, start}
 use Rattle.schedule.specs.Visiting.{Vertex, Visited, Walk, counted, written, root, child, startsOf, starts, choices, cutA}
 use Rattle.schedule.proofs.Tree.{starts-child}
-use Rattle.vertex.specs.Vertices.{flagged, unflagged}
-use Rattle.vertex.specs.Layout.{placedOf, startsIn, marked}
+use Rattle.vertex.specs.inside.Vertices.{flagged, unflagged}
+use Rattle.vertex.specs.inside.Layout.{placedOf, startsIn, marked}
 use Rattle.vertex.proofs.Flags.{flag-more, none-flagged}
 use Rattle.vertex.proofs.Marking.{marked-placed, marked-starts}
 use Rattle.vertex.proofs.Reading.{placed-long, start-at}
 use Rattle.possible.specs.TillFound.{unlessFound, found, enter, visitTillFound}
-use Rattle.possible.specs.Steps.{vertexOf}
+use Rattle.possible.specs.inside.Steps.{vertexOf}
 
 through-same : (f g : ℕ → Walk) → ((k : ℕ) (st : Visited) → f k st ≡ g k st) → (l : List ℕ) (st : Visited) → through f l st ≡ through g l st
 through-same f g h [] st = refl

@@ -12,7 +12,7 @@ use borrow.Author.Tests.{le-leb, lt-leb, leb-true, leb-false}
 use Rattle.base.specs.Loops.{each}
 use Rattle.base.proofs.Turns.{each-step, each-done}
 use Rattle.schedule.specs.Visiting.{Visited, Walk}
-use Rattle.possible.specs.Steps.{Run, isFound, capped}
+use Rattle.possible.specs.inside.Steps.{Run, isFound, capped}
 use Rattle.possible.proofs.Steady.{Steady, each-grows, each-stands}
 
 -- ---- one visit

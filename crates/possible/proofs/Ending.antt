@@ -15,8 +15,8 @@ use Rattle.schedule.specs.declared.Recorder.{Recorder}
 use Rattle.schedule.specs.Quantities.{jobs, run, Valid}
 use Rattle.schedule.specs.Visiting.{Visited, counted, root}
 use Rattle.schedule.specs.Visiting as Visiting
-use Rattle.vertex.specs.Vertices.{cutA}
-use Rattle.vertex.specs.Layout.{rootCells}
+use Rattle.vertex.specs.inside.Vertices.{cutA}
+use Rattle.vertex.specs.inside.Layout.{rootCells}
 use Rattle.vertex.proofs.Cutting.{cut-visiting}
 use Rattle.vertex.proofs.Flags.{none-flagged}
 use Rattle.vertex.proofs.Rooting.{root-placed, root-starts, root-load, root-late, root-uncut}
@@ -24,7 +24,7 @@ use Rattle.planner.specs.Promises.{success, refusalAfter}
 use Rattle.possible.specs.TillFound.{First, visitedTillFound}
 use Rattle.possible.specs.Promises.{PossibleOf}
 use Rattle.possible.specs.Promises as P
-use Rattle.possible.specs.Steps.{vertexOf, below, foundIn, tallyOf, Run, capped, Came}
+use Rattle.possible.specs.inside.Steps.{vertexOf, below, foundIn, tallyOf, Run, capped, Came}
 use Rattle.possible.proofs.Found.{found-first, found-none}
 use Rattle.possible.proofs.Alike.{fresh-alike}
 use Rattle.possible.proofs.Budget.{goes, holds-found, holds-over}

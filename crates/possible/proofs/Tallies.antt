@@ -17,8 +17,8 @@ use Rattle.base.proofs.Arrays.{upTo-same}
 use Rattle.schedule.specs.declared.Recorder.{Recorder}
 use Rattle.schedule.specs.Quantities.{jobs}
 use Rattle.schedule.specs.Visiting.{Visited, counted}
-use Rattle.vertex.specs.Layout.{startsIn}
-use Rattle.possible.specs.Steps.{foundIn, tallyOf, kept, Within}
+use Rattle.vertex.specs.inside.Layout.{startsIn}
+use Rattle.possible.specs.inside.Steps.{foundIn, tallyOf, kept, Within}
 
 pub count-is : (R : Recorder) (l : List ℕ) → tallyOf R l .count ≡ getD l 0 0
 unfolding tallyOf

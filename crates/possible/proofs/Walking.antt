@@ -15,16 +15,16 @@ use Rattle.base.proofs.Cases.{cond-cases}
 use Rattle.schedule.specs.declared.Recorder.{Recorder}
 use Rattle.schedule.specs.Quantities.{Valid, jobs, run, deadline, release}
 use Rattle.schedule.specs.Visiting.{Vertex, Visited, Walk, counted, child, earliest, starts, choices, cutA}
-use Rattle.vertex.specs.Vertices.{flagged}
-use Rattle.vertex.specs.Layout.{placedOf, startsIn, marked}
-use Rattle.vertex.specs.Sums.{Loaded, Spared, Offered}
+use Rattle.vertex.specs.inside.Vertices.{flagged}
+use Rattle.vertex.specs.inside.Layout.{placedOf, startsIn, marked}
+use Rattle.vertex.specs.inside.Sums.{Loaded, Spared, Offered}
 use Rattle.vertex.proofs.Cutting.{cut-visiting}
 use Rattle.vertex.proofs.Flags.{flag-more, over-flags, over-span}
 use Rattle.vertex.proofs.Marking.{run-in, marked-loaded}
 use Rattle.vertex.proofs.Offering.{few, cut-is, child-spared}
 use Rattle.vertex.proofs.Reading.{placed-long}
 use Rattle.possible.specs.TillFound.{unlessFound, found, enter, visitTillFound}
-use Rattle.possible.specs.Steps.{vertexOf, span, tryStart, tryJob, below, tallyOf, kept, Run, capped}
+use Rattle.possible.specs.inside.Steps.{vertexOf, span, tryStart, tryJob, below, tallyOf, kept, Run, capped}
 use Rattle.possible.proofs.Steady.{Grows, Steady, choices-grow, visit-grows, visit-stands, each-grows, each-stands}
 use Rattle.possible.proofs.Alike.{Alike, choices-alike, visit-alike, starts-are, placed-marked, marked-alike}
 use Rattle.possible.proofs.Budget.{capped-over, capped-none, capped-some}

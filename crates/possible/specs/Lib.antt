@@ -1,3 +1,3 @@
 pub mod TillFound
 pub mod Promises
-pub mod Steps
+pub mod inside

@@ -6,7 +6,7 @@ ghost use Prim.Native.Nat.{ℕ, _+_, _^_, _<_, _≤_};
 ghost use mathlib.Core.List.{_++_};
 ghost use lib.ListN.{getD, set, length, drop};
 ghost use Rattle.base.specs.Lists.{upTo};
-ghost use Rattle.possible.specs.Steps.{kept};
+ghost use Rattle.possible.specs.inside.Steps.{kept};
 
 // 0 the count, 1 whether a schedule is found, 2.. its starts.
 pub type Tally = [u32; 18];

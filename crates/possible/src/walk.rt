@@ -26,12 +26,12 @@ ghost use Rattle.base.specs.Loops.{through};
 ghost use Rattle.schedule.specs.Quantities.{Valid, jobs};
 ghost use Rattle.schedule.specs.Visiting.{child, starts};
 ghost use Rattle.schedule.specs.Visiting as Visiting;
-ghost use Rattle.flat.specs.Flat.{recorderOf};
-ghost use Rattle.vertex.specs.Vertices.{flagged};
-ghost use Rattle.vertex.specs.Layout.{placedOf};
-ghost use Rattle.vertex.specs.Sums.{due, dueFor, Loaded, Spared, Offered};
+ghost use Rattle.flat.specs.inside.Flat.{recorderOf};
+ghost use Rattle.vertex.specs.inside.Vertices.{flagged};
+ghost use Rattle.vertex.specs.inside.Layout.{placedOf};
+ghost use Rattle.vertex.specs.inside.Sums.{due, dueFor, Loaded, Spared, Offered};
 ghost use Rattle.possible.specs.TillFound.{visitTillFound, visitedTillFound};
-ghost use Rattle.possible.specs.Steps.{vertexOf, below, tallyOf, Came, Within};
+ghost use Rattle.possible.specs.inside.Steps.{vertexOf, below, tallyOf, Came, Within};
 
 // The child of v that places job j at s, and all below it; left is the child's. Answers whether the visit stops: a schedule is found, or the budget is used up.
 fn visit(

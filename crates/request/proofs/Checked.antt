@@ -17,7 +17,7 @@ use Rattle.tables.specs.declared.Kind.{Kind}
 use Rattle.tables.specs.Records.{deviceAt, deviceSize}
 use Rattle.request.specs.declared.Section.{Section}
 use Rattle.request.specs.declared.Section.the-variants.{DeviceRecords, TaskRecords, JobRecords}
-use Rattle.request.specs.Held.{SoundTasks}
+use Rattle.request.specs.inside.Held.{SoundTasks}
 use Rattle.request.specs.Format.{powersTable, deviceTable, taskTable, sizeOf, headOf, recordTable, recordFault, recordsFault}
 
 module _ (s : List ℕ) (k : Section) (at : ℕ) where

@@ -16,7 +16,7 @@ use Rattle.schedule.specs.declared.Job.{Job}
 use Rattle.tables.specs.declared.TaskRecord.{TaskRecord}
 use Rattle.tables.specs.Records.{taskAt}
 use Rattle.request.specs.Format.{jobOf, released, releasedAt, unfolded, emptyJob, jobsHeld}
-use Rattle.request.specs.Held.{packed, pushed, releasedTo}
+use Rattle.request.specs.inside.Held.{packed, pushed, releasedTo}
 
 push-small : (l : List Job) (j : Job) → length l < 16 → pushed (packed l) j ≡ packed (l ++ (j ∷ []))
 unfolding packed pushed

@@ -1,3 +1,3 @@
 pub mod Euclid
 pub mod Format
-pub mod Held
+pub mod inside

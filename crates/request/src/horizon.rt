@@ -2,7 +2,7 @@
 ghost use mathlib.Core.Path.{_≡_};
 ghost use Prim.Native.Nat.{ℕ, _+_, _*_, _≤_, _<_, min};
 ghost use Rattle.request.specs.Format.{lcmFrom, horizonOf};
-ghost use Rattle.request.specs.Held.{SoundTasks};
+ghost use Rattle.request.specs.inside.Held.{SoundTasks};
 use super::euclid;
 
 fn capped(h: u32) -> u32

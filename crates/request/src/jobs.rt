@@ -6,7 +6,7 @@ ghost use lib.ListN.{length, set};
 ghost use Rattle.base.specs.Bytes.{byteAt, pairAt};
 ghost use Rattle.tables.specs.Records.{taskAt};
 ghost use Rattle.request.specs.Format.{horizonOf, jobOf, unfolded, listed, jobsOf};
-ghost use Rattle.request.specs.Held.{SoundTasks, packed, pushed, releasedTo};
+ghost use Rattle.request.specs.inside.Held.{SoundTasks, packed, pushed, releasedTo};
 use super::records;
 use base::JobNumber;
 use base::TaskNumber;

@@ -4,7 +4,7 @@ ghost use Prim.Native.Nat.{ℕ, _+_, _*_, _≤_, _<_, min};
 ghost use lib.ListN.{length};
 ghost use Rattle.base.specs.Bytes.{byteAt, pairAt};
 ghost use Rattle.request.specs.Format.{mixed, countOf, jobRecords, jobSection, taskSection, faultAs};
-ghost use Rattle.request.specs.Held.{SoundTasks};
+ghost use Rattle.request.specs.inside.Held.{SoundTasks};
 use super::Section;
 use super::checks;
 use super::horizon;

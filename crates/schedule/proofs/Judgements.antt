@@ -16,7 +16,7 @@ use Rattle.schedule.specs.declared.Recorder.{Recorder}
 use Rattle.schedule.specs.declared.judging.Verdict.{Verdict}
 use Rattle.schedule.specs.Quantities.{jobs, release, deadline, run}
 use Rattle.schedule.specs.Listing.{start, Released, InTime, Runs, Feasible, Overlaps, Met, Fault, early, late, overlap}
-use Rattle.schedule.specs.Judging.{Judgement, faulty, feasible, Windows, missed, met, windowFault, clashes, Decides, holds, fails}
+use Rattle.schedule.specs.inside.Judging.{Judgement, faulty, feasible, Windows, missed, met, windowFault, clashes, Decides, holds, fails}
 
 -- A recorder of these jobs: what a loop over them says of it, it says of every recorder that holds them.
 abbrev pub holding : Jobs → Recorder

@@ -8,11 +8,11 @@ use Rattle.base.specs.Sums.{sum}
 use Rattle.base.proofs.Additions.{sum-more}
 use Rattle.device.specs.declared.Uses.{Uses}
 use Rattle.device.specs.Row.{energyOf, pattern}
-use Rattle.device.specs.Uses.{usedIn}
+use Rattle.device.specs.inside.Uses.{usedIn}
 use Rattle.schedule.specs.declared.Recorder.{Recorder}
 use Rattle.schedule.specs.Quantities.{device, Valid}
 use Rattle.schedule.specs.Listing.{usesOf}
-use Rattle.schedule.specs.Using.{UsesOf}
+use Rattle.schedule.specs.inside.Using.{UsesOf}
 use Rattle.schedule.specs.Visiting.{planEnergy}
 use Rattle.schedule.proofs.Bounds.{device-most, devices-more}
 use Rattle.schedule.proofs.Usage.{pattern-uses}

@@ -1,1 +1,3 @@
 pub mod Ordering
+pub mod Judging
+pub mod Using

@@ -4,7 +4,7 @@ ghost use Prim.Native.Nat.{_+_, _<_};
 ghost use lib.ListN.{length};
 ghost use Rattle.schedule.specs.Quantities.{jobs, Valid};
 ghost use Rattle.schedule.specs.Listing.{Met, Overlaps};
-ghost use Rattle.schedule.specs.Judging.{Judgement, Windows, windowFault, clashes, Decides};
+ghost use Rattle.schedule.specs.inside.Judging.{Judgement, Windows, windowFault, clashes, Decides};
 use crate::Recorder;
 use base::JobNumber;
 

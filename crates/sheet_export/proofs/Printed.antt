@@ -14,10 +14,10 @@ use Rattle.catalogue.specs.Parts.{sign, front, partOf}
 use Rattle.catalogue.proofs.Scanning.{front-fits}
 use Rattle.text.specs.Grammar.{cr, lf, quote, comma, textOf}
 use Rattle.text.specs.Numerals.{numbersText}
-use Rattle.text.specs.Putting.{lineText}
+use Rattle.text.specs.inside.Putting.{lineText}
 use Rattle.text.proofs.Puts.{four-few}
 use Rattle.sheet.specs.Sheets.{jobLine, jobsOf, jobsText}
-use Rattle.sheet_export.specs.Printing.{ended, partText, recordText}
+use Rattle.sheet_export.specs.inside.Printing.{ended, partText, recordText}
 
 -- The text of rows is their lines, ended, in a row.
 pub text-rows : {A : Type 0} (line : A → List ℕ) (xs : List A) → textOf (map line xs) ≡ inRow (map (λ x. ended (line x)) xs)

@@ -25,7 +25,7 @@ use Rattle.planner.specs.declared.Answer.{Answer}
 use Rattle.planner.specs.Promises.{Reads, Judged, Margined}
 use Rattle.planner.specs.Promises as P
 use Rattle.planner.proofs.Only.{only-margined}
-use Rattle.sheet_export.specs.Margins.{Spare}
+use Rattle.sheet_export.specs.inside.Margins.{Spare}
 
 -- The recorder that is read, with feasible starts.
 pub record Planned (file starts : List ℕ) : Type 0 where

@@ -14,13 +14,13 @@ use Rattle.base.specs.Refusals.{orElse}
 use Rattle.base.proofs.Cases.{test-cases}
 use Rattle.text.specs.Grammar.{linesOf, unread}
 use Rattle.text.specs.Numerals.{isNumber}
-use Rattle.text.specs.Cursors.{rawOf, counted, numberOf, lineLength, nextLine}
+use Rattle.text.specs.inside.Cursors.{rawOf, counted, numberOf, lineLength, nextLine}
 use Rattle.text.proofs.Cutting.{count-some, count-read}
 use Rattle.text.proofs.Scanning.{number-test, line-first, lines-past}
 use Rattle.sheet.specs.declared.Rows.{Rows}
 use Rattle.sheet.specs.declared.Rows.the-variants.{Devices, Jobs}
 use Rattle.sheet.specs.Sheets.{layout, areNumbers, lineFault, linesFault}
-use Rattle.sheet_import.specs.Reading.{rawIn}
+use Rattle.sheet_import.specs.inside.Reading.{rawIn}
 use Rattle.sheet_import.proofs.Raw.{raw-fault}
 
 -- ---- the bounds

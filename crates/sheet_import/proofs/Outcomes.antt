@@ -17,7 +17,7 @@ use Rattle.text.specs.Grammar.{linesOf}
 use Rattle.sheet.specs.declared.Rows.the-variants.{Devices, Jobs}
 use Rattle.sheet.specs.Sheets.{linesFault, partsIn, jobsIn, devicesRefused, jobsRefused, partBytes, catalogueOf, recordsOf}
 use Rattle.sheet.proofs.Laid.{row-map, parts-back, fit-sized}
-use Rattle.sheet_import.specs.Reading.{partRaw, jobRaw, devicesRaw}
+use Rattle.sheet_import.specs.inside.Reading.{partRaw, jobRaw, devicesRaw}
 use Rattle.sheet_import.proofs.Raw.{few, devices-raw-refused, devices-raw-in, jobs-raw-in}
 
 -- ---- devices

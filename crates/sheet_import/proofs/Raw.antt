@@ -18,14 +18,14 @@ use Rattle.base.proofs.Cases.{both, neither}
 use Rattle.tables.specs.declared.JobRecord.{JobRecord}
 use Rattle.catalogue.specs.Parts.{wellFormed, malformed, repeated, unfit, whole, Part, numbers}
 use Rattle.text.specs.Grammar.{linesOf, fieldsOf}
-use Rattle.text.specs.Cursors.{rawOf}
+use Rattle.text.specs.inside.Cursors.{rawOf}
 use Rattle.text.specs.Numerals.{isNumber}
 use Rattle.text.proofs.Quotes.{quote-29, Like, LikeAll, LikeRead, raw-like}
 use Rattle.sheet.proofs.Signs.{quote-21}
 use Rattle.sheet.specs.declared.Rows.{Rows}
 use Rattle.sheet.specs.declared.Rows.the-variants.{Devices, Jobs}
 use Rattle.sheet.specs.Sheets.{layout, areNumbers, fieldsIn, lineTable, lineFault, linesFault, partIn, jobIn, partsIn, jobsIn, partsFault, devicesRefused, jobsRefused}
-use Rattle.sheet_import.specs.Reading.{rawIn, devicesRaw, jobsRaw}
+use Rattle.sheet_import.specs.inside.Reading.{rawIn, devicesRaw, jobsRaw}
 
 -- ---- a line's fault
 

@@ -14,12 +14,12 @@ use Rattle.base.proofs.Cases.{both}
 use Rattle.catalogue.specs.Parts.{space}
 use Rattle.catalogue.proofs.PartNumbers.{formed}
 use Rattle.text.specs.Numerals.{digit, valueOf, isNumber}
-use Rattle.text.specs.Cursors.{rawOf, fieldAt, numberOf}
+use Rattle.text.specs.inside.Cursors.{rawOf, fieldAt, numberOf}
 use Rattle.text.proofs.Scanning.{number-value}
 use Rattle.sheet.specs.declared.Rows.{Rows}
 use Rattle.sheet.specs.declared.Rows.the-variants.{Devices, Jobs}
-use Rattle.sheet_import.specs.Reading.{partRaw}
-use Rattle.sheet_import.specs.RowBytes.{rowBytes, rowSize, Ready}
+use Rattle.sheet_import.specs.inside.Reading.{partRaw}
+use Rattle.sheet_import.specs.inside.RowBytes.{rowBytes, rowSize, Ready}
 
 -- ---- fields
 

@@ -16,10 +16,10 @@ use Rattle.base.proofs.Cases.{both, neither}
 use Rattle.catalogue.specs.Parts.{space, wellFormed, malformed, Part, numbers, whole, unfit}
 use Rattle.text.specs.Grammar.{linesOf}
 use Rattle.text.specs.Numerals.{isNumber}
-use Rattle.text.specs.Cursors.{rawOf, fieldAt}
+use Rattle.text.specs.inside.Cursors.{rawOf, fieldAt}
 use Rattle.sheet.specs.declared.Rows.{Rows}
 use Rattle.sheet.specs.Sheets.{layout, areNumbers, lineTable, lineFault, linesFault}
-use Rattle.sheet_import.specs.Reading.{rawIn, partRaw, devicesRaw, Sound, Formed, EachLine}
+use Rattle.sheet_import.specs.inside.Reading.{rawIn, partRaw, devicesRaw, Sound, Formed, EachLine}
 use Rattle.sheet_import.proofs.Raw.{raw-fault}
 use Rattle.sheet_import.proofs.Faults.{most-count}
 

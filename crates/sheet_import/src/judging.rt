@@ -5,7 +5,7 @@ ghost use Rattle.base.specs.Refusals.{_⇒_, firstThat, orElse};
 ghost use Rattle.catalogue.specs.Parts.{unfit};
 ghost use Rattle.text.specs.Grammar.{linesOf};
 ghost use Rattle.sheet.specs.Sheets.{linesFault};
-ghost use Rattle.sheet_import.specs.Reading.{devicesRaw};
+ghost use Rattle.sheet_import.specs.inside.Reading.{devicesRaw};
 use crate::lines::lines_fault;
 use crate::parts::has_bad_number;
 use sheet::Rows;

@@ -13,14 +13,14 @@ use Rattle.schedule.specs.declared.Recorder.{Recorder}
 use Rattle.schedule.specs.declared.judging.Verdict.{Verdict}
 use Rattle.schedule.specs.Quantities.{jobs}
 use Rattle.schedule.specs.Listing.{Feasible}
-use Rattle.schedule.specs.Judging.{verdict, Judgement}
-use Rattle.schedule.specs.Judging as J
+use Rattle.schedule.specs.inside.Judging.{verdict, Judgement}
+use Rattle.schedule.specs.inside.Judging as J
 use Rattle.schedule.proofs.Judgements.{fault-some}
 use Rattle.planner.specs.declared.Answer.{Answer}
 use Rattle.planner.specs.Promises.{refusal, refusalAt, Unless, stops, passes, faulty, feasible}
 use Rattle.stepper.specs.Promises.{Unfit, marked, unlike, Brief, StepsOf}
-use Rattle.stepper.specs.Fitness.{Fitness, Unlike}
-use Rattle.stepper.specs.Fitness as F
+use Rattle.stepper.specs.inside.Fitness.{Fitness, Unlike}
+use Rattle.stepper.specs.inside.Fitness as F
 
 -- 14 and 15 are passed.
 pub past : (R : Recorder) (starts lent : List ℕ) → length starts ≡ jobs R → R .devices .count ≤ length lent

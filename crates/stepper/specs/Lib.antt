@@ -1,3 +1,2 @@
 pub mod Promises
-pub mod Ordering
-pub mod Fitness
+pub mod inside

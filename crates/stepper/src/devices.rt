@@ -9,7 +9,7 @@ ghost use Rattle.schedule.specs.Quantities.{Valid};
 ghost use Rattle.schedule.specs.Listing.{Feasible};
 ghost use Rattle.schedule.specs.inside.Ordering.{orderOf};
 ghost use Rattle.steps.specs.Stepping.{spent};
-ghost use Rattle.steps.specs.Running.{steppedBy};
+ghost use Rattle.steps.specs.inside.Running.{steppedBy};
 use crate::ordering::order_of;
 use base::JobNumber;
 use schedule::Recorder;

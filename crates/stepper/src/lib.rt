@@ -4,7 +4,7 @@ ghost use mathlib.Core.Path.{_≡_};
 ghost use mathlib.Core.Bool.{cond};
 ghost use lib.Dec.{eqb};
 ghost use Rattle.schedule.specs.Quantities.{Valid};
-ghost use Rattle.schedule.specs.Judging.{verdict};
+ghost use Rattle.schedule.specs.inside.Judging.{verdict};
 ghost use Rattle.stepper.specs.Promises.{StepsOf, SteppedThrough};
 use crate::devices::run_devices;
 use crate::fitness::unfit;

@@ -16,7 +16,7 @@ use Rattle.steps.specs.declared.State.{State}
 use Rattle.steps.specs.declared.Stepped.{Stepped}
 use Rattle.steps.specs.declared.Order.{Order}
 use Rattle.steps.specs.Stepping.{atStart, atEnd, endOf, nextUses, nextStart, spent, finally}
-use Rattle.steps.specs.Running.{alone, later, end, after, nextBegin, nextUse, fresh, turn, stepped, Shows, steppedBy}
+use Rattle.steps.specs.inside.Running.{alone, later, end, after, nextBegin, nextUse, fresh, turn, stepped, Shows, steppedBy}
 use Rattle.steps.proofs.ByJobs.{jobsRow, jobsLast, begun, ended}
 use Rattle.steps.proofs.Laws.{row-is, finally-is}
 

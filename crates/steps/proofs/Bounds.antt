@@ -17,7 +17,7 @@ use Rattle.steps.specs.declared.Stepped.{Stepped}
 use Rattle.steps.specs.declared.Order.{Order}
 use Rattle.steps.specs.declared.State.the-variants.{Working, Asleep, Down, Up}
 use Rattle.steps.specs.Stepping.{letter, passed, atStart, Events, rowBy}
-use Rattle.steps.specs.Running.{alone, passOver, ruledTo, jobOver, begin, end, usesAt, after, nextBegin, nextUse, Spaced, fresh, turn, stepped}
+use Rattle.steps.specs.inside.Running.{alone, passOver, ruledTo, jobOver, begin, end, usesAt, after, nextBegin, nextUse, Spaced, fresh, turn, stepped}
 
 -- A power × ticks fits 32 bits.
 pub product : {p m : ℕ} → p ≤ 65535 → m ≤ 65535 → p * m < 2 ^ 32

@@ -14,7 +14,7 @@ use Rattle.schedule.specs.Listing.{Place}
 use Rattle.schedule.proofs.Runs.{InTurn, turn-front}
 use Rattle.steps.specs.declared.State.{State}
 use Rattle.steps.specs.Stepping.{passed, Rule, Events, rowBy, stateBy, endOf, ruled, starts, ends, events}
-use Rattle.steps.specs.Running.{alone, later}
+use Rattle.steps.specs.inside.Running.{alone, later}
 
 -- ---- any events
 

@@ -17,7 +17,7 @@ use Rattle.schedule.proofs.Runs.{InTurn, turn-front}
 use Rattle.schedule.proofs.Gaps.{used-before}
 use Rattle.steps.specs.declared.State.{State}
 use Rattle.steps.specs.Stepping.{moveTime, Rule, atStart, atEnd, endOf, nextUses, nextStart, pause, ruled, row}
-use Rattle.steps.specs.Running.{later}
+use Rattle.steps.specs.inside.Running.{later}
 use Rattle.steps.proofs.ByJobs.{jobsRow, jobsLast, ran, ended, Along}
 use Rattle.steps.proofs.Moves.{Ready, Ended, Ran, start-keeps, end-keeps, goes-append, pause-keeps, run-keeps}
 

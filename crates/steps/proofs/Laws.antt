@@ -20,7 +20,7 @@ use Rattle.schedule.specs.Listing as L
 use Rattle.schedule.proofs.Runs.{InTurn, Run, all-known, full-in-turn, feasible-run}
 use Rattle.schedule.proofs.Gaps.{uses-running}
 use Rattle.schedule.proofs.Usage.{tick-used}
-use Rattle.steps.specs.Running.{alone, later}
+use Rattle.steps.specs.inside.Running.{alone, later}
 use Rattle.steps.specs.declared.State.{State}
 use Rattle.steps.specs.declared.State.the-variants.{Working, Asleep, Down, Up}
 use Rattle.steps.specs.Stepping.{moveTime, S, atStart, atEnd, rowBy, stateBy, nextStart, events, row, spent, finally}

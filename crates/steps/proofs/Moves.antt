@@ -15,7 +15,7 @@ use Rattle.device.specs.Row as Row
 use Rattle.steps.specs.declared.State.{State}
 use Rattle.steps.specs.declared.State.the-variants.{Working, Asleep, Down, Up}
 use Rattle.steps.specs.Stepping.{falling, rising, atStart, atEnd}
-use Rattle.steps.specs.Running.{alone, later}
+use Rattle.steps.specs.inside.Running.{alone, later}
 
 -- Where a device that sleeps may stand in a row.
 abbrev pub Slept : Row.State → Type 0

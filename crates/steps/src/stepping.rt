@@ -3,7 +3,7 @@ ghost use mathlib.Core.Path.{_≡_};
 ghost use Prim.Native.Nat.{_+_, _*_, _<_, _≤_};
 ghost use Rattle.device.specs.Row.{Sound};
 ghost use Rattle.steps.specs.Stepping.{atStart, atEnd};
-ghost use Rattle.steps.specs.Running.{passOver, ruledTo, jobOver, nextBegin, nextUse, stepped, Spaced};
+ghost use Rattle.steps.specs.inside.Running.{passOver, ruledTo, jobOver, nextBegin, nextUse, stepped, Spaced};
 use crate::Order;
 use crate::State;
 use crate::Stepped;

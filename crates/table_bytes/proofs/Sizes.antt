@@ -12,7 +12,7 @@ use Rattle.tables.specs.declared.Kind.{Kind}
 use Rattle.tables.specs.declared.Kind.the-variants.{First, Second, Third}
 use Rattle.tables.specs.declared.File.{File}
 use Rattle.tables.specs.Records.{deviceSize}
-use Rattle.tables.specs.Held.{held, appended}
+use Rattle.tables.specs.inside.Held.{held, appended}
 use Rattle.tables.proofs.Appending.{appended-count, appended-more, held-all}
 use Rattle.table_bytes.specs.TableBytes.{kindNamed, tasksFrom, AreTables}
 

@@ -6,7 +6,7 @@ ghost use lib.ListN.{length};
 ghost use Rattle.base.specs.Bytes.{pairAt};
 ghost use Rattle.base.specs.Refusals.{after};
 ghost use Rattle.tables.specs.Records.{deviceSize};
-ghost use Rattle.tables.specs.Held.{held};
+ghost use Rattle.tables.specs.inside.Held.{held};
 ghost use Rattle.table_bytes.specs.TableBytes.{kindNamed, tasksFrom, jobsFrom, AreTables, devicesIn, tasksIn, jobsIn, tablesFrom, kindByte, headOf, tableBytes, Few};
 use base::pair_at;
 use tables::DeviceTable;

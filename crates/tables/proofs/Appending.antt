@@ -9,7 +9,7 @@ use lib.Seq.{take-at}
 use Rattle.base.specs.Lists.{padded}
 use Rattle.base.proofs.Arrays.{set-padded}
 use Rattle.tables.specs.declared.File.{File}
-use Rattle.tables.specs.Held.{held, appended}
+use Rattle.tables.specs.inside.Held.{held, appended}
 
 pub appended-count : (f : File) (l : List ℕ) → appended f l .count ≡ f .count + length l
 unfolding appended

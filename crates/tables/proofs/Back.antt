@@ -23,7 +23,7 @@ use Rattle.tables.specs.declared.Part.{Part}
 use Rattle.tables.specs.declared.Part.the-variants.{Devices, Tasks, Jobs}
 use Rattle.tables.specs.Records.{deviceAt, deviceSize, taskAt, jobAt, deviceBytes, taskBytes, jobBytes, told, blankDevice, blankTask, blankJob}
 use Rattle.tables.specs.Layout.{marker, kindOf, bodyOf, joined, deviceIn, taskIn, jobIn, countIn, recordIn, sectionOf, layoutOf, bytesOf, devicePlace, tasksPlace, taskCount, jobsPlace, tablesAs, tablesOf, counted, Bytes}
-use Rattle.tables.specs.Held.{Whole}
+use Rattle.tables.specs.inside.Held.{Whole}
 use Rattle.tables.proofs.Levels.{powers-told}
 use Rattle.tables.proofs.Joining.{length-tasks, length-jobs, length-section}
 use Rattle.tables.proofs.Parts.{placeIn, count-is, record-byte, part, part-append, part-joined, part-cons, part-whole}

@@ -16,7 +16,7 @@ use Rattle.tables.specs.declared.Part.{Part}
 use Rattle.tables.specs.declared.Part.the-variants.{Devices, Tasks, Jobs}
 use Rattle.tables.specs.Records.{deviceBytes}
 use Rattle.tables.specs.Layout.{marker, deviceIn, joined, countIn, recordIn, sectionOf, layoutOf, bytesOf}
-use Rattle.tables.specs.Held.{cut}
+use Rattle.tables.specs.inside.Held.{cut}
 use Rattle.tables.proofs.Levels.{length-third}
 
 pub joined-more : (g : ℕ → List ℕ) (n : ℕ) → joined g (n + 1) ≡ joined g n ++ g n

@@ -1,3 +1,3 @@
 pub mod Records
 pub mod Layout
-pub mod Held
+pub mod inside

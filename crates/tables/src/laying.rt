@@ -6,7 +6,7 @@ ghost use lib.ListN.{length, getD};
 ghost use Rattle.base.specs.Bytes.{pairBytes};
 ghost use Rattle.tables.specs.Records.{firstBytes, secondBytes, powerBytes, powersBytes, thirdBytes, deviceBytes, taskBytes, jobBytes, blankDevice, blankTask, blankJob};
 ghost use Rattle.tables.specs.Layout.{marker, countIn, recordIn, joined, sectionOf, bytesOf};
-ghost use Rattle.tables.specs.Held.{cut, held, appended};
+ghost use Rattle.tables.specs.inside.Held.{cut, held, appended};
 use crate::DeviceRecord;
 use crate::DeviceTable;
 use crate::File;

@@ -7,7 +7,7 @@ ghost use lib.ListN.{length};
 ghost use Rattle.tables.specs.Records as Records;
 ghost use Rattle.tables.specs.Records.{firstAt, secondAt, thirdAt, powerOf, deviceAt, deviceSize, taskAt, jobAt, blankDevice, blankTask, blankJob};
 ghost use Rattle.tables.specs.Layout.{kindOf, bodyOf, devicesHeld, tasksHeld, jobsHeld, tablesAs, tablesOf, noTables};
-ghost use Rattle.tables.specs.Held.{Whole};
+ghost use Rattle.tables.specs.inside.Held.{Whole};
 use crate::DeviceRecord;
 use crate::DeviceTable;
 use crate::JobRecord;

@@ -20,7 +20,7 @@ use Rattle.text.specs.Grammar.{comma, quote, Step, stray, ends, goes, st
 use Rattle.text.specs.declared.Turn.{Turn}
 use Rattle.text.specs.declared.Turn.the-variants.{Stray, Ends, Goes}
 use Rattle.text.specs.declared.Cut.{Cut}
-use Rattle.text.specs.Cursors.{raw, rawOf, turnOf, isOver, onward, cutFrom, cutOf, startsQuoted, firstField, counted, fieldAt}
+use Rattle.text.specs.inside.Cursors.{raw, rawOf, turnOf, isOver, onward, cutFrom, cutOf, startsQuoted, firstField, counted, fieldAt}
 use Rattle.text.proofs.Split.{kept-then}
 
 -- ---- byte by byte

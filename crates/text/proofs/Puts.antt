@@ -10,7 +10,7 @@ use lib.Seq.{set-at, split-at, take-at, drop-at, drop-drop, length-take-le}
 use Rattle.text.specs.Grammar.{cr, lf, comma}
 use Rattle.text.specs.Numerals.{digitsOf, numbersText}
 use Rattle.text.proofs.Decimal.{few-digits}
-use Rattle.text.specs.Putting.{Put, lineText}
+use Rattle.text.specs.inside.Putting.{Put, lineText}
 
 -- Nothing is put; one byte is stored.
 pub put-none : (at : ℕ) (l : List ℕ) → Put [] at l at l

@@ -17,7 +17,7 @@ use Rattle.base.proofs.Cases.{or-right, and-right}
 use Rattle.text.specs.declared.State.{State}
 use Rattle.text.specs.declared.State.the-variants.{Fresh, Plain, Quoted, Closed}
 use Rattle.text.specs.Grammar.{comma, quote, Step, stray, ends, goes, step, last, before, kept, then, after, fieldsFrom, fieldsOf}
-use Rattle.text.specs.Cursors.{rawOf}
+use Rattle.text.specs.inside.Cursors.{rawOf}
 use Rattle.text.specs.Numerals.{digit, valueOf, isNumber}
 
 abbrev pub hasQuote : List ℕ → Bool

@@ -15,7 +15,7 @@ use Rattle.base.proofs.Cases.{cond-cases, test-cases, both}
 use Rattle.base.specs.Lists.{all}
 use Rattle.text.specs.Grammar.{cr, lf, onto, linesOf}
 use Rattle.text.specs.Numerals.{digit, valueFrom, valueOf, isNumber}
-use Rattle.text.specs.Cursors.{breaksAt, lineLength, nextLine, cappedFrom, numberFrom, numberOf}
+use Rattle.text.specs.inside.Cursors.{breaksAt, lineLength, nextLine, cappedFrom, numberFrom, numberOf}
 
 -- ---- lines
 

@@ -1,4 +1,3 @@
 pub mod Grammar
 pub mod Numerals
-pub mod Cursors
-pub mod Putting
+pub mod inside

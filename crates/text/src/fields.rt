@@ -3,7 +3,7 @@ ghost use mathlib.Core.Path.{_≡_};
 ghost use mathlib.Core.Bool.{false, cond};
 ghost use lib.Dec.{eqb};
 ghost use Rattle.text.specs.Grammar.{comma, quote, step, unread};
-ghost use Rattle.text.specs.Cursors.{raw, rawOf, turnOf, isOver, cutOf, firstField, counted, fieldAt};
+ghost use Rattle.text.specs.inside.Cursors.{raw, rawOf, turnOf, isOver, cutOf, firstField, counted, fieldAt};
 use crate::Cut;
 use crate::State;
 use crate::Turn;

@@ -4,7 +4,7 @@ ghost use mathlib.Core.List.{[]};
 ghost use Prim.Native.Nat.{_<_};
 ghost use lib.ListN.{length, getD};
 ghost use Rattle.text.specs.Grammar.{linesOf};
-ghost use Rattle.text.specs.Cursors.{breaksAt, lineLength, nextLine};
+ghost use Rattle.text.specs.inside.Cursors.{breaksAt, lineLength, nextLine};
 
 // CR LF stands at a place: a CR or an LF alone ends no line.
 fn is_break(s: &[u8], i: usize) -> bool

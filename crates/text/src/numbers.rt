@@ -1,7 +1,7 @@
 // A number in digits.
 ghost use mathlib.Core.Path.{_≡_};
 ghost use Prim.Native.Nat.{_≤_, min};
-ghost use Rattle.text.specs.Cursors.{numberOf};
+ghost use Rattle.text.specs.inside.Cursors.{numberOf};
 
 // What a field that is no number of 16 bits counts as.
 const NONE: u32 = 65536;

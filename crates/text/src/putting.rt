@@ -1,12 +1,12 @@
 // Bytes, numbers and lines, put one after the other into lent memory. Each function is told a place, puts its bytes there and returns the place behind them;
-// all else stays as it was (specs/Putting.antt).
+// all else stays as it was (specs/inside/Putting.antt).
 ghost use mathlib.Core.List.{[], _∷_, _++_};
 ghost use Prim.Native.Nat.{_+_, _≤_};
 ghost use lib.ListN.{length};
 ghost use Rattle.base.specs.Bytes.{pairBytes};
 ghost use Rattle.text.specs.Grammar.{cr, lf, comma};
 ghost use Rattle.text.specs.Numerals.{digitsOf};
-ghost use Rattle.text.specs.Putting.{Put, lineText};
+ghost use Rattle.text.specs.inside.Putting.{Put, lineText};
 
 pub fn put_byte(out: &mut [u8], at: usize, byte: u8) -> usize
     requires { ⌜ at + 1 ≤ length (now out) ⌝ }

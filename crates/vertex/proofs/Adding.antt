@@ -15,7 +15,7 @@ use Rattle.base.proofs.Numbers.{total-remove}
 use Rattle.schedule.specs.declared.Recorder.{Recorder}
 use Rattle.schedule.specs.Quantities.{jobs, run, uses}
 use Rattle.schedule.specs.Visiting.{ticks}
-use Rattle.vertex.specs.Vertices.{flagged, unflagged, rest, unplaced, load, ahead}
+use Rattle.vertex.specs.inside.Vertices.{flagged, unflagged, rest, unplaced, load, ahead}
 use Rattle.vertex.proofs.Flags.{among, none-upTo, flag-more}
 
 -- ---- one job less

@@ -18,7 +18,7 @@ use Rattle.device.proofs.Chosen.{deep-low}
 use Rattle.device.proofs.Least.{gap-most}
 use Rattle.schedule.specs.declared.Recorder.{Recorder}
 use Rattle.schedule.specs.Quantities.{Valid, device, run, uses}
-use Rattle.vertex.specs.Vertices.{Vertex, endAt, paidAt, firstAt, unused, leadOf, paidStep, firstStep, endStep, endNow, paidNow, firstNow, placeAt, root, Settled}
+use Rattle.vertex.specs.inside.Vertices.{Vertex, endAt, paidAt, firstAt, unused, leadOf, paidStep, firstStep, endStep, endNow, paidNow, firstNow, placeAt, root, Settled}
 
 -- ---- one device
 

@@ -10,7 +10,7 @@ use Rattle.base.specs.Sums.{total}
 use Rattle.schedule.specs.declared.Recorder.{Recorder}
 use Rattle.schedule.specs.Quantities.{jobs, deadline, run}
 use Rattle.schedule.specs.Visiting as doc
-use Rattle.vertex.specs.Vertices.{unflagged, lateStep, isLate, late, cutA}
+use Rattle.vertex.specs.inside.Vertices.{unflagged, lateStep, isLate, late, cutA}
 use Rattle.vertex.proofs.Flags.{over-flags}
 
 late-or : (R : Recorder) (t : ℕ) (l : List ℕ) (b : Bool) → through (λ j x. cond (ltb (deadline R j) (doc.earliest R t j + run R j)) true x) l b ≡ (b || doc.late R t l)

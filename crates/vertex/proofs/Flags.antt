@@ -16,7 +16,7 @@ use Rattle.base.specs.Loops.{each, through}
 use Rattle.base.proofs.Cases.{cond-cases, test-cases}
 use Rattle.base.proofs.Ranges.{upTo-map}
 use Rattle.base.proofs.Turns.{through-append}
-use Rattle.vertex.specs.Vertices.{flagged, unflagged}
+use Rattle.vertex.specs.inside.Vertices.{flagged, unflagged}
 
 -- ---- membership
 

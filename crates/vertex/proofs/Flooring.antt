@@ -13,9 +13,9 @@ use Rattle.device.proofs.Least.{gap-low}
 use Rattle.schedule.specs.declared.Recorder.{Recorder}
 use Rattle.schedule.specs.Quantities.{Valid, run, uses, device}
 use Rattle.schedule.specs.Visiting.{ticks}
-use Rattle.vertex.specs.Vertices.{Vertex, unplaced, ahead, unused, leadOf, paidStep, endStep, placeAt, endAt, paidAt, firstAt, closeOf, closeAt, closed, floorOf, floorAt, floor}
-use Rattle.vertex.specs.Layout.{placedOf, vertexOf, nextFloor}
-use Rattle.vertex.specs.Sums.{Holds, Fitting}
+use Rattle.vertex.specs.inside.Vertices.{Vertex, unplaced, ahead, unused, leadOf, paidStep, endStep, placeAt, endAt, paidAt, firstAt, closeOf, closeAt, closed, floorOf, floorAt, floor}
+use Rattle.vertex.specs.inside.Layout.{placedOf, vertexOf, nextFloor}
+use Rattle.vertex.specs.inside.Sums.{Holds, Fitting}
 use Rattle.vertex.proofs.Adding.{rest-less, rest-none, ahead-few}
 use Rattle.vertex.proofs.Charging.{end-now, paid-now}
 use Rattle.vertex.proofs.Reading.{row-at, row-long, end-cell, placed-long}

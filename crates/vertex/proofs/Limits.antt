@@ -10,8 +10,8 @@ use borrow.Author.Tests.{lt-ltb, le-ltb, ltb-true, ltb-false}
 use Rattle.base.specs.Loops.{each}
 use Rattle.schedule.specs.declared.Recorder.{Recorder}
 use Rattle.schedule.specs.Quantities.{Valid, jobs, release, deadline, run}
-use Rattle.vertex.specs.Vertices.{flagged, lateStep, isLate, late, load, cutA}
-use Rattle.vertex.specs.Sums.{dueStep, addDue, due, latest}
+use Rattle.vertex.specs.inside.Vertices.{flagged, lateStep, isLate, late, load, cutA}
+use Rattle.vertex.specs.inside.Sums.{dueStep, addDue, due, latest}
 
 -- One job, whose window holds it.
 due-step : (p : Bool) (t a d c x : ℕ) (b : Bool) → a + c ≤ d → b ≡ ltb x t → lateStep p t a d c b ≡ ltb (dueStep p (d - c) x) t

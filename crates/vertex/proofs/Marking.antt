@@ -9,9 +9,9 @@ use lib.ListN.{getD, set, length, length-set}
 use lib.Seq.{getD-set-same}
 use Rattle.schedule.specs.declared.Recorder.{Recorder}
 use Rattle.schedule.specs.Quantities.{Valid, jobs, run}
-use Rattle.vertex.specs.Vertices.{flagged}
-use Rattle.vertex.specs.Layout.{row, placedOf, startsIn, marked}
-use Rattle.vertex.specs.Sums.{Loaded}
+use Rattle.vertex.specs.inside.Vertices.{flagged}
+use Rattle.vertex.specs.inside.Layout.{row, placedOf, startsIn, marked}
+use Rattle.vertex.specs.inside.Sums.{Loaded}
 use Rattle.vertex.proofs.Adding.{rest-less}
 use Rattle.vertex.proofs.Reading.{row-other, placed-long, placed-same, placed-store, starts-same, starts-store}
 

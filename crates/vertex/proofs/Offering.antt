@@ -10,9 +10,9 @@ use lib.ListN.{getD, set, length}
 use Rattle.schedule.specs.declared.Recorder.{Recorder}
 use Rattle.schedule.specs.Quantities.{Valid, jobs, run, deadline}
 use Rattle.vertex.specs.declared.dues.Dues.{Dues}
-use Rattle.vertex.specs.Vertices.{flagged, load, cutA}
-use Rattle.vertex.specs.Layout.{placedOf}
-use Rattle.vertex.specs.Sums.{due, dueFor, limitFor, latest, Loaded, Spared, Fitting, Offered}
+use Rattle.vertex.specs.inside.Vertices.{flagged, load, cutA}
+use Rattle.vertex.specs.inside.Layout.{placedOf}
+use Rattle.vertex.specs.inside.Sums.{due, dueFor, limitFor, latest, Loaded, Spared, Fitting, Offered}
 use Rattle.vertex.proofs.Adding.{rest-less}
 use Rattle.vertex.proofs.Limits.{cut-latest}
 use Rattle.vertex.proofs.Reading.{placed-long}

@@ -16,9 +16,9 @@ use Rattle.device.specs.declared.Device.{Device}
 use Rattle.schedule.specs.declared.Recorder.{Recorder}
 use Rattle.schedule.specs.Quantities.{Valid, run, uses, device}
 use Rattle.schedule.specs.Visiting.{ticks}
-use Rattle.vertex.specs.Vertices.{Vertex, ahead, unused, leadOf, paidStep, firstStep, endStep, storing, placeAt, Settled}
-use Rattle.vertex.specs.Layout.{row, placedOf, startsIn, vertexOf, put, marked, charged, childCells}
-use Rattle.vertex.specs.Sums.{Holds, Fitting}
+use Rattle.vertex.specs.inside.Vertices.{Vertex, ahead, unused, leadOf, paidStep, firstStep, endStep, storing, placeAt, Settled}
+use Rattle.vertex.specs.inside.Layout.{row, placedOf, startsIn, vertexOf, put, marked, charged, childCells}
+use Rattle.vertex.specs.inside.Sums.{Holds, Fitting}
 use Rattle.vertex.proofs.Adding.{rest-less}
 use Rattle.vertex.proofs.Charging.{placed-settled}
 use Rattle.vertex.proofs.Marking.{run-in, marked-long, marked-row, marked-firsts, marked-starts, marked-placed, marked-loaded}

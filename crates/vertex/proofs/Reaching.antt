@@ -6,9 +6,9 @@ use Prim.Native.Nat.{ℕ, _+_, _≤_}
 use native.Mathlib.Omega.{arith}
 use Rattle.schedule.specs.declared.Recorder.{Recorder}
 use Rattle.schedule.specs.Quantities.{Valid, run}
-use Rattle.vertex.specs.Layout.{vertexOf, childCells}
-use Rattle.vertex.specs.Sums.{Holds, Fitting}
-use Rattle.vertex.specs.Reachable.{Reachable, from-root, by-placing, Tried}
+use Rattle.vertex.specs.inside.Layout.{vertexOf, childCells}
+use Rattle.vertex.specs.inside.Sums.{Holds, Fitting}
+use Rattle.vertex.specs.inside.Reachable.{Reachable, from-root, by-placing, Tried}
 use Rattle.vertex.proofs.Placed.{child-held}
 use Rattle.vertex.proofs.Rooting.{root-holds}
 

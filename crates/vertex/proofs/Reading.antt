@@ -13,8 +13,8 @@ use lib.Seq.{getD-set-same, getD-set-other}
 use borrow.Author.Tests.{eq-eqb, ne-eqb}
 use Rattle.base.specs.Lists.{upTo}
 use Rattle.base.proofs.Arrays.{length-upTo, getD-upTo, upTo-same, upTo-whole}
-use Rattle.vertex.specs.Vertices.{flagged}
-use Rattle.vertex.specs.Layout.{row, placedOf, startsIn}
+use Rattle.vertex.specs.inside.Vertices.{flagged}
+use Rattle.vertex.specs.inside.Layout.{row, placedOf, startsIn}
 
 pub row-at : (o n : ℕ) (l : List ℕ) (i : ℕ) → i < n → getD (row o n l) i 0 ≡ getD l (o + i) 0
 unfolding row

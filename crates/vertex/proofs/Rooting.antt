@@ -16,9 +16,9 @@ use Rattle.base.proofs.Stores.{stored-at}
 use Rattle.schedule.specs.declared.Recorder.{Recorder}
 use Rattle.schedule.specs.Quantities.{Valid, jobs, run}
 use Rattle.schedule.specs.Visiting.{ticks}
-use Rattle.vertex.specs.Vertices.{load, ahead, late, cutA, storing, root, Settled}
-use Rattle.vertex.specs.Layout.{row, placedOf, startsIn, vertexOf, rootCells}
-use Rattle.vertex.specs.Sums.{latest, Holds, Spared}
+use Rattle.vertex.specs.inside.Vertices.{load, ahead, late, cutA, storing, root, Settled}
+use Rattle.vertex.specs.inside.Layout.{row, placedOf, startsIn, vertexOf, rootCells}
+use Rattle.vertex.specs.inside.Sums.{latest, Holds, Spared}
 use Rattle.vertex.proofs.Adding.{rest-all, unplaced-all}
 use Rattle.vertex.proofs.Charging.{root-settled}
 use Rattle.vertex.proofs.Limits.{cut-latest}

@@ -14,9 +14,9 @@ use Rattle.base.specs.Loops.{each}
 use Rattle.base.proofs.Turns.{each-more}
 use Rattle.schedule.specs.declared.Recorder.{Recorder}
 use Rattle.schedule.specs.Quantities.{jobs, run, deadline}
-use Rattle.vertex.specs.Vertices.{flagged}
+use Rattle.vertex.specs.inside.Vertices.{flagged}
 use Rattle.vertex.specs.declared.dues.Dues.{Dues}
-use Rattle.vertex.specs.Sums.{dueStep, addDue, due, dueWith, dueFor}
+use Rattle.vertex.specs.inside.Sums.{dueStep, addDue, due, dueWith, dueFor}
 
 abbrev least : Recorder → List Bool → ℕ → ℕ
 least R m n = each (addDue R m) n 65536

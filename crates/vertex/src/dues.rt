@@ -12,9 +12,9 @@ ghost use mathlib.Core.Bool.{true};
 ghost use Prim.Native.Nat.{ℕ, _<_, _≤_};
 ghost use lib.ListN.{set};
 ghost use Rattle.schedule.specs.Quantities.{Valid};
-ghost use Rattle.flat.specs.Flat.{recorderOf};
-ghost use Rattle.vertex.specs.Layout.{placedOf};
-ghost use Rattle.vertex.specs.Sums.{due, dueWith, dueFor, limitFor};
+ghost use Rattle.flat.specs.inside.Flat.{recorderOf};
+ghost use Rattle.vertex.specs.inside.Layout.{placedOf};
+ghost use Rattle.vertex.specs.inside.Sums.{due, dueWith, dueFor, limitFor};
 
 // The two smallest last starts of the unplaced jobs, and the job of the smaller one: they tell the smallest without any one job.
 pub struct Dues {

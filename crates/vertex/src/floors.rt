@@ -17,11 +17,11 @@ ghost use mathlib.Core.Path.{_≡_};
 ghost use Prim.Native.Nat.{_+_, _-_, _*_, _<_, _≤_};
 ghost use Rattle.device.specs.Row.{deep};
 ghost use Rattle.schedule.specs.Quantities.{device};
-ghost use Rattle.flat.specs.Flat.{recorderOf};
-ghost use Rattle.flat.specs.Costs.{Ready};
-ghost use Rattle.vertex.specs.Vertices.{unused, placeAt, closeOf, closed, floor};
-ghost use Rattle.vertex.specs.Layout.{vertexOf, nextFloor};
-ghost use Rattle.vertex.specs.Sums.{Holds, Fitting};
+ghost use Rattle.flat.specs.inside.Flat.{recorderOf};
+ghost use Rattle.flat.specs.inside.Costs.{Ready};
+ghost use Rattle.vertex.specs.inside.Vertices.{unused, placeAt, closeOf, closed, floor};
+ghost use Rattle.vertex.specs.inside.Layout.{vertexOf, nextFloor};
+ghost use Rattle.vertex.specs.inside.Sums.{Holds, Fitting};
 
 // The floor of a device by its powers at work and in its deepest sleep: what it has cost by the end of its last use, and from there on at work for its ticks to
 // come and in its deepest sleep for all others.

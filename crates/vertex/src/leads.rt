@@ -7,9 +7,9 @@ use flat::numbers::wide;
 ghost use mathlib.Core.Path.{_≡_};
 ghost use Prim.Native.Nat.{_<_, _≤_};
 ghost use Rattle.schedule.specs.Quantities.{device};
-ghost use Rattle.flat.specs.Flat.{recorderOf};
-ghost use Rattle.flat.specs.Costs.{Ready};
-ghost use Rattle.vertex.specs.Vertices.{unused, leadOf};
+ghost use Rattle.flat.specs.inside.Flat.{recorderOf};
+ghost use Rattle.flat.specs.inside.Costs.{Ready};
+ghost use Rattle.vertex.specs.inside.Vertices.{unused, leadOf};
 
 // Whether a device whose last use ended at `end` has none yet in a round.
 pub fn is_unused(round: bool, end: u32) -> bool

@@ -19,10 +19,10 @@ ghost use lib.ListN.{getD};
 ghost use Rattle.base.specs.Sums.{sum};
 ghost use Rattle.schedule.specs.Quantities.{Valid, device, jobs, run};
 ghost use Rattle.schedule.specs.Visiting.{ticks};
-ghost use Rattle.flat.specs.Flat.{recorderOf};
-ghost use Rattle.flat.specs.Costs.{Ready};
-ghost use Rattle.vertex.specs.Layout.{put, marked, childCells, rootCells};
-ghost use Rattle.vertex.specs.Sums.{Holds, Fitting};
+ghost use Rattle.flat.specs.inside.Flat.{recorderOf};
+ghost use Rattle.flat.specs.inside.Costs.{Ready};
+ghost use Rattle.vertex.specs.inside.Layout.{put, marked, childCells, rootCells};
+ghost use Rattle.vertex.specs.inside.Sums.{Holds, Fitting};
 
 // The start of job j, which runs for c ticks: these are no longer among those of the unplaced jobs.
 pub fn mark(w: &mut Cells, j: JobNumber, s: u32, c: u32)

@@ -23,17 +23,17 @@ use Rattle.schedule.specs.declared.Recorder.{Recorder}
 use Rattle.schedule.specs.Quantities.{Valid, device, jobs, release, run, deadline, uses}
 use Rattle.schedule.specs.Listing.{place}
 use Rattle.schedule.specs.Visiting as doc
-use Rattle.vertex.specs.Vertices.{Vertex, flagged, unflagged, cutA, endAt, paidAt, firstAt, endStep, leadOf, paidStep, firstStep, placeAt, root, closeOf, closeAt, closed, floorOf, floorAt, floor, Settled}
-use Rattle.visit.specs.Steps.{Best, Tally, improves, offer, cutB, counting, completed, opens, earliest, span, tryStart, tryJob, visitOf, bare, searched}
+use Rattle.vertex.specs.inside.Vertices.{Vertex, flagged, unflagged, cutA, endAt, paidAt, firstAt, endStep, leadOf, paidStep, firstStep, placeAt, root, closeOf, closeAt, closed, floorOf, floorAt, floor, Settled}
+use Rattle.visit.specs.inside.Steps.{Best, Tally, improves, offer, cutB, counting, completed, opens, earliest, span, tryStart, tryJob, visitOf, bare, searched}
 use Rattle.schedule.proofs.Runs.{length-starts}
 use Rattle.schedule.proofs.Tree.{Reached, starts-child, root-reached, child-reached}
 use Rattle.schedule.proofs.Gaps.{paidFrom, last-snoc}
 use Rattle.schedule.proofs.Rounds as rounds
 use Rattle.schedule.proofs.Rounds.{idle, paidWhole, gap-free, since-place, paid-place, plan-complete}
 use Rattle.schedule.proofs.Floors.{floor-is}
-use Rattle.vertex.specs.Layout.{vertexOf, rootCells, childCells}
-use Rattle.vertex.specs.Sums.{Holds}
-use Rattle.vertex.specs.Reachable.{Reachable, from-root, by-placing}
+use Rattle.vertex.specs.inside.Layout.{vertexOf, rootCells, childCells}
+use Rattle.vertex.specs.inside.Sums.{Holds}
+use Rattle.vertex.specs.inside.Reachable.{Reachable, from-root, by-placing}
 use Rattle.vertex.proofs.Charging.{end-now, paid-now, first-now, ends-long, paid-long, firsts-long, placed-settled, root-settled}
 use Rattle.vertex.proofs.Cutting.{cut-visiting}
 use Rattle.vertex.proofs.Placed.{child-made}

@@ -12,10 +12,10 @@ use borrow.Author.Tests.{lt-ltb, le-ltb, ne-eqb}
 use Rattle.base.specs.Loops.{each}
 use Rattle.base.proofs.Arrays.{upTo-whole}
 use Rattle.base.proofs.Stores.{stored-at}
-use Rattle.vertex.specs.Layout.{row, startsIn, vertexOf}
+use Rattle.vertex.specs.inside.Layout.{row, startsIn, vertexOf}
 use Rattle.vertex.proofs.Reading.{row-long, row-other, row-store}
-use Rattle.visit.specs.Steps.{Tally, cutB, counting, improves, offer}
-use Rattle.visit.specs.Lent.{tallyOf, bettered}
+use Rattle.visit.specs.inside.Steps.{Tally, cutB, counting, improves, offer}
+use Rattle.visit.specs.inside.Lent.{tallyOf, bettered}
 
 -- ---- one vertex more
 

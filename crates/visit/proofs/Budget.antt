@@ -9,7 +9,7 @@ use lib.Dec.{leb}
 use borrow.Author.Tests.{le-leb, lt-leb, leb-true, leb-false}
 use Rattle.base.specs.Loops.{each}
 use Rattle.base.proofs.Turns.{each-step, each-done, each-keeps}
-use Rattle.visit.specs.Steps.{Tally, Run, haltedAt, capped}
+use Rattle.visit.specs.inside.Steps.{Tally, Run, haltedAt, capped}
 
 abbrev pub going : Tally → Run
 going t = record { stopped = false; tally = t }

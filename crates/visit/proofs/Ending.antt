@@ -15,8 +15,8 @@ use Rattle.schedule.specs.Quantities.{Valid, jobs}
 use Rattle.schedule.proofs.Outcome.{visited-first}
 use Rattle.vertex.proofs.Reading.{row-at}
 use Rattle.visit.specs.declared.Found.{Found}
-use Rattle.visit.specs.Steps.{Tally, capped, searched, refusal, success, answerOf, copyStart, writtenOf}
-use Rattle.visit.specs.Lent.{tallyOf, ran}
+use Rattle.visit.specs.inside.Steps.{Tally, capped, searched, refusal, success, answerOf, copyStart, writtenOf}
+use Rattle.visit.specs.inside.Lent.{tallyOf, ran}
 use Rattle.visit.proofs.Budget.{capped-stopped, capped-going, going-is}
 use Rattle.visit.proofs.Agreement.{searched-best}
 

@@ -11,16 +11,16 @@ use borrow.Author.Tests.{lt-ltb, le-ltb, ne-eqb}
 use Rattle.base.specs.Loops.{each}
 use Rattle.schedule.specs.declared.Recorder.{Recorder}
 use Rattle.schedule.specs.Quantities.{Valid, jobs, run, deadline, release}
-use Rattle.vertex.specs.Vertices.{Vertex, flagged, cutA, closed, floor, placeAt}
-use Rattle.vertex.specs.Layout.{placedOf, vertexOf, childCells}
-use Rattle.vertex.specs.Sums.{Holds, Spared, Fitting, Offered}
-use Rattle.vertex.specs.Reachable.{Reachable, Tried}
+use Rattle.vertex.specs.inside.Vertices.{Vertex, flagged, cutA, closed, floor, placeAt}
+use Rattle.vertex.specs.inside.Layout.{placedOf, vertexOf, childCells}
+use Rattle.vertex.specs.inside.Sums.{Holds, Spared, Fitting, Offered}
+use Rattle.vertex.specs.inside.Reachable.{Reachable, Tried}
 use Rattle.vertex.proofs.Flooring.{floor-below}
 use Rattle.vertex.proofs.Placed.{child-made}
 use Rattle.vertex.proofs.Reaching.{holds-later, tried-holds, tried-reached}
 use Rattle.vertex.proofs.Offering.{cut-is, fitting, child-spared}
-use Rattle.visit.specs.Steps.{Tally, Run, offer, cutB, counting, span, tryStart, tryJob, visitOf, capped}
-use Rattle.visit.specs.Lent.{tallyOf, ran, below}
+use Rattle.visit.specs.inside.Steps.{Tally, Run, offer, cutB, counting, span, tryStart, tryJob, visitOf, capped}
+use Rattle.visit.specs.inside.Lent.{tallyOf, ran, below}
 use Rattle.visit.proofs.Budget.{Grows, capped-within, capped-over, stops-here, goes-on, goes-within, ends}
 use Rattle.visit.proofs.Order.{visit-counts, cut-counts, beaten-counts, entered-below, job-placed, job-open}
 

@@ -10,9 +10,9 @@ use borrow.Author.Tests.{leb-true, le-ltb, ne-eqb}
 use Rattle.base.specs.Loops.{each, under}
 use Rattle.schedule.specs.declared.Recorder.{Recorder}
 use Rattle.schedule.specs.Quantities.{jobs}
-use Rattle.vertex.specs.Vertices.{Vertex, flagged, cutA, closed, floor, placeAt}
-use Rattle.visit.specs.Steps.{Best, Tally, improves, offer, cutB, counting, completed, opens, earliest, span, tryStart, tryJob, visitOf}
-use Rattle.visit.specs.Lent.{below}
+use Rattle.vertex.specs.inside.Vertices.{Vertex, flagged, cutA, closed, floor, placeAt}
+use Rattle.visit.specs.inside.Steps.{Best, Tally, improves, offer, cutB, counting, completed, opens, earliest, span, tryStart, tryJob, visitOf}
+use Rattle.visit.specs.inside.Lent.{below}
 use Rattle.visit.proofs.Budget.{Grows, each-grows}
 
 -- ---- it counts

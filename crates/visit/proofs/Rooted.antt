@@ -10,11 +10,11 @@ use Rattle.base.specs.Lists.{upTo}
 use Rattle.base.specs.Sums.{sum}
 use Rattle.schedule.specs.declared.Recorder.{Recorder}
 use Rattle.schedule.specs.Quantities.{Valid, jobs, run}
-use Rattle.vertex.specs.Vertices.{Vertex, root}
-use Rattle.vertex.specs.Layout.{row, vertexOf, rootCells}
+use Rattle.vertex.specs.inside.Vertices.{Vertex, root}
+use Rattle.vertex.specs.inside.Layout.{row, vertexOf, rootCells}
 use Rattle.vertex.proofs.Rooting.{root-is, root-load, root-late, root-uncut}
-use Rattle.visit.specs.Steps.{Tally, Run, cutB, counting, bare, visitOf, searched, capped}
-use Rattle.visit.specs.Lent.{tallyOf, ran, below}
+use Rattle.visit.specs.inside.Steps.{Tally, Run, cutB, counting, bare, visitOf, searched, capped}
+use Rattle.visit.specs.inside.Lent.{tallyOf, ran, below}
 use Rattle.visit.proofs.Budget.{capped-over}
 use Rattle.visit.proofs.Order.{visit-counts, cut-counts, entered-below}
 use Rattle.visit.proofs.Going.{ran-ends}

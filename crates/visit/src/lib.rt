@@ -26,14 +26,14 @@ ghost use Prim.Native.Nat.{ℕ, _+_, _-_, _<_, _≤_};
 ghost use lib.ListN.{getD, set, length};
 ghost use Rattle.base.specs.Loops.{each};
 ghost use Rattle.schedule.specs.Quantities.{Valid, jobs};
-ghost use Rattle.flat.specs.Flat.{recorderOf};
-ghost use Rattle.flat.specs.Costs.{Ready};
-ghost use Rattle.vertex.specs.Vertices.{flagged, placeAt};
-ghost use Rattle.vertex.specs.Layout.{placedOf, vertexOf};
-ghost use Rattle.vertex.specs.Sums.{due, dueFor, Spared, Offered};
-ghost use Rattle.vertex.specs.Reachable.{Reachable, Tried};
-ghost use Rattle.visit.specs.Steps.{bare, tryStart, tryJob, span, visitOf, capped, searched, copyStart, answerOf, writtenOf};
-ghost use Rattle.visit.specs.Lent.{tallyOf, ran, below, Within};
+ghost use Rattle.flat.specs.inside.Flat.{recorderOf};
+ghost use Rattle.flat.specs.inside.Costs.{Ready};
+ghost use Rattle.vertex.specs.inside.Vertices.{flagged, placeAt};
+ghost use Rattle.vertex.specs.inside.Layout.{placedOf, vertexOf};
+ghost use Rattle.vertex.specs.inside.Sums.{due, dueFor, Spared, Offered};
+ghost use Rattle.vertex.specs.inside.Reachable.{Reachable, Tried};
+ghost use Rattle.visit.specs.inside.Steps.{bare, tryStart, tryJob, span, visitOf, capped, searched, copyStart, answerOf, writtenOf};
+ghost use Rattle.visit.specs.inside.Lent.{tallyOf, ran, below, Within};
 
 mod tally; // tally.rt: the count, the best so far and cut B
 

@@ -8,13 +8,13 @@ use vertex::placing::start_of;
 ghost use mathlib.Core.Path.{_≡_};
 ghost use Prim.Native.Nat.{_+_, _^_, _<_};
 ghost use lib.ListN.{length};
-ghost use Rattle.flat.specs.Flat.{recorderOf};
-ghost use Rattle.flat.specs.Costs.{Ready};
-ghost use Rattle.vertex.specs.Vertices.{floor, placeAt};
-ghost use Rattle.vertex.specs.Layout.{vertexOf};
-ghost use Rattle.vertex.specs.Sums.{Holds, Fitting};
-ghost use Rattle.visit.specs.Steps.{cutB, offer, counting};
-ghost use Rattle.visit.specs.Lent.{tallyOf, bettered};
+ghost use Rattle.flat.specs.inside.Flat.{recorderOf};
+ghost use Rattle.flat.specs.inside.Costs.{Ready};
+ghost use Rattle.vertex.specs.inside.Vertices.{floor, placeAt};
+ghost use Rattle.vertex.specs.inside.Layout.{vertexOf};
+ghost use Rattle.vertex.specs.inside.Sums.{Holds, Fitting};
+ghost use Rattle.visit.specs.inside.Steps.{cutB, offer, counting};
+ghost use Rattle.visit.specs.inside.Lent.{tallyOf, bettered};
 
 // 0 the count, 1 whether there is a best, 2 its energy, 3.. its starts.
 pub type Tally = [u32; 19];

@@ -3,7 +3,7 @@ use borrow.Author.Needs.{needs}
 use mathlib.Core.List.{List}
 use Prim.Native.Nat.{ℕ, _<_}
 use lib.ListN.{length}
-use Rattle.calls.specs.Cramped.{Cramped}
+use Rattle.calls.specs.inside.Cramped.{Cramped}
 use Rattle.calls_fault.specs.FaultCall.{FaultCalled, cramped, short, told}
 use Rattle.calls_fault.proofs.floe_fault.Statement.{statement}
 use Rattle.calls_fault.proofs.floe_fault.Tie as tie

@@ -1,9 +1,9 @@
 -- `cheapest::find` meets its contract.
 -- Assumes nothing.
 use borrow.Author.Needs.{needs}
-use Rattle.flat.specs.Flat.{recorderOf}
-use Rattle.extras.specs.Tabled.{capAt}
-use Rattle.least.specs.Outcome.{Recalls}
+use Rattle.flat.specs.inside.Flat.{recorderOf}
+use Rattle.extras.specs.inside.Tabled.{capAt}
+use Rattle.least.specs.inside.Outcome.{Recalls}
 use Rattle.least.proofs.Kept.{noKey, right-clear}
 use Rattle.least.proofs.Keyed.{recalls-none}
 use Rattle.cheapest.proofs.find.Statement.{statement}

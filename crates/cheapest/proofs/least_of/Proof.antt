@@ -5,7 +5,7 @@ use borrow.Author.Needs.{needs}
 use borrow.Author.Tests.{not-true, not-false}
 use Rattle.schedule.specs.declared.Recorder.{Recorder}
 use Rattle.schedule.specs.Quantities.{Valid}
-use Rattle.latest.specs.Latest.{Laid}
+use Rattle.latest.specs.inside.Latest.{Laid}
 use Rattle.cheapest.specs.Promises as P
 use Rattle.cheapest.proofs.Ending.{is-possible, is-none}
 use Rattle.cheapest.proofs.least_of.Statement.{statement}

@@ -8,8 +8,8 @@ use borrow.Author.Needs.{needs}
 use borrow.Author.Tests.{not-true, not-false}
 use Rattle.schedule.specs.declared.Recorder.{Recorder}
 use Rattle.schedule.specs.Quantities.{jobs, Valid}
-use Rattle.latest.specs.Latest.{latestOf, Laid}
-use Rattle.least.specs.Outcome.{ReadOff}
+use Rattle.latest.specs.inside.Latest.{latestOf, Laid}
+use Rattle.least.specs.inside.Outcome.{ReadOff}
 use Rattle.cheapest.proofs.Ending.{is-over, read-least, read-room, is-found}
 use Rattle.cheapest.proofs.least_with.Statement.{statement}
 use Rattle.cheapest.proofs.least_with.Tie as tie

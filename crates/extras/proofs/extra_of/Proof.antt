@@ -2,7 +2,7 @@
 -- Assumes nothing.
 use mathlib.Core.Path.{refl}
 use borrow.Author.Needs.{needs}
-use Rattle.extras.specs.Tabled.{extraAt}
+use Rattle.extras.specs.inside.Tabled.{extraAt}
 use Rattle.extras.proofs.extra_of.Statement.{statement}
 use Rattle.extras.proofs.extra_of.Tie as tie
 

@@ -4,7 +4,7 @@ use Prim.Native.Nat.{ℕ, _-_, _*_, _^_, _<_}
 use native.Mathlib.Omega.{arith}
 use borrow.Author.Needs.{needs}
 use borrow.Author.Tests.{eq-eqb, ne-eqb}
-use Rattle.flat.specs.Flat.{deviceNumber}
+use Rattle.flat.specs.inside.Flat.{deviceNumber}
 use Rattle.flat.proofs.device_number.Statement.{statement}
 use Rattle.flat.proofs.device_number.Tie as tie
 

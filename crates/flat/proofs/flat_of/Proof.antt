@@ -5,7 +5,7 @@ use Prim.Native.Nat.{ℕ, _-_, _≤_, _/_, _%_}
 use native.Mathlib.Omega.{arith}
 use Rattle.base.specs.Lists.{upTo, padded}
 use Rattle.base.proofs.Arrays.{upTo-fill, length-upTo, padded-whole}
-use Rattle.flat.specs.Flat.{numberOf}
+use Rattle.flat.specs.inside.Flat.{numberOf}
 use Rattle.flat.proofs.Cells.{grid, recorder-kept}
 use Rattle.flat.proofs.Shapes.{recorder-shaped}
 use Rattle.flat.proofs.flat_of.Statement.{statement}

@@ -5,7 +5,7 @@ use Prim.Native.Nat.{_-_}
 use lib.ListN.{getD}
 use borrow.Author.Needs.{needs}
 use borrow.Author.Tests.{eq-eqb, ne-eqb}
-use Rattle.flat.specs.Flat.{jobNumber}
+use Rattle.flat.specs.inside.Flat.{jobNumber}
 use Rattle.flat.proofs.Cells.{flag-number}
 use Rattle.flat.proofs.job_number.Statement.{statement}
 use Rattle.flat.proofs.job_number.Tie as tie

@@ -2,7 +2,7 @@
 -- Assumes nothing.
 use borrow.Author.Needs.{needs}
 use borrow.Author.Tests.{lt-ltb, le-ltb}
-use Rattle.flat.specs.Flat.{numberOf}
+use Rattle.flat.specs.inside.Flat.{numberOf}
 use Rattle.flat.proofs.number_of.Statement.{statement}
 use Rattle.flat.proofs.number_of.Tie as tie
 

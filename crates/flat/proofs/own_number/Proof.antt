@@ -2,7 +2,7 @@
 -- Assumes nothing.
 use borrow.Author.Needs.{needs}
 use borrow.Author.Tests.{eq-eqb, ne-eqb}
-use Rattle.flat.specs.Flat.{ownNumber}
+use Rattle.flat.specs.inside.Flat.{ownNumber}
 use Rattle.flat.proofs.Cells.{flag-number}
 use Rattle.flat.proofs.own_number.Statement.{statement}
 use Rattle.flat.proofs.own_number.Tie as tie

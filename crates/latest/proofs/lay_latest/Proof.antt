@@ -4,7 +4,7 @@ use Prim.Native.Nat.{suc, _≤_, _<_, _-_}
 use native.Mathlib.Omega.{arith}
 use borrow.Author.Needs.{needs}
 use Rattle.schedule.specs.Quantities.{jobs}
-use Rattle.flat.specs.Flat.{recorderOf}
+use Rattle.flat.specs.inside.Flat.{recorderOf}
 use Rattle.latest.proofs.Tabled.{power-few, Upto, upto-none, upto-next, upto-all}
 use Rattle.latest.proofs.lay_latest.Statement.{statement}
 use Rattle.latest.proofs.lay_latest.Tie as tie

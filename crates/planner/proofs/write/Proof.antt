@@ -11,7 +11,7 @@ use Rattle.schedule.specs.declared.Recorder.{Recorder}
 use Rattle.tables.specs.declared.Tables.{Tables}
 use Rattle.tables.specs.declared.File.{File}
 use Rattle.tables.specs.Layout.{marker, layoutOf, bytesOf}
-use Rattle.tables.specs.Held.{cut, held}
+use Rattle.tables.specs.inside.Held.{cut, held}
 use Rattle.tables.proofs.Appending.{held-front, held-long}
 use Rattle.tables.proofs.Back.{unmarked}
 use Rattle.tables.proofs.Joining.{cut-fits}

@@ -11,7 +11,7 @@ use Rattle.text.proofs.Puts.{put-front}
 use Rattle.sheet.specs.declared.Rows.the-variants.{Devices}
 use Rattle.sheet.specs.Sheets.{linesFault}
 use Rattle.sheet.proofs.Answers.{filled-as, refused-as}
-use Rattle.sheet_import.specs.Reading.{devicesRaw}
+use Rattle.sheet_import.specs.inside.Reading.{devicesRaw}
 use Rattle.sheet_import.proofs.Tables.{sound-lines, fit-lines}
 use Rattle.sheet_import.proofs.Outcomes.{devices-refused, devices-pass, devices-twice, devices-fine, rows-parts, devices-bytes, devices-count}
 use borrow.Author.Needs.{needs}

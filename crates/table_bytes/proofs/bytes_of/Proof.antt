@@ -8,7 +8,7 @@ use lib.ListN.{length, length-append}
 use Rattle.tables.specs.declared.File.{File}
 use Rattle.tables.specs.declared.Part.the-variants.{Devices, Tasks, Jobs}
 use Rattle.tables.specs.Layout.{joined, recordIn}
-use Rattle.tables.specs.Held.{held, appended}
+use Rattle.tables.specs.inside.Held.{held, appended}
 use Rattle.tables.proofs.Appending.{appended-more}
 use Rattle.tables.proofs.Joining.{length-devices, length-tasks, length-jobs}
 use Rattle.table_bytes.specs.TableBytes.{headOf, tableBytes}

@@ -6,7 +6,7 @@ use Prim.Native.Nat.{_+_, _≤_}
 use native.Mathlib.Omega.{arith}
 use Rattle.tables.specs.declared.File.{File}
 use Rattle.base.specs.Bytes.{pairBytes}
-use Rattle.tables.specs.Held.{held, appended}
+use Rattle.tables.specs.inside.Held.{held, appended}
 use Rattle.tables.proofs.Appending.{appended-more, held-all}
 use Rattle.table_bytes.specs.TableBytes.{kindByte, headOf}
 use Rattle.table_bytes.proofs.Sizes.{counted}

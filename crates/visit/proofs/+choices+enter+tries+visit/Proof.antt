@@ -8,14 +8,14 @@ use native.Mathlib.Omega.{arith}
 use borrow.Author.Needs.{needs}
 use Rattle.base.specs.Loops.{each}
 use Rattle.base.proofs.Turns.{each-start, each-step, each-done}
-use Rattle.flat.specs.Flat.{recorderOf}
-use Rattle.vertex.specs.Layout.{vertexOf}
+use Rattle.flat.specs.inside.Flat.{recorderOf}
+use Rattle.vertex.specs.inside.Layout.{vertexOf}
 use Rattle.vertex.proofs.Marking.{run-in}
 use Rattle.vertex.proofs.Offering.{few, some-left, child-offered}
 use Rattle.vertex.proofs.Reaching.{reached-holds}
 use Rattle.vertex.proofs.Reading.{free-at, taken-at}
-use Rattle.visit.specs.Steps.{Tally, tryStart, tryJob, visitOf}
-use Rattle.visit.specs.Lent.{tallyOf, Within}
+use Rattle.visit.specs.inside.Steps.{Tally, tryStart, tryJob, visitOf}
+use Rattle.visit.specs.inside.Lent.{tallyOf, Within}
 use Rattle.visit.proofs.Order.{jobs-grow, starts-grow}
 use Rattle.visit.proofs.Going.{count-is, turn-stops, turn-goes, turn-within, turns-end, holds-on, start-is, visit-over, visit-late, visit-beaten, visit-enters, may-place, enters-made, enters-reached, enters-spared, enter-complete, enter-on, job-tried, job-passed, start-at, start-next, start-more, start-less, span-within, span-over}
 use borrow.Fn.Kinds.{In}

@@ -4,10 +4,10 @@ use mathlib.Core.Path.{ap, _∙_}
 use Prim.Native.Nat.{_≤_}
 use native.Mathlib.Omega.{arith}
 use lib.ListN.{getD}
-use Rattle.flat.specs.Flat.{recorderOf}
+use Rattle.flat.specs.inside.Flat.{recorderOf}
 use Rattle.vertex.proofs.Rooting.{root-spared}
-use Rattle.vertex.specs.Reachable.{from-root}
-use Rattle.visit.specs.Steps.{Tally}
+use Rattle.vertex.specs.inside.Reachable.{from-root}
+use Rattle.visit.specs.inside.Steps.{Tally}
 use Rattle.visit.proofs.Rooted.{root-over, root-cut, root-enters}
 use borrow.Author.Needs.{needs}
 use Rattle.visit.proofs.root_visit.Statement.{statement}

@@ -7,8 +7,8 @@ use native.Mathlib.Nat.{mod-eq-of-lt}
 use lib.ListN.{length, set, length-set}
 use Rattle.base.proofs.Turns.{each-start, each-step, each-done}
 use Rattle.base.specs.Loops.{each}
-use Rattle.visit.specs.Steps.{copyStart}
-use Rattle.visit.specs.Lent.{tallyOf}
+use Rattle.visit.specs.inside.Steps.{copyStart}
+use Rattle.visit.specs.inside.Lent.{tallyOf}
 use Rattle.visit.proofs.Ending.{start-cell}
 use Rattle.visit.proofs.write_starts.Statement.{statement}
 use Rattle.visit.proofs.write_starts.Tie as tie

@@ -1,7 +1,7 @@
 -- `calls::cramped` meets its contract.
 -- Assumes nothing.
 use Rattle.request.proofs.Accepted.{read-accepted, read-refused}
-use Rattle.calls.specs.Cramped.{Cramped}
+use Rattle.calls.specs.inside.Cramped.{Cramped}
 use borrow.Author.Needs.{needs}
 use Rattle.calls.proofs.results.cramped.Statement.{statement}
 use Rattle.calls.proofs.results.cramped.Tie as tie

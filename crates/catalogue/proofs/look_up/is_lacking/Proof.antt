@@ -7,7 +7,7 @@ use native.Mathlib.Omega.{arith}
 use borrow.Author.Count.{below-more}
 use borrow.Author.Needs.{needs}
 use Rattle.catalogue.specs.Parts.{partsOf, numbers, has}
-use Rattle.catalogue.specs.Places.{wantedAt}
+use Rattle.catalogue.specs.inside.Places.{wantedAt}
 use Rattle.base.proofs.Pieces.{slice-is}
 use Rattle.catalogue.proofs.Pieces.{sought-has, sought-none, lacking-cut, lacking-one, lacking-none}
 use Rattle.catalogue.proofs.look_up.is_lacking.Statement.{statement}

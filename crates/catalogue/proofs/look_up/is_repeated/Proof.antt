@@ -6,7 +6,7 @@ use native.Mathlib.Omega.{arith}
 use lib.ListN.{drop}
 use borrow.Author.Needs.{needs}
 use Rattle.catalogue.specs.Parts.{partsOf, numbers, repeated}
-use Rattle.catalogue.specs.Places.{numberAt}
+use Rattle.catalogue.specs.inside.Places.{numberAt}
 use Rattle.catalogue.proofs.Members.{repeated-next, repeated-stop, repeated-end}
 use Rattle.base.proofs.Pieces.{slice-is}
 use Rattle.catalogue.proofs.Pieces.{number-of, whole-numbers, sought-has, sought-none}

@@ -8,7 +8,7 @@ use borrow.Author.Count.{below-more}
 use borrow.Author.Needs.{needs}
 use borrow.Author.Tests.{not-true, not-false}
 use Rattle.catalogue.specs.Parts.{wellFormed}
-use Rattle.catalogue.specs.Places.{numberAt}
+use Rattle.catalogue.specs.inside.Places.{numberAt}
 use Rattle.base.proofs.Pieces.{slice-is}
 use Rattle.catalogue.proofs.Pieces.{unfit-many, unfit-cut, unfit-badly, fit}
 use Rattle.catalogue.proofs.look_up.is_unfit.Statement.{statement}

@@ -10,7 +10,7 @@ use lib.ListN.{getD}
 use Rattle.device.specs.declared.Device.{Device}
 use Rattle.device.specs.declared.energy.Trip.{Trip}
 use Rattle.device.specs.Row.{depth, tripCost}
-use Rattle.device.specs.Trips.{Chosen}
+use Rattle.device.specs.inside.Trips.{Chosen}
 use Rattle.device.proofs.Chosen.{depth-next, depth-short, depth-dear, power-falls}
 use Rattle.device.proofs.energy.better_trip.Statement.{statement}
 use Rattle.device.proofs.energy.better_trip.Tie as tie

@@ -7,7 +7,7 @@ use native.Mathlib.Nat.{mul-le-mul-right, sub-self}
 use native.Mathlib.Omega.{arith}
 use borrow.Author.Needs.{needs}
 use Rattle.device.specs.Row.{energyOf, pattern}
-use Rattle.device.specs.Uses.{begin, end, usedIn, afterFrom}
+use Rattle.device.specs.inside.Uses.{begin, end, usedIn, afterFrom}
 use Rattle.device.proofs.Pattern.{length-pattern}
 use Rattle.device.proofs.Least.{energy-none, energy-most}
 use Rattle.device.proofs.Spacing.{use-fits, from-by, from-next, energy-use}

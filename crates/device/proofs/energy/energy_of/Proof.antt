@@ -7,7 +7,7 @@ use native.Mathlib.Nat.{mul-le-mul-right}
 use native.Mathlib.Omega.{arith}
 use borrow.Author.Needs.{needs}
 use Rattle.device.specs.Row.{deep, gapCost, energyOf, pattern}
-use Rattle.device.specs.Uses.{usedIn, after, afterFrom, front, idle}
+use Rattle.device.specs.inside.Uses.{usedIn, after, afterFrom, front, idle}
 use Rattle.device.proofs.Chosen.{deep-low}
 use Rattle.device.proofs.Spacing.{front-by, last-front, energy-whole, energy-idle}
 use Rattle.device.proofs.energy.energy_of.Statement.{statement}

@@ -5,7 +5,7 @@ use Prim.Native.Nat.{ℕ, _-_, _*_, _≤_}
 use native.Mathlib.Nat.{mul-le-mul, mul-zero, sub-zero, zero-add}
 use native.Mathlib.Omega.{arith}
 use borrow.Author.Needs.{needs}
-use Rattle.device.specs.Trips.{Chosen}
+use Rattle.device.specs.inside.Trips.{Chosen}
 use Rattle.device.proofs.energy.gap_trip.Statement.{statement}
 use Rattle.device.proofs.energy.gap_trip.Tie as tie
 

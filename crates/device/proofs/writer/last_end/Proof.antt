@@ -6,7 +6,7 @@ use native.Mathlib.Omega.{arith}
 use borrow.Author.Needs.{needs}
 use lib.ListN.{getD}
 use Rattle.device.specs.declared.Uses.{Uses}
-use Rattle.device.specs.Uses.{after}
+use Rattle.device.specs.inside.Uses.{after}
 use Rattle.device.proofs.writer.last_end.Statement.{statement}
 use Rattle.device.proofs.writer.last_end.Tie as tie
 

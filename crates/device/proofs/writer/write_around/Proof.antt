@@ -13,8 +13,8 @@ use lib.Seq.{take-all, length-take-le}
 use Rattle.base.proofs.Filling.{Filled, filled-length}
 use Rattle.device.specs.declared.Device.{Device}
 use Rattle.device.specs.Row.{byteOf, gapRow}
-use Rattle.device.specs.Uses.{begin, end, afterFrom}
-use Rattle.device.specs.Trips.{around}
+use Rattle.device.specs.inside.Uses.{begin, end, afterFrom}
+use Rattle.device.specs.inside.Trips.{around}
 use Rattle.device.proofs.Spacing.{use-fits, from-by, from-next}
 use Rattle.device.proofs.Bytes.{bytes, bytes-none, bytes-use, length-gap-bytes, written-first, written-on, filled-begun, filled-since}
 use Rattle.device.proofs.writer.write_around.Statement.{statement}

@@ -8,7 +8,7 @@ use borrow.Author.Needs.{needs}
 use lib.ListN.{take, drop}
 use Rattle.device.specs.Row.{byteOf, depth, trip, gapRow}
 use Rattle.device.specs.Row as Row
-use Rattle.device.specs.Trips.{tripBytes}
+use Rattle.device.specs.inside.Trips.{tripBytes}
 use Rattle.device.proofs.Chosen.{chosen}
 use Rattle.device.proofs.Bytes.{bytes-trip}
 use Rattle.device.proofs.writer.write_gap.Statement.{statement}

@@ -9,8 +9,8 @@ use borrow.Author.Needs.{needs}
 use lib.ListN.{replicate, drop}
 use Rattle.device.specs.Row.{byteOf, rowOf, pattern}
 use Rattle.device.specs.Row as Row
-use Rattle.device.specs.Uses.{usedIn, after, afterFrom, front, idle}
-use Rattle.device.specs.Trips.{around}
+use Rattle.device.specs.inside.Uses.{usedIn, after, afterFrom, front, idle}
+use Rattle.device.specs.inside.Trips.{around}
 use Rattle.device.proofs.Prefix.{map-replicate}
 use Rattle.device.proofs.Spacing.{front-by, last-front, row-idle}
 use Rattle.device.proofs.Bytes.{row-around}

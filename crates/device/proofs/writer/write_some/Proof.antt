@@ -6,7 +6,7 @@ use Prim.Native.Nat.{ℕ, _-_}
 use native.Mathlib.Omega.{arith}
 use borrow.Author.Needs.{needs}
 use lib.ListN.{replicate, drop}
-use Rattle.device.specs.Trips.{shared}
+use Rattle.device.specs.inside.Trips.{shared}
 use Rattle.device.proofs.writer.write_some.Statement.{statement}
 use Rattle.device.proofs.writer.write_some.Tie as tie
 

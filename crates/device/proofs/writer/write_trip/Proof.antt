@@ -6,7 +6,7 @@ use Prim.Native.Nat.{ℕ, _+_, _-_, _≤_}
 use native.Mathlib.Omega.{arith}
 use borrow.Author.Needs.{needs}
 use lib.ListN.{replicate, length-replicate, drop}
-use Rattle.device.specs.Trips.{shared}
+use Rattle.device.specs.inside.Trips.{shared}
 use Rattle.device.proofs.Bytes.{written-first, written-on, taken-trip, shared-trip}
 use Rattle.device.proofs.writer.write_trip.Statement.{statement}
 use Rattle.device.proofs.writer.write_trip.Tie as tie

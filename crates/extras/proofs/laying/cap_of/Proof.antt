@@ -5,8 +5,8 @@ use Prim.Native.Nat.{_≤_}
 use native.Mathlib.Omega.{arith}
 use borrow.Author.Needs.{needs}
 use Rattle.device.specs.declared.Device.{Device}
-use Rattle.keys.specs.Keys.{capFrom, capOf}
-use Rattle.extras.specs.Parts.{Gaps}
+use Rattle.keys.specs.inside.Keys.{capFrom, capOf}
+use Rattle.extras.specs.inside.Parts.{Gaps}
 use Rattle.extras.proofs.Laid.{cap-here, cap-next, cap-end}
 use Rattle.extras.proofs.laying.cap_of.Statement.{statement}
 use Rattle.extras.proofs.laying.cap_of.Tie as tie

@@ -5,11 +5,11 @@ use Prim.Native.Nat.{ℕ, _≤_}
 use native.Mathlib.Omega.{arith}
 use borrow.Author.Needs.{needs}
 use Rattle.device.specs.declared.Device.{Device}
-use Rattle.flat.specs.Flat.{recorderOf}
-use Rattle.keys.specs.Keys.{capOf}
+use Rattle.flat.specs.inside.Flat.{recorderOf}
+use Rattle.keys.specs.inside.Keys.{capOf}
 use Rattle.schedule.specs.Quantities.{device}
-use Rattle.value.specs.Leasts.{riseOf, fallOf}
-use Rattle.extras.specs.Parts.{Gaps, LaidGaps}
+use Rattle.value.specs.inside.Leasts.{riseOf, fallOf}
+use Rattle.extras.specs.inside.Parts.{Gaps, LaidGaps}
 use Rattle.extras.proofs.Laid.{device-laid}
 use Rattle.extras.proofs.laying.lay_device.Statement.{statement}
 use Rattle.extras.proofs.laying.lay_device.Tie as tie

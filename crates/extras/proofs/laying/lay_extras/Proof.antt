@@ -4,7 +4,7 @@ use mathlib.Core.Path.{_≡_, subst}
 use Prim.Native.Nat.{ℕ, _-_, _≤_}
 use native.Mathlib.Omega.{arith}
 use borrow.Author.Needs.{needs}
-use Rattle.flat.specs.Flat.{recorderOf}
+use Rattle.flat.specs.inside.Flat.{recorderOf}
 use Rattle.extras.proofs.Laid.{Devices, devices-none, devices-next, devices-all}
 use Rattle.extras.proofs.laying.lay_extras.Statement.{statement}
 use Rattle.extras.proofs.laying.lay_extras.Tie as tie

@@ -5,8 +5,8 @@ use Prim.Native.Nat.{ℕ, _-_, _≤_}
 use native.Mathlib.Omega.{arith}
 use borrow.Author.Needs.{needs}
 use Rattle.device.specs.declared.Device.{Device}
-use Rattle.value.specs.Leasts.{riseOf}
-use Rattle.extras.specs.Parts.{Gaps}
+use Rattle.value.specs.inside.Leasts.{riseOf}
+use Rattle.extras.specs.inside.Parts.{Gaps}
 use Rattle.extras.proofs.Laid.{rise-none, rise-next}
 use Rattle.extras.proofs.laying.rise_of.Statement.{statement}
 use Rattle.extras.proofs.laying.rise_of.Tie as tie

@@ -2,7 +2,7 @@
 -- Assumes nothing.
 use mathlib.Core.Path.{refl}
 use borrow.Author.Needs.{needs}
-use Rattle.flat.specs.Costs.{costAt}
+use Rattle.flat.specs.inside.Costs.{costAt}
 use Rattle.flat.proofs.costs.gap_cost.Statement.{statement}
 use Rattle.flat.proofs.costs.gap_cost.Tie as tie
 

@@ -5,7 +5,7 @@ use Prim.Native.Nat.{ℕ, _-_, _≤_, _<_}
 use native.Mathlib.Omega.{arith}
 use borrow.Author.Needs.{needs}
 use Rattle.device.specs.declared.Device.{Device}
-use Rattle.flat.specs.Flat.{recorderOf}
+use Rattle.flat.specs.inside.Flat.{recorderOf}
 use Rattle.flat.proofs.Laying.{Devices, devices-none, devices-next, devices-all}
 use Rattle.flat.proofs.costs.lay_costs.Statement.{statement}
 use Rattle.flat.proofs.costs.lay_costs.Tie as tie

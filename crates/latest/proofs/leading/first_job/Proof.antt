@@ -6,8 +6,8 @@ use native.Mathlib.Omega.{arith}
 use native.Mathlib.Numerals.{add-one}
 use borrow.Author.Needs.{needs}
 use Rattle.schedule.specs.Quantities.{jobs}
-use Rattle.flat.specs.Flat.{recorderOf}
-use Rattle.latest.specs.Latest.{Opens}
+use Rattle.flat.specs.inside.Flat.{recorderOf}
+use Rattle.latest.specs.inside.Latest.{Opens}
 use Rattle.latest.proofs.Tabled.{power-next, power-few, halved}
 use Rattle.latest.proofs.Ordering.{offer-opens, none-more, none-never}
 use Rattle.latest.proofs.leading.first_job.Statement.{statement}

@@ -4,7 +4,7 @@ use mathlib.Core.Path.{ap, _∙_}
 use Prim.Native.Nat.{ℕ, max}
 use native.Mathlib.Omega.{arith}
 use borrow.Author.Needs.{needs}
-use Rattle.flat.specs.Flat.{recorderOf}
+use Rattle.flat.specs.inside.Flat.{recorderOf}
 use Rattle.latest.proofs.Laying.{Going, going-start, going-next, going-end, leads-ends, leads-bit}
 use Rattle.latest.proofs.leading.lay_starts.Statement.{statement}
 use Rattle.latest.proofs.leading.lay_starts.Tie as tie

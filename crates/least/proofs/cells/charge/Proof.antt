@@ -1,7 +1,7 @@
 -- `least::cells::charge` meets its contract.
 -- Assumes nothing.
 use borrow.Author.Needs.{needs}
-use Rattle.least.specs.Shown.{charged}
+use Rattle.least.specs.inside.Shown.{charged}
 use Rattle.least.proofs.cells.charge.Statement.{statement}
 use Rattle.least.proofs.cells.charge.Tie as tie
 

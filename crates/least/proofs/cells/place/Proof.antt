@@ -5,7 +5,7 @@ use mathlib.Core.Logic.{⊎-elim}
 use Prim.Native.Nat.{ℕ, _≤_, _<_, _-_}
 use native.Mathlib.Omega.{arith}
 use borrow.Author.Needs.{needs}
-use Rattle.flat.specs.Flat.{recorderOf}
+use Rattle.flat.specs.inside.Flat.{recorderOf}
 use Rattle.least.proofs.Charging.{Upto, upto-none, upto-used, upto-unused, upto-all, may-charge, charged-as}
 use Rattle.least.proofs.cells.place.Statement.{statement}
 use Rattle.least.proofs.cells.place.Tie as tie

@@ -5,8 +5,8 @@ use mathlib.Core.List.{List}
 use Prim.Native.Nat.{ℕ, _≤_, _-_}
 use native.Mathlib.Omega.{arith}
 use borrow.Author.Needs.{needs}
-use Rattle.flat.specs.Flat.{recorderOf}
-use Rattle.vertex.specs.Layout.{rootCells}
+use Rattle.flat.specs.inside.Flat.{recorderOf}
+use Rattle.vertex.specs.inside.Layout.{rootCells}
 use Rattle.least.proofs.Rooting.{Copied, copied-none, copied-more, copied-root}
 use Rattle.least.proofs.cells.root_of.Statement.{statement}
 use Rattle.least.proofs.cells.root_of.Tie as tie

@@ -6,9 +6,9 @@ use native.Mathlib.Omega.{arith}
 use borrow.Author.Needs.{needs}
 use Rattle.base.specs.Sums.{sum}
 use Rattle.base.proofs.Additions.{sum-more}
-use Rattle.flat.specs.Flat.{recorderOf}
-use Rattle.extras.specs.Tabled.{riseAt, fallAt}
-use Rattle.least.specs.Shown.{fallBy}
+use Rattle.flat.specs.inside.Flat.{recorderOf}
+use Rattle.extras.specs.inside.Tabled.{riseAt, fallAt}
+use Rattle.least.specs.inside.Shown.{fallBy}
 use Rattle.least.proofs.leads.fall_of.Statement.{statement}
 use Rattle.least.proofs.leads.fall_of.Tie as tie
 

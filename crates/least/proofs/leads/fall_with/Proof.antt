@@ -4,7 +4,7 @@ use Prim.Native.Nat.{_+_, _≤_, _<_}
 use native.Mathlib.Omega.{arith}
 use borrow.Author.Needs.{needs}
 use lib.ListN.{getD}
-use Rattle.extras.specs.Tabled.{riseAt, fallAt}
+use Rattle.extras.specs.inside.Tabled.{riseAt, fallAt}
 use Rattle.least.proofs.leads.fall_with.Statement.{statement}
 use Rattle.least.proofs.leads.fall_with.Tie as tie
 

@@ -5,8 +5,8 @@ use mathlib.Core.Logic.{⊎-elim}
 use Prim.Native.Nat.{ℕ, _≤_, _<_, _-_, min}
 use native.Mathlib.Omega.{arith}
 use borrow.Author.Needs.{needs}
-use Rattle.flat.specs.Flat.{recorderOf}
-use Rattle.extras.specs.Tabled.{capAt}
+use Rattle.flat.specs.inside.Flat.{recorderOf}
+use Rattle.extras.specs.inside.Tabled.{capAt}
 use Rattle.least.proofs.leads.wait_of.Statement.{statement}
 use Rattle.least.proofs.leads.wait_of.Tie as tie
 

@@ -5,7 +5,7 @@ use native.Mathlib.Omega.{arith}
 use lib.ListN.{length, length-set}
 use borrow.Author.Needs.{needs}
 use borrow.Author.Tests.{le-leb, lt-leb}
-use Rattle.least.specs.Entries.{wrote, kept}
+use Rattle.least.specs.inside.Entries.{wrote, kept}
 use Rattle.least.proofs.memory.keep.Statement.{statement}
 use Rattle.least.proofs.memory.keep.Tie as tie
 

@@ -2,7 +2,7 @@
 -- Assumes nothing.
 use borrow.Author.Needs.{needs}
 use Rattle.base.proofs.Paths.{paths}
-use Rattle.least.specs.Entries.{knownOf}
+use Rattle.least.specs.inside.Entries.{knownOf}
 use Rattle.least.proofs.memory.known_of.Statement.{statement}
 use Rattle.least.proofs.memory.known_of.Tie as tie
 

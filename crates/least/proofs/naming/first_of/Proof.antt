@@ -4,8 +4,8 @@ use mathlib.Core.Path.{_≡_}
 use Prim.Native.Nat.{ℕ, _<_}
 use native.Mathlib.Omega.{arith}
 use borrow.Author.Needs.{needs}
-use Rattle.flat.specs.Flat.{recorderOf}
-use Rattle.extras.specs.Tabled.{capAt}
+use Rattle.flat.specs.inside.Flat.{recorderOf}
+use Rattle.extras.specs.inside.Tabled.{capAt}
 use Rattle.least.proofs.Idling.{first-there, first-over, first-none}
 use Rattle.least.proofs.naming.first_of.Statement.{statement}
 use Rattle.least.proofs.naming.first_of.Tie as tie

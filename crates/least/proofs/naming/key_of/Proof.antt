@@ -1,7 +1,7 @@
 -- `least::naming::key_of` meets its contract.
 -- Assumes nothing.
 use borrow.Author.Needs.{needs}
-use Rattle.least.specs.Shown.{keyBy}
+use Rattle.least.specs.inside.Shown.{keyBy}
 use Rattle.least.proofs.naming.key_of.Statement.{statement}
 use Rattle.least.proofs.naming.key_of.Tie as tie
 

@@ -4,12 +4,12 @@ use mathlib.Core.Path.{_≡_, refl, ap}
 use Prim.Native.Nat.{_-_, _/_, _^_, _≤_}
 use native.Mathlib.Omega.{arith}
 use borrow.Author.Needs.{needs}
-use Rattle.flat.specs.Flat.{recorderOf}
+use Rattle.flat.specs.inside.Flat.{recorderOf}
 use mathlib.Core.Logic.{⊎-elim}
 use native.Mathlib.Numerals.{add-one}
 use lib.ListN.{length}
 use Rattle.latest.proofs.Tabled.{power-next, halved}
-use Rattle.least.specs.Outcome.{Lent}
+use Rattle.least.specs.inside.Outcome.{Lent}
 use Rattle.least.proofs.Choosing.{bit-is, bit-not}
 use Rattle.least.proofs.Seeking.{Sought, sought-none, sought-as, sought-passed, sought-next, sought-found, sought-all}
 use Rattle.least.proofs.reading.first_child.Statement.{statement}

@@ -4,10 +4,10 @@ use mathlib.Core.Path.{_≡_, refl, ap, _∙_, subst}
 use Prim.Native.Nat.{ℕ, _-_, _≤_, _<_, max}
 use native.Mathlib.Omega.{arith}
 use borrow.Author.Needs.{needs}
-use Rattle.flat.specs.Flat.{recorderOf}
+use Rattle.flat.specs.inside.Flat.{recorderOf}
 use lib.ListN.{length}
 use Rattle.latest.proofs.Members.{has-le}
-use Rattle.least.specs.Outcome.{Lent}
+use Rattle.least.specs.inside.Outcome.{Lent}
 use Rattle.least.proofs.Showing.{ordered-later}
 use Rattle.least.proofs.Trials.{slot-late}
 use Rattle.least.proofs.Going.{held-ordered, held-few, held-offers, starts-slot}

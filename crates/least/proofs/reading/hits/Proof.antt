@@ -2,7 +2,7 @@
 -- Assumes nothing.
 use Prim.Native.Nat.{_-_}
 use native.Mathlib.Omega.{arith}
-use Rattle.least.specs.Outcome.{told}
+use Rattle.least.specs.inside.Outcome.{told}
 use Rattle.least.proofs.Counting.{came-stop, came-go, came-small}
 use Rattle.least.proofs.Hitting.{hit-far, hit-one, hit-none}
 use Rattle.least.proofs.reading.hits.Statement.{statement}

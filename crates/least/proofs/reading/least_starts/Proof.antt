@@ -4,11 +4,11 @@ use mathlib.Core.Path.{refl, ap, _∙_}
 use Prim.Native.Nat.{ℕ, _-_, _^_}
 use native.Mathlib.Omega.{arith}
 use borrow.Author.Needs.{needs}
-use Rattle.flat.specs.Flat.{recorderOf}
+use Rattle.flat.specs.inside.Flat.{recorderOf}
 use lib.Pow.{pow-pos}
 use Rattle.schedule.specs.Quantities.{jobs}
 use Rattle.schedule.specs.Visiting.{root}
-use Rattle.least.specs.Outcome.{over}
+use Rattle.least.specs.inside.Outcome.{over}
 use Rattle.least.proofs.Settling.{root-held, root-stopped, root-reads}
 use Rattle.least.proofs.reading.least_starts.Statement.{statement}
 use Rattle.least.proofs.reading.least_starts.Tie as tie

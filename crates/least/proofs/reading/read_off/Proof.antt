@@ -4,10 +4,10 @@ use mathlib.Core.Path.{_≡_, refl, ap, _∙_}
 use Prim.Native.Nat.{ℕ, _+_, _-_, _%_, _≤_}
 use native.Mathlib.Omega.{arith}
 use borrow.Author.Needs.{needs}
-use Rattle.flat.specs.Flat.{recorderOf}
+use Rattle.flat.specs.inside.Flat.{recorderOf}
 use lib.ListN.{length}
-use Rattle.least.specs.Outcome.{Lent, over}
-use Rattle.least.specs.Readings.{Reads}
+use Rattle.least.specs.inside.Outcome.{Lent, over}
+use Rattle.least.specs.inside.Readings.{Reads}
 use Rattle.least.proofs.Showing.{ticks-shown}
 use Rattle.least.proofs.Going.{offers-known, offers-end, offers-ordered, offers-bit}
 use Rattle.least.proofs.Settling.{reads-held, reads-small, next-stopped, next-offers, next-lead, next-reads, reads-end}

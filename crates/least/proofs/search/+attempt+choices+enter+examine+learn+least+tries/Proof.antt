@@ -9,10 +9,10 @@ use native.Mathlib.Omega.{arith}
 use lib.ListN.{length}
 use lib.Pow.{pow-pos}
 use borrow.Author.Needs.{needs}
-use Rattle.flat.specs.Flat.{recorderOf}
+use Rattle.flat.specs.inside.Flat.{recorderOf}
 use Rattle.latest.proofs.Members.{has-le}
 use Rattle.latest.proofs.Tabled.{power-next, halved}
-use Rattle.least.specs.Outcome.{Lent, told, stopped, passed}
+use Rattle.least.specs.inside.Outcome.{Lent, told, stopped, passed}
 use Rattle.least.proofs.Showing.{ordered-later, ticks-shown, waited-shown}
 use Rattle.least.proofs.Counting.{came-stop, came-go, came-small, came-more, came-from, most-less, most-near, most-own}
 use Rattle.least.proofs.Choosing.{held-open, Chosen, chosen-none, chosen-as, chosen-passed, chosen-tried, chosen-stopped, chosen-all, bit-is, bit-not}
@@ -20,9 +20,9 @@ use Rattle.least.proofs.Trials.{Trial, trial-start, trial-as, trial-nex
 use Rattle.least.proofs.Going.{held-by, held-ordered, held-few, held-later, held-offers, some-left, offers-known, offers-end, offers-bit, child-shows, child-held, complete-answers, known-answers, head-few, learnt, learnt-kept, kept-lent, tried-entered, alive-early, near-comes, far-stops, far-comes, waits, starts-late, starts-to}
 use Rattle.schedule.specs.Visiting.{child}
 use Rattle.least.specs.declared.naming.Key.{Key}
-use Rattle.least.specs.Entries.{Looked}
-use Rattle.extras.specs.Tabled.{capAt}
-use Rattle.value.specs.Leasts.{waited}
+use Rattle.least.specs.inside.Entries.{Looked}
+use Rattle.extras.specs.inside.Tabled.{capAt}
+use Rattle.value.specs.inside.Leasts.{waited}
 use borrow.Fn.Kinds.{In}
 use borrow.Fn.PlainCycle.{Measures, is, falls, and}
 use Rattle.least.proofs.search.attempt.Reads as attempt

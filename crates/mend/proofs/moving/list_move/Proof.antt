@@ -4,7 +4,7 @@ use native.Mathlib.Omega.{arith}
 use lib.ListN.{length-set}
 use borrow.Author.Needs.{needs}
 use borrow.Author.Tests.{eq-eqb, ne-eqb}
-use Rattle.mend.specs.Moving.{listWith}
+use Rattle.mend.specs.inside.Moving.{listWith}
 use Rattle.mend.proofs.moving.list_move.Statement.{statement}
 use Rattle.mend.proofs.moving.list_move.Tie as tie
 

@@ -9,8 +9,8 @@ use borrow.Author.Tests.{ltb-false}
 use Rattle.schedule.specs.Quantities.{jobs, deadline, run}
 use Rattle.schedule.specs.inside.Ordering.{number}
 use Rattle.schedule.proofs.InOrder.{order-at}
-use Rattle.mend.specs.Settling.{latest}
-use Rattle.mend.specs.Settling as S
+use Rattle.mend.specs.inside.Settling.{latest}
+use Rattle.mend.specs.inside.Settling as S
 use Rattle.mend.proofs.Outcome.{mended-comes-out, none-late, some-late}
 use Rattle.mend.proofs.Standing.{Stands, stands-first, Turn, turn, stands-last}
 use Rattle.mend.proofs.settling.settle.Statement.{statement}

@@ -7,7 +7,7 @@ use borrow.Author.Needs.{needs}
 use lib.ListN.{getD, set}
 use Rattle.base.specs.Loops.{each}
 use Rattle.base.proofs.Turns.{each-start, each-step, each-done}
-use Rattle.possible.specs.Steps.{kept}
+use Rattle.possible.specs.inside.Steps.{kept}
 use Rattle.possible.proofs.tally.keep_starts.Statement.{statement}
 use Rattle.possible.proofs.tally.keep_starts.Tie as tie
 

@@ -11,14 +11,14 @@ use Rattle.base.specs.Loops.{each}
 use Rattle.base.proofs.Turns.{each-start, each-step, each-done}
 use Rattle.schedule.specs.declared.Recorder.{Recorder}
 use mathlib.Core.List.{List}
-use Rattle.flat.specs.Flat.{recorderOf}
-use Rattle.vertex.specs.Layout.{placedOf}
+use Rattle.flat.specs.inside.Flat.{recorderOf}
+use Rattle.vertex.specs.inside.Layout.{placedOf}
 use Rattle.vertex.proofs.Marking.{run-in}
 use Rattle.vertex.proofs.Offering.{few, some-left, child-offered}
 use Rattle.vertex.proofs.Reading.{free-at, taken-at}
 use Rattle.visit.proofs.Going.{start-at, start-next, start-more, start-less}
 use Rattle.possible.specs.TillFound.{visitTillFound}
-use Rattle.possible.specs.Steps.{vertexOf, tryStart, tryJob, tallyOf, Within}
+use Rattle.possible.specs.inside.Steps.{vertexOf, tryStart, tryJob, tallyOf, Within}
 use Rattle.possible.proofs.Budget.{turn-stops, turn-goes, turn-covered, turn-none, turns-end}
 use Rattle.possible.proofs.Tallies.{count-is, counted-is, counted-long, counted-within, kept-long}
 use Rattle.possible.proofs.Walking.{choices-each, jobs-steady, starts-steady, job-passed, job-came, starts-turns, child-at, visit-over, visit-cut, visit-spared, is-cut, is-spared, may-mark, is-loaded, is-alike, is-entered, enter-complete, enter-on, span-within, span-over}

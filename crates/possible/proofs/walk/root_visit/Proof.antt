@@ -4,7 +4,7 @@ use mathlib.Core.Path.{_∙_}
 use Prim.Native.Nat.{_≤_}
 use native.Mathlib.Omega.{arith}
 use lib.ListN.{getD}
-use Rattle.flat.specs.Flat.{recorderOf}
+use Rattle.flat.specs.inside.Flat.{recorderOf}
 use Rattle.possible.proofs.Tallies.{counted-is, counted-long, counted-within}
 use Rattle.vertex.proofs.Rooting.{root-holds, root-spared}
 use Rattle.possible.proofs.Ending.{empty-long, empty-count, empty-none, root-over, root-cut, root-enters}

@@ -4,7 +4,7 @@ use mathlib.Core.Path.{_≡_, refl, _∙_}
 use Prim.Native.Nat.{_≤_, _+_, _-_}
 use native.Mathlib.Omega.{arith}
 use Rattle.request.specs.Format.{lcmFrom}
-use Rattle.request.specs.Held.{SoundTasks}
+use Rattle.request.specs.inside.Held.{SoundTasks}
 use Rattle.request.proofs.Checked.{sound-first, sound-next}
 use Rattle.request.proofs.Multiples.{lcm-none, lcm-more, le-lcmFrom}
 use Rattle.request.proofs.horizon.task_horizon.Statement.{statement}

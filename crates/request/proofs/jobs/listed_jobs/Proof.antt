@@ -7,7 +7,7 @@ use native.Mathlib.Omega.{arith}
 use Rattle.base.specs.Lists.{upTo}
 use Rattle.base.proofs.Arrays.{upTo-more}
 use Rattle.request.specs.Format.{listed}
-use Rattle.request.specs.Held.{packed}
+use Rattle.request.specs.inside.Held.{packed}
 use Rattle.request.proofs.Packed.{packed-push}
 use Rattle.request.proofs.jobs.listed_jobs.Statement.{statement}
 use Rattle.request.proofs.jobs.listed_jobs.Tie as tie

@@ -2,7 +2,7 @@
 -- Assumes nothing.
 use mathlib.Core.Path.{refl}
 use Rattle.base.specs.Lists.{padded}
-use Rattle.request.specs.Held.{packed}
+use Rattle.request.specs.inside.Held.{packed}
 use Rattle.request.proofs.jobs.no_jobs.Statement.{statement}
 use Rattle.request.proofs.jobs.no_jobs.Tie as tie
 

@@ -1,7 +1,7 @@
 -- `request::jobs::push` meets its contract.
 -- Assumes nothing.
 use Rattle.base.proofs.Paths.{paths}
-use Rattle.request.specs.Held.{pushed}
+use Rattle.request.specs.inside.Held.{pushed}
 use borrow.Author.Needs.{needs}
 use Rattle.request.proofs.jobs.push.Statement.{statement}
 use Rattle.request.proofs.jobs.push.Tie as tie

@@ -4,7 +4,7 @@ use borrow.Author.Needs.{needs}
 use borrow.Author.Tests.{eq-eqb, ne-eqb}
 use mathlib.Core.Path.{_≡_, ap, _∙_}
 use Rattle.tables.specs.declared.TaskRecord.{TaskRecord}
-use Rattle.request.specs.Held.{releasedTo}
+use Rattle.request.specs.inside.Held.{releasedTo}
 use Rattle.request.proofs.jobs.release.Statement.{statement}
 use Rattle.request.proofs.jobs.release.Tie as tie
 

@@ -5,7 +5,7 @@ use mathlib.Core.List.{_++_, append-nil}
 use Prim.Native.Nat.{_≤_, _-_}
 use native.Mathlib.Omega.{arith}
 use Rattle.request.specs.Format.{unfolded, releasedAt}
-use Rattle.request.specs.Held.{packed}
+use Rattle.request.specs.inside.Held.{packed}
 use Rattle.request.proofs.Packed.{tick-more, unfolded-more}
 use Rattle.request.proofs.jobs.tick.Statement.{statement}
 use Rattle.request.proofs.jobs.tick.Tie as tie

@@ -5,7 +5,7 @@ use mathlib.Core.Path.{_≡_}
 use Prim.Native.Nat.{_≤_, _-_}
 use native.Mathlib.Omega.{arith}
 use Rattle.request.specs.Format.{unfolded}
-use Rattle.request.specs.Held.{packed}
+use Rattle.request.specs.inside.Held.{packed}
 use Rattle.request.proofs.jobs.unfold.Statement.{statement}
 use Rattle.request.proofs.jobs.unfold.Tie as tie
 

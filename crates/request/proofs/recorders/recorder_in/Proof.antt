@@ -9,7 +9,7 @@ use Rattle.base.proofs.Records.{after-from}
 use Rattle.tables.specs.Records.{deviceSize}
 use Rattle.tables.specs.Layout.{taskCount, tasksPlace}
 use Rattle.request.specs.Format.{horizonIn, recorderAs}
-use Rattle.request.specs.Held.{SoundTasks}
+use Rattle.request.specs.inside.Held.{SoundTasks}
 use Rattle.request.proofs.Checked.{tasks-sound, jobs-room}
 use Rattle.request.proofs.Faultless.{Faultless, faultless, length-jobs}
 use Rattle.request.proofs.Packed.{packed-held}

@@ -3,7 +3,7 @@
 use borrow.Author.Tests.{eq-eqb, ne-eqb}
 use native.Mathlib.Omega.{arith}
 use Rattle.request.specs.Format.{countOf}
-use Rattle.request.specs.Held.{packed}
+use Rattle.request.specs.inside.Held.{packed}
 use borrow.Author.Needs.{needs}
 use Rattle.request.proofs.sections.job_count.Statement.{statement}
 use Rattle.request.proofs.sections.job_count.Tie as tie

@@ -2,7 +2,7 @@
 -- Assumes nothing.
 use borrow.Author.Needs.{needs}
 use Rattle.base.proofs.Paths.{paths}
-use Rattle.schedule.specs.Judging.{clashes}
+use Rattle.schedule.specs.inside.Judging.{clashes}
 use Rattle.schedule.proofs.judging.clash.Statement.{statement}
 use Rattle.schedule.proofs.judging.clash.Tie as tie
 

@@ -6,7 +6,7 @@ use borrow.Author.Count.{below-none, below-more}
 use borrow.Author.Needs.{needs}
 use Rattle.schedule.specs.Quantities.{jobs}
 use Rattle.schedule.specs.Listing.{Met}
-use Rattle.schedule.specs.Judging.{missed, met}
+use Rattle.schedule.specs.inside.Judging.{missed, met}
 use Rattle.schedule.proofs.Judgements.{holding, window-missed, window-met}
 use Rattle.schedule.proofs.judging.first_missed.Statement.{statement}
 use Rattle.schedule.proofs.judging.first_missed.Tie as tie

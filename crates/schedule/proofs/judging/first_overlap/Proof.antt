@@ -5,7 +5,7 @@ use native.Mathlib.Omega.{arith}
 use borrow.Author.Count.{below-none, below-more}
 use Rattle.schedule.specs.Quantities.{jobs}
 use Rattle.schedule.specs.Listing.{Overlaps, overlap}
-use Rattle.schedule.specs.Judging.{faulty, feasible}
+use Rattle.schedule.specs.inside.Judging.{faulty, feasible}
 use Rattle.schedule.proofs.Judgements.{decided, denied, none-feasible}
 use Rattle.schedule.proofs.judging.first_overlap.Statement.{statement}
 use Rattle.schedule.proofs.judging.first_overlap.Tie as tie

@@ -6,7 +6,7 @@ use native.Mathlib.Omega.{arith}
 use borrow.Author.Count.{below-none, below-more}
 use borrow.Author.Needs.{needs}
 use Rattle.schedule.specs.Quantities.{jobs}
-use Rattle.schedule.specs.Judging.{holds, fails}
+use Rattle.schedule.specs.inside.Judging.{holds, fails}
 use Rattle.schedule.proofs.Judgements.{holding, Apart, apart-none, clash-overlaps, clash-apart}
 use Rattle.schedule.proofs.judging.overlaps.Statement.{statement}
 use Rattle.schedule.proofs.judging.overlaps.Tie as tie

@@ -2,7 +2,7 @@
 -- Assumes nothing.
 use borrow.Author.Needs.{needs}
 use Rattle.base.proofs.Paths.{paths}
-use Rattle.schedule.specs.Judging.{windowFault}
+use Rattle.schedule.specs.inside.Judging.{windowFault}
 use Rattle.schedule.proofs.judging.window_fault.Statement.{statement}
 use Rattle.schedule.proofs.judging.window_fault.Tie as tie
 

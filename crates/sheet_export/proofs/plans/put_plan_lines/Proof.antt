@@ -8,7 +8,7 @@ use lib.IntN.{pos, natAbs}
 use lib.ListN.{length, getD, List·getD-map}
 use Rattle.base.specs.Lists.{upTo}
 use Rattle.text.specs.Grammar.{textOf}
-use Rattle.text.specs.Putting.{Put}
+use Rattle.text.specs.inside.Putting.{Put}
 use Rattle.text.proofs.Puts.{put-more, put-none, put-length, three-few}
 use Rattle.sheet.specs.Sheets.{planLine}
 use Rattle.sheet_export.proofs.Spares.{spare-read}

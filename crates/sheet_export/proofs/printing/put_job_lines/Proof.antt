@@ -7,10 +7,10 @@ use native.Mathlib.Omega.{arith}
 use lib.ListN.{take, drop, getD, length-take, length-drop}
 use Rattle.base.specs.Bytes.{pieces, inRow}
 use Rattle.base.proofs.Pieces.{slice-is}
-use Rattle.text.specs.Putting.{Put}
+use Rattle.text.specs.inside.Putting.{Put}
 use Rattle.text.proofs.Puts.{put-more, put-none, put-length}
 use Rattle.sheet.proofs.Laid.{rows-more, rows-all}
-use Rattle.sheet_export.specs.Printing.{recordText}
+use Rattle.sheet_export.specs.inside.Printing.{recordText}
 use Rattle.sheet_export.proofs.Printed.{records-text, record-text-few}
 use Rattle.sheet_export.proofs.Records.{seven-count, seven-at}
 use Rattle.sheet_export.proofs.printing.put_job_lines.Statement.{statement}

@@ -11,11 +11,11 @@ use Rattle.catalogue.specs.Parts.{partsOf, partOf}
 use Rattle.catalogue.proofs.Members.{noPart}
 use Rattle.catalogue.proofs.Meaning.{whole-catalogue}
 use Rattle.catalogue.proofs.Pieces.{part-at}
-use Rattle.text.specs.Putting.{Put}
+use Rattle.text.specs.inside.Putting.{Put}
 use Rattle.text.proofs.Puts.{put-more, put-none, put-length}
 use Rattle.sheet.specs.Sheets.{partLine}
 use Rattle.sheet.proofs.Laid.{rows-more, rows-all}
-use Rattle.sheet_export.specs.Printing.{partText}
+use Rattle.sheet_export.specs.inside.Printing.{partText}
 use Rattle.sheet_export.proofs.Printed.{text-rows, part-text-few}
 use Rattle.sheet_export.proofs.printing.put_part_lines.Statement.{statement}
 use Rattle.sheet_export.proofs.printing.put_part_lines.Tie as tie

@@ -5,9 +5,9 @@ use mathlib.Core.List.{[]}
 use Prim.Native.Nat.{ℕ, _+_, _-_, _≤_}
 use native.Mathlib.Omega.{arith}
 use lib.ListN.{drop, getD}
-use Rattle.text.specs.Cursors.{numberOf}
+use Rattle.text.specs.inside.Cursors.{numberOf}
 use Rattle.sheet.specs.Sheets.{layout, areNumbers}
-use Rattle.sheet_import.specs.Reading.{rawIn}
+use Rattle.sheet_import.specs.inside.Reading.{rawIn}
 use Rattle.sheet_import.proofs.Faults.{few-texts, number-fails, number-passes, numbers-done}
 use borrow.Author.Needs.{needs}
 use Rattle.sheet_import.proofs.lines.are_numbers.Statement.{statement}

@@ -7,7 +7,7 @@ use lib.ListN.{take, drop, length-drop}
 use lib.Seq.{drop-drop}
 use borrow.Author.Tests.{ne-eqb}
 use Rattle.text.specs.Grammar.{linesOf}
-use Rattle.text.specs.Cursors.{lineLength, nextLine}
+use Rattle.text.specs.inside.Cursors.{lineLength, nextLine}
 use Rattle.text.proofs.Cutting.{rest-is}
 use Rattle.text.proofs.Scanning.{line-within, next-within, next-some}
 use Rattle.sheet.specs.Sheets.{lineFault, linesFault}

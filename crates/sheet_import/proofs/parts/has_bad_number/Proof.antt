@@ -11,8 +11,8 @@ use Rattle.base.specs.Lists.{padded}
 use Rattle.base.proofs.Members.{all-holds, all-fails}
 use Rattle.catalogue.specs.Parts.{space, wellFormed}
 use Rattle.text.specs.Grammar.{linesOf}
-use Rattle.text.specs.Cursors.{fieldAt, rawOf}
-use Rattle.sheet_import.specs.Reading.{lineAt}
+use Rattle.text.specs.inside.Cursors.{fieldAt, rawOf}
+use Rattle.sheet_import.specs.inside.Reading.{lineAt}
 use borrow.Author.Needs.{needs}
 use Rattle.sheet_import.proofs.parts.has_bad_number.Statement.{statement}
 use Rattle.sheet_import.proofs.parts.has_bad_number.Tie as tie

@@ -7,7 +7,7 @@ use Prim.Native.Nat.{_<_}
 use lib.ListN.{length}
 use Rattle.base.specs.Lists.{padded}
 use Rattle.catalogue.specs.Parts.{space, wellFormed}
-use Rattle.text.specs.Cursors.{fieldAt, rawOf}
+use Rattle.text.specs.inside.Cursors.{fieldAt, rawOf}
 use Rattle.sheet_import.proofs.PartFields.{long-bad}
 use borrow.Author.Needs.{needs}
 use Rattle.sheet_import.proofs.parts.is_bad.Statement.{statement}

@@ -2,7 +2,7 @@
 -- Assumes nothing.
 use mathlib.Core.Path.{ap, _∙_}
 use native.Mathlib.Omega.{arith}
-use Rattle.text.specs.Cursors.{numberOf, fieldAt, rawOf}
+use Rattle.text.specs.inside.Cursors.{numberOf, fieldAt, rawOf}
 use Rattle.sheet_import.proofs.RowLines.{number-is}
 use borrow.Author.Needs.{needs}
 use Rattle.sheet_import.proofs.reading.number_at.Statement.{statement}

@@ -6,7 +6,7 @@ use lib.ListN.{length}
 use Rattle.base.specs.Lists.{padded}
 use Rattle.catalogue.specs.Parts.{space}
 use Rattle.catalogue.proofs.PartNumbers.{formed}
-use Rattle.text.specs.Cursors.{fieldAt, rawOf}
+use Rattle.text.specs.inside.Cursors.{fieldAt, rawOf}
 use Rattle.text.proofs.Puts.{put-more}
 use Rattle.sheet_import.proofs.PartFields.{formed-short}
 use borrow.Author.Needs.{needs}

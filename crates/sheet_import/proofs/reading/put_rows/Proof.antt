@@ -8,11 +8,11 @@ use native.Mathlib.Nat.{zero-mul, mul-le-mul-right}
 use lib.ListN.{take}
 use Rattle.base.specs.Bytes.{inRow}
 use Rattle.text.specs.Grammar.{linesOf}
-use Rattle.text.specs.Putting.{Put}
+use Rattle.text.specs.inside.Putting.{Put}
 use Rattle.text.proofs.Puts.{put-more, put-none, put-length}
 use Rattle.sheet.proofs.Laid.{rows-more, rows-all}
-use Rattle.sheet_import.specs.Reading.{lineAt}
-use Rattle.sheet_import.specs.RowBytes.{rowBytes, rowSize}
+use Rattle.sheet_import.specs.inside.Reading.{lineAt}
+use Rattle.sheet_import.specs.inside.RowBytes.{rowBytes, rowSize}
 use Rattle.sheet_import.proofs.RowLines.{row-size, one-more, room-left}
 use borrow.Author.Needs.{needs}
 use Rattle.sheet_import.proofs.reading.put_rows.Statement.{statement}

@@ -6,10 +6,10 @@ use lib.ListN.{getD}
 use borrow.Author.Count.{below-none, below-more}
 use Rattle.schedule.specs.declared.Recorder.{Recorder}
 use Rattle.schedule.specs.Quantities.{noJob, jobs, run}
-use Rattle.schedule.specs.Judging.{holds, fails}
+use Rattle.schedule.specs.inside.Judging.{holds, fails}
 use Rattle.schedule.proofs.Judgements.{decided, denied}
 use Rattle.stepper.specs.Promises.{Brief, shorter}
-use Rattle.stepper.specs.Fitness.{Outrun}
+use Rattle.stepper.specs.inside.Fitness.{Outrun}
 use Rattle.stepper.proofs.fitness.has_brief.Statement.{statement}
 use Rattle.stepper.proofs.fitness.has_brief.Tie as tie
 

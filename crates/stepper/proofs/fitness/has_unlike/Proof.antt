@@ -5,7 +5,7 @@ use native.Mathlib.Omega.{arith}
 use lib.ListN.{getD}
 use borrow.Author.Count.{below-none, below-more}
 use Rattle.device.specs.Row.{noDevice}
-use Rattle.schedule.specs.Judging.{holds, fails}
+use Rattle.schedule.specs.inside.Judging.{holds, fails}
 use Rattle.stepper.proofs.fitness.has_unlike.Statement.{statement}
 use Rattle.stepper.proofs.fitness.has_unlike.Tie as tie
 

@@ -6,7 +6,7 @@ use lib.ListN.{getD}
 use borrow.Author.Count.{below-none, below-more}
 use borrow.Author.Needs.{needs}
 use Rattle.device.specs.Row.{noDevice}
-use Rattle.schedule.specs.Judging.{holds, fails}
+use Rattle.schedule.specs.inside.Judging.{holds, fails}
 use Rattle.steps.specs.Stepping.{moveTime}
 use Rattle.stepper.proofs.fitness.is_outrun.Statement.{statement}
 use Rattle.stepper.proofs.fitness.is_outrun.Tie as tie

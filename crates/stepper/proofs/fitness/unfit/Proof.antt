@@ -4,7 +4,7 @@ use mathlib.Core.Path.{sym, _∙_}
 use borrow.Author.Needs.{needs}
 use Rattle.schedule.proofs.Judgements.{decided, denied}
 use Rattle.stepper.specs.Promises.{Unfit}
-use Rattle.stepper.specs.Fitness as F
+use Rattle.stepper.specs.inside.Fitness as F
 use Rattle.stepper.proofs.Fitting.{mark-unfit, unlike-unfit, none-unfit}
 use Rattle.stepper.proofs.fitness.unfit.Statement.{statement}
 use Rattle.stepper.proofs.fitness.unfit.Tie as tie

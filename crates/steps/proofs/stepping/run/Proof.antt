@@ -6,7 +6,7 @@ use native.Mathlib.Numerals.{add-one}
 use native.Mathlib.Omega.{arith}
 use Rattle.base.specs.Loops.{each}
 use Rattle.base.proofs.Turns.{each-start, each-step}
-use Rattle.steps.specs.Running.{begin, end, after, fresh, turn, stepped}
+use Rattle.steps.specs.inside.Running.{begin, end, after, fresh, turn, stepped}
 use Rattle.steps.proofs.Bounds.{Most, sound-most, after-within, end-within, end-next, jobs-most, stepped-most, turn-is}
 use Rattle.steps.proofs.stepping.run.Statement.{statement}
 use Rattle.steps.proofs.stepping.run.Tie as tie

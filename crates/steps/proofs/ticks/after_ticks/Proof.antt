@@ -3,7 +3,7 @@
 use borrow.Author.Needs.{needs}
 use mathlib.Core.Path.{sym}
 use native.Mathlib.Omega.{arith}
-use Rattle.steps.specs.Running.{later}
+use Rattle.steps.specs.inside.Running.{later}
 use Rattle.steps.proofs.Moves.{later-work, later-sleep}
 use Rattle.steps.proofs.Passing.{later-down, later-up, down-left, up-left}
 use Rattle.steps.proofs.ticks.after_ticks.Statement.{statement}

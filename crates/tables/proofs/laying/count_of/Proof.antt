@@ -1,7 +1,7 @@
 -- `tables::laying::count_of` meets its contract.
 -- Assumes nothing.
 use borrow.Author.Needs.{needs}
-use Rattle.tables.specs.Held.{cut}
+use Rattle.tables.specs.inside.Held.{cut}
 use Rattle.tables.proofs.laying.count_of.Statement.{statement}
 use Rattle.tables.proofs.laying.count_of.Tie as tie
 

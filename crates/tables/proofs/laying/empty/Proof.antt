@@ -2,7 +2,7 @@
 -- Assumes nothing.
 use mathlib.Core.Path.{refl}
 use Rattle.base.specs.Lists.{padded}
-use Rattle.tables.specs.Held.{held}
+use Rattle.tables.specs.inside.Held.{held}
 use Rattle.tables.proofs.laying.empty.Statement.{statement}
 use Rattle.tables.proofs.laying.empty.Tie as tie
 

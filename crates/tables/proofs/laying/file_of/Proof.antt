@@ -10,7 +10,7 @@ use Rattle.tables.specs.declared.File.{File}
 use Rattle.tables.specs.declared.Part.the-variants.{Devices, Tasks, Jobs}
 use Rattle.base.specs.Bytes.{pairBytes}
 use Rattle.tables.specs.Layout.{marker, sectionOf, layoutOf, bytesOf}
-use Rattle.tables.specs.Held.{cut, held, appended}
+use Rattle.tables.specs.inside.Held.{cut, held, appended}
 use Rattle.tables.proofs.Appending.{appended-count, appended-more, held-all}
 use Rattle.tables.proofs.Joining.{length-marker, devices-short, tasks-short, jobs-short, cut-fits}
 use Rattle.tables.proofs.laying.file_of.Statement.{statement}

@@ -2,7 +2,7 @@
 -- Assumes nothing.
 use borrow.Author.Needs.{needs}
 use mathlib.Core.Path.{refl}
-use Rattle.tables.specs.Held.{appended}
+use Rattle.tables.specs.inside.Held.{appended}
 use Rattle.tables.proofs.laying.push.Statement.{statement}
 use Rattle.tables.proofs.laying.push.Tie as tie
 

@@ -2,7 +2,7 @@
 -- Assumes nothing.
 use borrow.Author.Needs.{needs}
 use native.Mathlib.Omega.{arith}
-use Rattle.tables.specs.Held.{appended}
+use Rattle.tables.specs.inside.Held.{appended}
 use mathlib.Core.Path.{refl}
 use Rattle.tables.specs.Layout.{marker}
 use Rattle.tables.proofs.laying.push_marker.Statement.{statement}

@@ -8,7 +8,7 @@ use lib.ListN.{length, length-append}
 use Rattle.tables.specs.declared.File.{File}
 use Rattle.tables.specs.declared.DeviceRecord.{DeviceRecord}
 use Rattle.tables.specs.Records.{powerBytes, powersBytes}
-use Rattle.tables.specs.Held.{appended}
+use Rattle.tables.specs.inside.Held.{appended}
 use Rattle.tables.proofs.Appending.{appended-count, appended-more}
 use Rattle.tables.proofs.laying.push_powers.Statement.{statement}
 use Rattle.tables.proofs.laying.push_powers.Tie as tie

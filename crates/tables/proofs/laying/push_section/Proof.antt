@@ -6,7 +6,7 @@ use mathlib.Core.List.{[], _∷_}
 use Prim.Native.Nat.{_+_}
 use native.Mathlib.Omega.{arith}
 use lib.ListN.{length}
-use Rattle.tables.specs.Held.{cut, appended}
+use Rattle.tables.specs.inside.Held.{cut, appended}
 use Rattle.tables.specs.declared.File.{File}
 use Rattle.tables.specs.Layout.{joined, sectionOf, countIn, recordIn}
 use Rattle.tables.proofs.Appending.{appended-count, appended-more}

@@ -9,7 +9,7 @@ use lib.ListN.{length, take, drop}
 use Rattle.tables.specs.declared.Kind.{Kind}
 use Rattle.tables.specs.declared.Tables.{Tables}
 use Rattle.tables.specs.Layout.{marker, kindOf, bodyOf, tablesAs, tablesOf}
-use Rattle.tables.specs.Held.{Whole}
+use Rattle.tables.specs.inside.Held.{Whole}
 use Rattle.tables.proofs.Back.{mark-fits, part-rest}
 use Rattle.tables.proofs.listing.tables_in.Statement.{statement}
 use Rattle.tables.proofs.listing.tables_in.Tie as tie

@@ -9,7 +9,7 @@ use lib.ListN.{length, drop, length-drop}
 use lib.Seq.{drop-drop}
 use borrow.Author.Tests.{not-true, not-false}
 use Rattle.text.specs.declared.Cut.{Cut}
-use Rattle.text.specs.Cursors.{rawOf, cutOf, counted}
+use Rattle.text.specs.inside.Cursors.{rawOf, cutOf, counted}
 use Rattle.text.proofs.Cutting.{rest-is, cut-within, count-stray, count-last, count-more}
 use borrow.Author.Needs.{needs}
 use Rattle.text.proofs.fields.count_fields.Statement.{statement}

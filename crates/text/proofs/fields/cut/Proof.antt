@@ -6,7 +6,7 @@ use Prim.Native.Nat.{_+_, _-_, _≤_}
 use native.Mathlib.Omega.{arith}
 use lib.ListN.{length, drop}
 use borrow.Author.Needs.{needs}
-use Rattle.text.specs.Cursors.{cutFrom, cutOf}
+use Rattle.text.specs.inside.Cursors.{cutFrom, cutOf}
 use Rattle.text.proofs.Cutting.{Reaches, reached, further, cut-stray, cut-ends, cut-goes, cut-end}
 use Rattle.text.proofs.fields.cut.Statement.{statement}
 use Rattle.text.proofs.fields.cut.Tie as tie

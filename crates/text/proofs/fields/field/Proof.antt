@@ -9,7 +9,7 @@ use lib.ListN.{length, drop, length-drop}
 use lib.Seq.{drop-drop}
 use Rattle.text.specs.declared.Cut.{Cut}
 use Rattle.text.specs.Grammar.{unread}
-use Rattle.text.specs.Cursors.{rawOf, cutOf, fieldAt, firstField}
+use Rattle.text.specs.inside.Cursors.{rawOf, cutOf, fieldAt, firstField}
 use Rattle.text.proofs.Cutting.{rest-is, cut-within, read-more, field-first, field-past, field-later}
 use borrow.Author.Needs.{needs}
 use Rattle.text.proofs.fields.field.Statement.{statement}

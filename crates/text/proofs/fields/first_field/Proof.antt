@@ -7,7 +7,7 @@ use native.Mathlib.Omega.{arith}
 use lib.ListN.{length, take, drop, getD}
 use lib.Seq.{length-take-le}
 use Rattle.text.specs.declared.Cut.{Cut}
-use Rattle.text.specs.Cursors.{cutOf, firstField}
+use Rattle.text.specs.inside.Cursors.{cutOf, firstField}
 use Rattle.text.proofs.Cutting.{cut-within, read-whole, bare-field, quoted-field, quoted-size}
 use borrow.Author.Needs.{needs}
 use Rattle.text.proofs.fields.first_field.Statement.{statement}

@@ -6,7 +6,7 @@ use native.Mathlib.Omega.{arith}
 use lib.ListN.{length, take, drop, getD, length-drop}
 use lib.Seq.{drop-drop}
 use Rattle.text.specs.Grammar.{linesOf}
-use Rattle.text.specs.Cursors.{nextLine}
+use Rattle.text.specs.inside.Cursors.{nextLine}
 use Rattle.text.proofs.Scanning.{next-within, next-some, line-first, lines-past}
 use Rattle.text.proofs.Cutting.{rest-is}
 use borrow.Author.Needs.{needs}

@@ -7,7 +7,7 @@ use lib.ListN.{length, take, drop, getD, length-drop}
 use lib.Seq.{drop-drop}
 use mathlib.Core.List.{[]}
 use Rattle.text.specs.Grammar.{linesOf}
-use Rattle.text.specs.Cursors.{lineLength, nextLine}
+use Rattle.text.specs.inside.Cursors.{lineLength, nextLine}
 use Rattle.text.proofs.Scanning.{next-within, line-within, line-zero, line-later}
 use Rattle.text.proofs.Cutting.{rest-is}
 use borrow.Author.Needs.{needs}

@@ -5,7 +5,7 @@ use Prim.Native.Nat.{_+_, _-_, _≤_}
 use native.Mathlib.Omega.{arith}
 use lib.ListN.{drop}
 use borrow.Author.Needs.{needs}
-use Rattle.text.specs.Cursors.{lineLength}
+use Rattle.text.specs.inside.Cursors.{lineLength}
 use Rattle.text.proofs.Scanning.{line-stops, line-goes, line-done}
 use Rattle.text.proofs.lines.line_end.Statement.{statement}
 use Rattle.text.proofs.lines.line_end.Tie as tie

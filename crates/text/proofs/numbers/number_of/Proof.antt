@@ -5,7 +5,7 @@ use Prim.Native.Nat.{_+_, _-_, _*_, _≤_, min}
 use native.Mathlib.Omega.{arith}
 use lib.ListN.{length, drop, getD}
 use borrow.Author.Needs.{needs}
-use Rattle.text.specs.Cursors.{numberFrom, numberOf}
+use Rattle.text.specs.inside.Cursors.{numberFrom, numberOf}
 use Rattle.text.proofs.Scanning.{number-none, number-some, number-next, number-below, number-above, digit-is, number-done}
 use Rattle.text.proofs.numbers.number_of.Statement.{statement}
 use Rattle.text.proofs.numbers.number_of.Tie as tie

@@ -7,7 +7,7 @@ use native.Mathlib.Omega.{arith}
 use native.Mathlib.Numerals.{add-one}
 use lib.ListN.{length, take, getD}
 use lib.Seq.{take-suc, take-all, length-take-le}
-use Rattle.text.specs.Putting.{Put}
+use Rattle.text.specs.inside.Putting.{Put}
 use Rattle.text.proofs.Puts.{put-none, put-more, put-length}
 use borrow.Author.Needs.{needs}
 use Rattle.text.proofs.putting.put_bytes.Statement.{statement}

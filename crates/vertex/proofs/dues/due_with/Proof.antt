@@ -1,7 +1,7 @@
 -- `vertex::dues::due_with` meets its contract.
 -- Assumes nothing.
 use borrow.Author.Tests.{lt-ltb, le-ltb}
-use Rattle.vertex.specs.Sums.{dueWith}
+use Rattle.vertex.specs.inside.Sums.{dueWith}
 use borrow.Author.Needs.{needs}
 use Rattle.vertex.proofs.dues.due_with.Statement.{statement}
 use Rattle.vertex.proofs.dues.due_with.Tie as tie

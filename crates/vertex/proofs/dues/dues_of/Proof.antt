@@ -5,8 +5,8 @@ use mathlib.Core.Logic.{⊎-elim}
 use Prim.Native.Nat.{_≤_, _-_}
 use native.Mathlib.Omega.{arith}
 use borrow.Author.Needs.{needs}
-use Rattle.flat.specs.Flat.{recorderOf}
-use Rattle.vertex.specs.Layout.{placedOf}
+use Rattle.flat.specs.inside.Flat.{recorderOf}
+use Rattle.vertex.specs.inside.Layout.{placedOf}
 use Rattle.vertex.proofs.Reading.{placed-long, free-at, taken-at}
 use Rattle.vertex.proofs.Soonest.{Two, two-none, two-free, two-taken, two-done}
 use Rattle.vertex.proofs.dues.dues_of.Statement.{statement}

@@ -1,7 +1,7 @@
 -- `vertex::dues::limit_of` meets its contract.
 -- Assumes nothing.
 use borrow.Author.Tests.{eq-eqb, ne-eqb}
-use Rattle.vertex.specs.Sums.{limitFor, dueFor}
+use Rattle.vertex.specs.inside.Sums.{limitFor, dueFor}
 use borrow.Author.Needs.{needs}
 use Rattle.vertex.proofs.dues.limit_of.Statement.{statement}
 use Rattle.vertex.proofs.dues.limit_of.Tie as tie

@@ -9,8 +9,8 @@ use Rattle.device.specs.Row.{deep, gapCost}
 use Rattle.device.proofs.Least.{gap-most}
 use Rattle.schedule.specs.Quantities.{device}
 use Rattle.schedule.proofs.Bounds.{device-most}
-use Rattle.flat.specs.Flat.{recorderOf}
-use Rattle.vertex.specs.Vertices.{closeOf}
+use Rattle.flat.specs.inside.Flat.{recorderOf}
+use Rattle.vertex.specs.inside.Vertices.{closeOf}
 use Rattle.vertex.proofs.Charging.{sleeping-fits, seaming-fits}
 use Rattle.vertex.proofs.floors.device_close.Statement.{statement}
 use Rattle.vertex.proofs.floors.device_close.Tie as tie

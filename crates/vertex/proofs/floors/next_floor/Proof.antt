@@ -5,9 +5,9 @@ use Prim.Native.Nat.{ℕ, _+_, _*_, _≤_}
 use native.Mathlib.Omega.{arith}
 use borrow.Author.Needs.{needs}
 use Rattle.schedule.specs.Quantities.{device}
-use Rattle.flat.specs.Flat.{recorderOf}
-use Rattle.vertex.specs.Vertices.{floorOf}
-use Rattle.vertex.specs.Layout.{nextFloor}
+use Rattle.flat.specs.inside.Flat.{recorderOf}
+use Rattle.vertex.specs.inside.Vertices.{floorOf}
+use Rattle.vertex.specs.inside.Layout.{nextFloor}
 use Rattle.vertex.proofs.Charging.{product-fits, lead-cheap}
 use Rattle.vertex.proofs.floors.next_floor.Statement.{statement}
 use Rattle.vertex.proofs.floors.next_floor.Tie as tie

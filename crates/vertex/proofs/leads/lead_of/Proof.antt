@@ -4,7 +4,7 @@ use mathlib.Core.Path.{_≡_, _∙_}
 use Prim.Native.Nat.{ℕ, _-_, _*_, _≤_, _<_}
 use native.Mathlib.Omega.{arith}
 use borrow.Author.Needs.{needs}
-use Rattle.vertex.specs.Vertices.{leadOf}
+use Rattle.vertex.specs.inside.Vertices.{leadOf}
 use Rattle.vertex.proofs.Charging.{product-fits}
 use Rattle.vertex.proofs.leads.lead_of.Statement.{statement}
 use Rattle.vertex.proofs.leads.lead_of.Tie as tie

@@ -6,9 +6,9 @@ use native.Mathlib.Omega.{arith}
 use borrow.Author.Needs.{needs}
 use lib.ListN.{getD}
 use Rattle.schedule.specs.Quantities.{device}
-use Rattle.flat.specs.Flat.{recorderOf}
-use Rattle.vertex.specs.Vertices.{unused, leadOf}
-use Rattle.vertex.specs.Layout.{put}
+use Rattle.flat.specs.inside.Flat.{recorderOf}
+use Rattle.vertex.specs.inside.Vertices.{unused, leadOf}
+use Rattle.vertex.specs.inside.Layout.{put}
 use Rattle.vertex.proofs.Charging.{product-fits, lead-cheap}
 use Rattle.vertex.proofs.placing.charge.Statement.{statement}
 use Rattle.vertex.proofs.placing.charge.Tie as tie

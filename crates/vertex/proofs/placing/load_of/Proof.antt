@@ -7,7 +7,7 @@ use borrow.Author.Needs.{needs}
 use Rattle.base.specs.Sums.{sum}
 use Rattle.base.proofs.Additions.{sum-more}
 use Rattle.schedule.specs.Quantities.{run}
-use Rattle.flat.specs.Flat.{recorderOf}
+use Rattle.flat.specs.inside.Flat.{recorderOf}
 use Rattle.vertex.proofs.placing.load_of.Statement.{statement}
 use Rattle.vertex.proofs.placing.load_of.Tie as tie
 

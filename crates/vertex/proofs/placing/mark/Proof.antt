@@ -2,7 +2,7 @@
 -- Assumes nothing.
 use mathlib.Core.Path.{refl}
 use borrow.Author.Needs.{needs}
-use Rattle.vertex.specs.Layout.{marked}
+use Rattle.vertex.specs.inside.Layout.{marked}
 use Rattle.vertex.proofs.placing.mark.Statement.{statement}
 use Rattle.vertex.proofs.placing.mark.Tie as tie
 

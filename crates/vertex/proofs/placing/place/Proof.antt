@@ -7,8 +7,8 @@ use native.Mathlib.Omega.{arith}
 use borrow.Author.Needs.{needs}
 use Rattle.base.specs.Loops.{each}
 use Rattle.base.proofs.Turns.{each-start, each-step, each-done}
-use Rattle.flat.specs.Flat.{recorderOf}
-use Rattle.vertex.specs.Layout.{marked, charged, childCells}
+use Rattle.flat.specs.inside.Flat.{recorderOf}
+use Rattle.vertex.specs.inside.Layout.{marked, charged, childCells}
 use Rattle.vertex.proofs.Placed.{few-job, may-mark, may-charge}
 use Rattle.vertex.proofs.placing.place.Statement.{statement}
 use Rattle.vertex.proofs.placing.place.Tie as tie

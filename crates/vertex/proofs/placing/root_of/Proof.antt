@@ -10,8 +10,8 @@ use Rattle.base.specs.Loops.{each}
 use Rattle.base.specs.Sums.{sum}
 use Rattle.schedule.specs.Quantities.{jobs}
 use Rattle.schedule.specs.Visiting.{ticks}
-use Rattle.flat.specs.Flat.{recorderOf}
-use Rattle.vertex.specs.Layout.{rootCells}
+use Rattle.flat.specs.inside.Flat.{recorderOf}
+use Rattle.vertex.specs.inside.Layout.{rootCells}
 use Rattle.vertex.proofs.placing.root_of.Statement.{statement}
 use Rattle.vertex.proofs.placing.root_of.Tie as tie
 

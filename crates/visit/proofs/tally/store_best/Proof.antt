@@ -7,7 +7,7 @@ use borrow.Author.Needs.{needs}
 use lib.ListN.{getD, set}
 use Rattle.base.proofs.Turns.{each-start, each-step, each-done}
 use Rattle.base.specs.Loops.{each}
-use Rattle.visit.specs.Lent.{bettered}
+use Rattle.visit.specs.inside.Lent.{bettered}
 use Rattle.visit.proofs.tally.store_best.Statement.{statement}
 use Rattle.visit.proofs.tally.store_best.Tie as tie
 

@@ -1,0 +1,35 @@
+-- The lent table of extras: what each gap of each device costs above the deepest sleep, and with it cap, steepest rise and steepest fall.
+-- Assumes nothing.
+use mathlib.Core.Path.{_≡_}
+use mathlib.Core.List.{List}
+use Prim.Native.Nat.{ℕ, _+_, _*_, _<_, _≤_}
+use lib.ListN.{getD}
+use Rattle.schedule.specs.declared.Recorder.{Recorder}
+use Rattle.schedule.specs.Quantities.{Valid, device}
+use Rattle.keys.specs.inside.Keys.{extra, Caps}
+use Rattle.value.specs.inside.Leasts.{Rises, Falls}
+
+unfoldable pub extraAt : List ℕ → ℕ → ℕ → ℕ
+extraAt l k g = getD l (4097 * k + g) 0
+
+unfoldable pub capAt : List ℕ → ℕ → ℕ
+capAt l k = getD l (32776 + k) 0
+
+unfoldable pub riseAt : List ℕ → ℕ → ℕ
+riseAt l k = getD l (32784 + k) 0
+
+unfoldable pub fallAt : List ℕ → ℕ → ℕ
+fallAt l k = getD l (32792 + k) 0
+
+-- A valid recorder, whose powers at work fit sixteen bits, and its table: none of its numbers is more than 4,096 ticks at the largest power.
+pub record Tabled (R : Recorder) (l : List ℕ) : Type 0 where
+  pub valid : Valid R
+  pub narrow : (k : ℕ) → k < R .devices .count → device R k .pw ≤ 65535
+  pub extras : (k g : ℕ) → k < R .devices .count → g ≤ R .horizon → extraAt l k g ≡ extra (device R k) g
+  pub extra-most : (k g : ℕ) → k < R .devices .count → g ≤ R .horizon → extra (device R k) g ≤ 268431360
+  pub caps : Caps R (capAt l)
+  pub cap-most : (k : ℕ) → k < R .devices .count → capAt l k ≤ 4096
+  pub rises : (k : ℕ) → k < R .devices .count → Rises (device R k) (R .horizon) 0 (riseAt l k)
+  pub rise-most : (k : ℕ) → k < R .devices .count → riseAt l k ≤ 268431360
+  pub falls : (k : ℕ) → k < R .devices .count → Falls (device R k) (R .horizon) (fallAt l k)
+  pub fall-most : (k : ℕ) → k < R .devices .count → fallAt l k ≤ 268431360

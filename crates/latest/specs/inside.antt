@@ -1,0 +1,3 @@
+pub mod Latest
+pub mod Sets
+pub mod Sparing

@@ -1,0 +1,4 @@
+pub mod Entries
+pub mod Outcome
+pub mod Readings
+pub mod Shown

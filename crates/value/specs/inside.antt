@@ -1,0 +1,3 @@
+pub mod Leasts
+pub mod Options
+pub mod Stored

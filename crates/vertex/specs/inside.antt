@@ -1,0 +1,4 @@
+pub mod Layout
+pub mod Reachable
+pub mod Sums
+pub mod Vertices
