@@ -12,7 +12,7 @@ use Rattle.tables.specs.declared.DeviceRecord.{DeviceRecord}
 use Rattle.tables.specs.Records.{firstAt, blankDevice}
 use Rattle.tables.specs.Layout.{deviceIn, counted}
 use Rattle.planner.specs.declared.Answer.{Answer}
-use Rattle.planner.specs.Promises.{success, Checked, Written, Listed}
+use Rattle.planner.specs.Promises.{success, Checked, Written, TablesGiven}
 use Rattle.planner.proofs.Writing.{written-checked, written-listed}
 use Rattle.catalogue.specs.Parts.{Part, partsOf, Has, LookedUp}
 use Rattle.catalogue.specs.Parts as Parts
@@ -60,7 +60,7 @@ module _ (catalogue wanted : List ℕ) (o : Others) (lent : List ℕ) where
       written-checked (tablesWith o (f .records)) lent a after (f .written) z
 
   pub built-listed : (a : Answer) (after : List ℕ) (b : Built catalogue wanted o lent a after) (z : a .number ≡ 0)
-      → Listed (take (a .count) after) (record { answer = success (a .horizon) 0 0; tables = counted (tablesWith o (built-from a after b z .records)) })
+      → TablesGiven (take (a .count) after) (record { answer = success (a .horizon) 0 0; tables = counted (tablesWith o (built-from a after b z .records)) })
   built-listed a after b z =
       let f = built-from a after b z in
       written-listed (tablesWith o (f .records)) lent a after (f .written) z

@@ -8,7 +8,7 @@ use native.Mathlib.Omega.{arith}
 use lib.ListN.{length, getD, drop}
 use Rattle.schedule.specs.Quantities.{jobs}
 use Rattle.planner.specs.declared.Answer.{Answer}
-use Rattle.planner.specs.declared.Listing.{Listing}
+use Rattle.planner.specs.declared.FileTables.{FileTables}
 use Rattle.planner.specs.Promises.{success, OfFile, Judged, MarginsOf, Written}
 use Rattle.planner.proofs.Only.{only-judged, only-margined, only-written, only-listed}
 use Rattle.catalogue.specs.Building.{Built}
@@ -59,22 +59,22 @@ only-mend-door file starts lent result =
 
 -- What is told of a file's tables goes by its one listing.
 one-told : (file lent : List ℕ) {a a′ : Answer} {l l′ : List ℕ} → TablesTold file lent a l → TablesTold file lent a′ l′ → (a ≡ a′) × (l ≡ l′)
-one-told file lent (D.TablesTold.refused p n) (D.TablesTold.refused p′ n′) = (ap (λ (r : Listing). r .answer) (only-listed file p p′), refl)
-one-told file lent (D.TablesTold.refused p n) (D.TablesTold.short p′ z′ h′) = absurd (n (ap (λ (r : Listing). r .answer .number) (only-listed file p p′) ∙ z′))
-one-told file lent (D.TablesTold.refused p n) (D.TablesTold.given p′ z′ h′) = absurd (n (ap (λ (r : Listing). r .answer .number) (only-listed file p p′) ∙ z′))
-one-told file lent (D.TablesTold.short p z h) (D.TablesTold.refused p′ n′) = absurd (n′ (ap (λ (r : Listing). r .answer .number) (only-listed file p′ p) ∙ z))
+one-told file lent (D.TablesTold.refused p n) (D.TablesTold.refused p′ n′) = (ap (λ (r : FileTables). r .answer) (only-listed file p p′), refl)
+one-told file lent (D.TablesTold.refused p n) (D.TablesTold.short p′ z′ h′) = absurd (n (ap (λ (r : FileTables). r .answer .number) (only-listed file p p′) ∙ z′))
+one-told file lent (D.TablesTold.refused p n) (D.TablesTold.given p′ z′ h′) = absurd (n (ap (λ (r : FileTables). r .answer .number) (only-listed file p p′) ∙ z′))
+one-told file lent (D.TablesTold.short p z h) (D.TablesTold.refused p′ n′) = absurd (n′ (ap (λ (r : FileTables). r .answer .number) (only-listed file p′ p) ∙ z))
 one-told file lent (D.TablesTold.short p z h) (D.TablesTold.short p′ z′ h′) = (refl, refl)
 one-told file lent (D.TablesTold.short p z h) (D.TablesTold.given p′ z′ h′) =
-    let e = ap (λ (r : Listing). length (tableBytes (r .tables))) (only-listed file p p′) in
+    let e = ap (λ (r : FileTables). length (tableBytes (r .tables))) (only-listed file p p′) in
     absurd (omega (arith, e, h, h′))
-one-told file lent (D.TablesTold.given p z h) (D.TablesTold.refused p′ n′) = absurd (n′ (ap (λ (r : Listing). r .answer .number) (only-listed file p′ p) ∙ z))
+one-told file lent (D.TablesTold.given p z h) (D.TablesTold.refused p′ n′) = absurd (n′ (ap (λ (r : FileTables). r .answer .number) (only-listed file p′ p) ∙ z))
 one-told file lent (D.TablesTold.given p z h) (D.TablesTold.short p′ z′ h′) =
-    let e = ap (λ (r : Listing). length (tableBytes (r .tables))) (only-listed file p p′) in
+    let e = ap (λ (r : FileTables). length (tableBytes (r .tables))) (only-listed file p p′) in
     absurd (omega (arith, e, h, h′))
 one-told file lent (D.TablesTold.given p z h) (D.TablesTold.given p′ z′ h′) =
     let e = only-listed file p p′ in (
-      ap (λ (r : Listing). success (r .answer .horizon) 0 (length (tableBytes (r .tables)))) e,
-      ap (λ (r : Listing). tableBytes (r .tables) ++ drop (length (tableBytes (r .tables))) lent) e,
+      ap (λ (r : FileTables). success (r .answer .horizon) 0 (length (tableBytes (r .tables)))) e,
+      ap (λ (r : FileTables). tableBytes (r .tables) ++ drop (length (tableBytes (r .tables))) lent) e,
     )
 
 module _ {n n′ : ℕ} {l l′ r r′ : List ℕ} where

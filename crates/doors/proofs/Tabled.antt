@@ -21,8 +21,8 @@ use Rattle.request.specs.Format.{readOf}
 use Rattle.request.proofs.Accepted.{refused-number}
 use Rattle.request.proofs.Cutting.{accepted-whole}
 use Rattle.planner.specs.declared.Answer.{Answer}
-use Rattle.planner.specs.declared.Listing.{Listing}
-use Rattle.planner.specs.Promises.{Reads, OfFile, ListOf, Listed}
+use Rattle.planner.specs.declared.FileTables.{FileTables}
+use Rattle.planner.specs.Promises.{Reads, OfFile, TablesOf, TablesGiven}
 use Rattle.planner.specs.Promises as P
 use Rattle.table_bytes.specs.TableBytes.{Few}
 
@@ -32,11 +32,11 @@ read-few file R r =
     let w = accepted-whole (kindOf file) (bodyOf file) R r in
     record { devices = w .few-devices; tasks = w .few-tasks; jobs = w .few-jobs }
 
-few-of : (file : List ℕ) (a : Answer) (T : Tables) → OfFile file noTables (ListOf file) a T → a .number ≡ 0 → Few T
+few-of : (file : List ℕ) (a : Answer) (T : Tables) → OfFile file noTables (TablesOf file) a T → a .number ≡ 0 → Few T
 few-of file a T (P.OfFile.refused {n = n} r) z = absurd (omega (arith, z, refused-number file n r))
-few-of file a T (P.OfFile.read {R = R} r P.ListOf.listed) z = read-few file R r
+few-of file a T (P.OfFile.read {R = R} r P.TablesOf.listed) z = read-few file R r
 
-pub listed-few : (file : List ℕ) (r : Listing) → Listed file r → r .answer .number ≡ 0 → Few (r .tables)
+pub listed-few : (file : List ℕ) (r : FileTables) → TablesGiven file r → r .answer .number ≡ 0 → Few (r .tables)
 listed-few file r l z = few-of file (r .answer) (r .tables) l z
 
 -- What a file in its array holds.

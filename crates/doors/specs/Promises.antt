@@ -10,8 +10,8 @@ use Rattle.base.specs.Bytes.{byteAt, pairAt}
 use Rattle.schedule.specs.declared.Recorder.{Recorder}
 use Rattle.schedule.specs.Quantities.{jobs}
 use Rattle.planner.specs.declared.Answer.{Answer}
-use Rattle.planner.specs.declared.Listing.{Listing}
-use Rattle.planner.specs.Promises.{success, refusal, OfFile, Judged, MarginsOf, Written, Listed}
+use Rattle.planner.specs.declared.FileTables.{FileTables}
+use Rattle.planner.specs.Promises.{success, refusal, OfFile, Judged, MarginsOf, Written, TablesGiven}
 use Rattle.catalogue.specs.Building.{Others, others, Built}
 use Rattle.possible.specs.Promises.{PossibleOf}
 use Rattle.mend.specs.Promises.{Lent, lending, MendOf}
@@ -81,9 +81,9 @@ BuildDoor catalogue wanted tables lent result n lent′ result′ =
 -- ---- `door_tables`: the file's refusal; or the bytes of its tables, which the answer counts, and 15 where they have no room. What is lent beyond stays as it was
 
 pub data TablesTold (file lent : List ℕ) : Answer → List ℕ → Type 0 where
-  refused : {r : Listing} → Listed file r → (r .answer .number ≡ 0 → ⊥) → TablesTold file lent (r .answer) lent
-  short : {r : Listing} → Listed file r → r .answer .number ≡ 0 → length lent < length (tableBytes (r .tables)) → TablesTold file lent (refusal 15) lent
-  given : {r : Listing} → Listed file r → r .answer .number ≡ 0 → length (tableBytes (r .tables)) ≤ length lent
+  refused : {r : FileTables} → TablesGiven file r → (r .answer .number ≡ 0 → ⊥) → TablesTold file lent (r .answer) lent
+  short : {r : FileTables} → TablesGiven file r → r .answer .number ≡ 0 → length lent < length (tableBytes (r .tables)) → TablesTold file lent (refusal 15) lent
+  given : {r : FileTables} → TablesGiven file r → r .answer .number ≡ 0 → length (tableBytes (r .tables)) ≤ length lent
       → TablesTold file lent (success (r .answer .horizon) 0 (length (tableBytes (r .tables))))
       (tableBytes (r .tables) ++ drop (length (tableBytes (r .tables))) lent)
 

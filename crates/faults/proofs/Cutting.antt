@@ -15,8 +15,8 @@ use Rattle.base.specs.Refusals.{after}
 use Rattle.base.proofs.Records.{after-from, after-even}
 use Rattle.tables.specs.declared.Kind.{Kind}
 use Rattle.tables.specs.declared.Tables.{Tables}
-use Rattle.tables.specs.declared.Part.{Part}
-use Rattle.tables.specs.declared.Part.the-variants.{Devices, Tasks, Jobs}
+use Rattle.tables.specs.declared.TableName.{TableName}
+use Rattle.tables.specs.declared.TableName.the-variants.{Devices, Tasks, Jobs}
 use Rattle.tables.specs.Layout.{recordIn, layoutOf, tasksPlace}
 use Rattle.tables.specs.inside.Held.{cut}
 use Rattle.tables.proofs.Back.{read-horizon, tasks-place, jobs-place}
@@ -132,7 +132,7 @@ module _ (mark : ℕ) (T : Tables) where
 
 -- The same place, where the first count above its limit is above it in both.
 module _
-    (mark : ℕ) (T U : Tables) (kind : T .kind ≡ U .kind) (h : T .horizon ≡ U .horizon) (r : (p : Part) → recordIn T p ≡ recordIn U p)
+    (mark : ℕ) (T U : Tables) (kind : T .kind ≡ U .kind) (h : T .horizon ≡ U .horizon) (r : (p : TableName) → recordIn T p ≡ recordIn U p)
     (d : T .devices .count ≡ U .devices .count) (few : T .devices .count ≤ 8)
   where
     same-at-tasks : 8 < T .tasks .count → 8 < U .tasks .count → walk mark (T .kind) (layoutOf T) ≡ walk mark (U .kind) (layoutOf U)

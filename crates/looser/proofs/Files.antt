@@ -18,7 +18,7 @@ use Rattle.tables.specs.declared.JobRecord.{JobRecord}
 use Rattle.tables.specs.declared.DeviceTable.{DeviceTable}
 use Rattle.tables.specs.Records.{deviceAt, jobAt, blankDevice, blankJob}
 use Rattle.tables.specs.Layout.{kindOf, bodyOf, devicePlace, taskCount, jobsPlace, deviceIn, jobIn, tablesAs, tablesOf}
-use Rattle.request.specs.Format.{deviceOf, listedJob, horizonOf, devicesIn, jobsOf, jobsIn, emptyDevice, emptyJob, recorderAs, readOf}
+use Rattle.request.specs.Format.{deviceOf, listedJob, horizonOf, devicesIn, jobsOf, jobsIn, vacantDevice, vacantJob, recorderAs, readOf}
 use Rattle.request.proofs.Accepted.{accepted-as}
 use Rattle.planner.specs.Promises.{Reads}
 use Rattle.looser.specs.Windows.{Wider, Looser}
@@ -34,7 +34,7 @@ module _ (k : Kind) (s : List ℕ) where
   device-told : (i : ℕ) → i < tablesAs k s .devices .count → device (recorderAs k s) i ≡ deviceOf (deviceIn (tablesAs k s) i)
   unfolding recorderAs tablesAs
   device-told i l =
-      getD-held 8 emptyDevice (devicesIn k s) i noDevice (rw length-upTo l)
+      getD-held 8 vacantDevice (devicesIn k s) i noDevice (rw length-upTo l)
       ∙ getD-upTo _ (byteAt s 2) i noDevice l
       ∙ ap deviceOf (sym (getD-padded 8 blankDevice _ i ∙ getD-upTo _ (byteAt s 2) i blankDevice l))
 
@@ -60,7 +60,7 @@ module _ (k : Kind) (s : List ℕ) where
     job-told j l =
         let n = byteAt s (jobsPlace k s) in
         rw (eq-eqb (taskCount k s) 0 no-tasks)
-        (getD-held 16 emptyJob _ j noJob (rw length-upTo l)
+        (getD-held 16 vacantJob _ j noJob (rw length-upTo l)
         ∙ getD-upTo _ n j noJob l
         ∙ ap listedJob (sym (getD-padded 16 blankJob _ j ∙ getD-upTo _ n j blankJob l)))
 

@@ -20,9 +20,9 @@ use Rattle.tables.specs.declared.Tables.{Tables}
 use Rattle.tables.specs.Layout.{bytesOf, tablesOf, noTables}
 use Rattle.request.proofs.Accepted.{accepted-valid}
 use Rattle.planner.specs.declared.Answer.{Answer}
-use Rattle.planner.specs.declared.Listing.{Listing}
+use Rattle.planner.specs.declared.FileTables.{FileTables}
 use Rattle.planner.specs.Promises.{success, refusal, refusalAt, Refused, Reads, OfFile, refused, read, Answered}
-use Rattle.planner.specs.Promises.{CheckOf, accepted, Checked, SizesOf, Sized, MarginsOf, Margined, VerdictOf, Judged, RowsOf, Rowed, SearchOf, Searched, Written, ListOf, listed, Listed}
+use Rattle.planner.specs.Promises.{CheckOf, accepted, Checked, SizesOf, Sized, MarginsOf, Margined, VerdictOf, Judged, RowsOf, Rowed, SearchOf, Searched, Written, TablesOf, listed, TablesGiven}
 use Rattle.planner.specs.Promises as P
 
 -- ---- the file
@@ -209,12 +209,12 @@ only-written T lent (P.Written.written {R = R} r h) (P.Written.written {R = R′
 
 -- ---- `tables_of`
 
-one-list : (file : List ℕ) (R : Recorder) {a a′ : Answer} {T T′ : Tables} → ListOf file R a T → ListOf file R a′ T′ → (a ≡ a′) × (T ≡ T′)
+one-list : (file : List ℕ) (R : Recorder) {a a′ : Answer} {T T′ : Tables} → TablesOf file R a T → TablesOf file R a′ T′ → (a ≡ a′) × (T ≡ T′)
 one-list file R listed listed = (refl, refl)
 
-pub only-listed : (file : List ℕ) {r r′ : Listing} → Listed file r → Listed file r′ → r ≡ r′
+pub only-listed : (file : List ℕ) {r r′ : FileTables} → TablesGiven file r → TablesGiven file r′ → r ≡ r′
 only-listed file p p′ =
-    let e = only-of-file file noTables (ListOf file) (λ R v a a′ T T′. one-list file R) p p′ in
+    let e = only-of-file file noTables (TablesOf file) (λ R v a a′ T T′. one-list file R) p p′ in
     let a = e .0 in
     let b = e .1 in
     rw (a, b)

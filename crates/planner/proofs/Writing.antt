@@ -17,12 +17,12 @@ use Rattle.request.proofs.Accepted.{refused-number, number-as}
 use Rattle.request.proofs.Cutting.{accepted-whole}
 use Rattle.request.proofs.Marks.{first-plain, read-marked}
 use Rattle.planner.specs.declared.Answer.{Answer}
-use Rattle.planner.specs.declared.Listing.{Listing}
-use Rattle.planner.specs.Promises.{success, Reads, OfFile, Checked, Written, ListOf, Listed}
+use Rattle.planner.specs.declared.FileTables.{FileTables}
+use Rattle.planner.specs.Promises.{success, Reads, OfFile, Checked, Written, TablesOf, TablesGiven}
 use Rattle.planner.specs.Promises as P
 
 -- The listing of a file that is read as R.
-abbrev listing : Recorder → Tables → Listing
+abbrev listing : Recorder → Tables → FileTables
 listing R T = record { answer = success (R .horizon) 0 0; tables = T }
 
 -- Tables that are accepted are those of a file: their own bytes;
@@ -33,16 +33,16 @@ module _ (T : Tables) (R : Recorder) (r : readAs (T .kind) (layoutOf T) ≡ acce
   pub accepted-read : Reads (bytesOf T) R
   accepted-read = read-marked (bytesOf T) (kind-back T plain) (body-back T plain) ∙ r
 
-  pub accepted-listed : Listed (bytesOf T) (listing R (counted T))
-  accepted-listed = subst (λ (U : Tables). Listed (bytesOf T) (listing R U)) (tables-back T plain) (P.OfFile.read accepted-read P.ListOf.listed)
+  pub accepted-listed : TablesGiven (bytesOf T) (listing R (counted T))
+  accepted-listed = subst (λ (U : Tables). TablesGiven (bytesOf T) (listing R U)) (tables-back T plain) (P.OfFile.read accepted-read P.TablesOf.listed)
 
 -- Reading what was written gives the tables again.
 pub written-listed : (T : Tables) (lent : List ℕ) (a : Answer) (after : List ℕ) → Written T lent a after → a .number ≡ 0
-    → Listed (take (a .count) after) (record { answer = success (a .horizon) 0 0; tables = counted T })
+    → TablesGiven (take (a .count) after) (record { answer = success (a .horizon) 0 0; tables = counted T })
 written-listed T lent a after (P.Written.refused {n = n} r) z = absurd (omega (arith, number-as (T .kind) (layoutOf T) n r))
 written-listed T lent a after (P.Written.short r h) z = absurd (omega arith)
 written-listed T lent a after (P.Written.written {R = R} r h) z =
-    subst (λ (s : List ℕ). Listed s (listing R (counted T))) (sym (take-at (bytesOf T) (drop (length (bytesOf T)) lent) (length (bytesOf T)) refl)) (accepted-listed T R r)
+    subst (λ (s : List ℕ). TablesGiven s (listing R (counted T))) (sym (take-at (bytesOf T) (drop (length (bytesOf T)) lent) (length (bytesOf T)) refl)) (accepted-listed T R r)
 
 -- What was written is accepted.
 pub written-checked : (T : Tables) (lent : List ℕ) (a : Answer) (after : List ℕ) → Written T lent a after → a .number ≡ 0
@@ -78,11 +78,11 @@ same-bytes file R lent b r h =
     let done : Written T lent (success (R .horizon) 0 (length (bytesOf T))) (bytesOf T ++ drop (length (bytesOf T)) lent) = P.Written.written (listed-read file R b r) (rw same h) in
     subst (λ (s : List ℕ). Written T lent (success (R .horizon) 0 (length s)) (s ++ drop (length s) lent)) same done
 
-outcome-written : (file lent : List ℕ) (a : Answer) (T : Tables) → Bytes file → OfFile file noTables (ListOf file) a T → a .number ≡ 0 → length file ≤ length lent
+outcome-written : (file lent : List ℕ) (a : Answer) (T : Tables) → Bytes file → OfFile file noTables (TablesOf file) a T → a .number ≡ 0 → length file ≤ length lent
     → Written T lent (success (a .horizon) 0 (length file)) (file ++ drop (length file) lent)
 outcome-written file lent a T b (P.OfFile.refused {n = n} r) z h = absurd (omega (arith, refused-number file n r))
-outcome-written file lent a T b (P.OfFile.read {R = R} r P.ListOf.listed) z h = same-bytes file R lent b r h
+outcome-written file lent a T b (P.OfFile.read {R = R} r P.TablesOf.listed) z h = same-bytes file R lent b r h
 
-pub listed-written : (file : List ℕ) (r : Listing) (lent : List ℕ) → Bytes file → Listed file r → r .answer .number ≡ 0 → length file ≤ length lent
+pub listed-written : (file : List ℕ) (r : FileTables) (lent : List ℕ) → Bytes file → TablesGiven file r → r .answer .number ≡ 0 → length file ≤ length lent
     → Written (r .tables) lent (success (r .answer .horizon) 0 (length file)) (file ++ drop (length file) lent)
 listed-written file r lent b l z h = outcome-written file lent (r .answer) (r .tables) b l z h

@@ -19,7 +19,7 @@ use Rattle.tables.specs.Layout.{layoutOf, bytesOf, tablesOf, noTables}
 use Rattle.request.specs.Format.{readAs, readOf}
 use Rattle.request.specs.Format as Format
 use Rattle.planner.specs.declared.Answer.{Answer}
-use Rattle.planner.specs.declared.Listing.{Listing}
+use Rattle.planner.specs.declared.FileTables.{FileTables}
 
 -- ---- answers
 
@@ -148,8 +148,8 @@ pub data Written (T : Tables) (lent : List ℕ) : Answer → List ℕ → Type 0
 
 -- ---- `tables_of`: the tables of the file as it gives them, tasks as tasks; none with a refusal
 
-pub data ListOf (file : List ℕ) (R : Recorder) : Answer → Tables → Type 0 where
-  listed : ListOf file R (success (R .horizon) 0 0) (tablesOf file)
+pub data TablesOf (file : List ℕ) (R : Recorder) : Answer → Tables → Type 0 where
+  listed : TablesOf file R (success (R .horizon) 0 0) (tablesOf file)
 
-abbrev pub Listed : List ℕ → Listing → Type 0
-Listed file r = OfFile file noTables (ListOf file) (r .answer) (r .tables)
+abbrev pub TablesGiven : List ℕ → FileTables → Type 0
+TablesGiven file r = OfFile file noTables (TablesOf file) (r .answer) (r .tables)

@@ -1,6 +1,6 @@
 // The public operations on the bytes of a request file. None asks anything of its caller: every file, of whatever bytes, every list of start times and every
 // lent buffer gets its answer. specs/Promises.antt says for each the complete outcome.
-ghost use Rattle.planner.specs.Promises.{Checked, Sized, Margined, Judged, Rowed, Searched, Written, Listed};
+ghost use Rattle.planner.specs.Promises.{Checked, Sized, Margined, Judged, Rowed, Searched, Written, TablesGiven};
 use crate::recorders::sizes_of;
 use base::JobNumber;
 use base::copy;
@@ -33,7 +33,7 @@ pub struct Answer {
 }
 
 // The tables of a file, with the answer of the reading: none with a refusal.
-pub struct Listing {
+pub struct FileTables {
     pub answer: Answer,
     pub tables: Tables,
 }
@@ -126,17 +126,17 @@ pub fn write(given: Tables, out: &mut [u8]) -> Answer
 }
 
 // The tables of a file.
-pub fn tables_of(file: &[u8]) -> Listing
-    ensures { λ r. ⌜ Listed (now (file .entry)) r ⌝ }
+pub fn tables_of(file: &[u8]) -> FileTables
+    ensures { λ r. ⌜ TablesGiven (now (file .entry)) r ⌝ }
 {
     let request = read(file);
     if request.number != 0 {
-        return Listing {
+        return FileTables {
             answer: refusal(request.number),
             tables: no_tables(),
         };
     }
-    Listing {
+    FileTables {
         answer: success(request.recorder.horizon, 0, 0),
         tables: tables_in(file),
     }

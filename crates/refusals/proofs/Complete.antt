@@ -16,7 +16,7 @@ use Rattle.schedule.specs.declared.Recorder.{Recorder}
 use Rattle.tables.specs.declared.Kind.{Kind}
 use Rattle.tables.specs.declared.Kind.the-variants.{First, Second, Third}
 use Rattle.tables.specs.declared.Tables.{Tables}
-use Rattle.tables.specs.declared.Part.the-variants.{Devices, Tasks, Jobs}
+use Rattle.tables.specs.declared.TableName.the-variants.{Devices, Tasks, Jobs}
 use Rattle.tables.specs.declared.DeviceRecord.{DeviceRecord}
 use Rattle.tables.specs.declared.TaskRecord.{TaskRecord}
 use Rattle.tables.specs.declared.JobRecord.{JobRecord}

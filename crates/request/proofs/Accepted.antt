@@ -26,7 +26,7 @@ use Rattle.tables.specs.declared.DeviceRecord.{DeviceRecord}
 use Rattle.tables.specs.Records.{deviceAt}
 use Rattle.tables.specs.Layout.{marker, kindOf, bodyOf, devicePlace, taskCount, tasksPlace, jobsPlace}
 use Rattle.tables.proofs.Back.{mark-front}
-use Rattle.request.specs.Format.{Reading, refused, accepted, deviceOf, noLower, powersTable, deviceTable, sizeOf, recordFault, horizonOf, jobsOf, countOf, faultAs, horizonIn, devicesIn, jobsIn, emptyDevice, emptyJob, recorderAs, readAs, readOf, handedOn}
+use Rattle.request.specs.Format.{Reading, refused, accepted, deviceOf, noLower, powersTable, deviceTable, sizeOf, recordFault, horizonOf, jobsOf, countOf, faultAs, horizonIn, devicesIn, jobsIn, vacantDevice, vacantJob, recorderAs, readAs, readOf, handedOn}
 use Rattle.request.proofs.Checked.{device-clear}
 use Rattle.request.proofs.Faultless.{Faultless, faultless, length-jobs, jobs-end, deviceMost, place-most}
 use Rattle.request.proofs.Fitting.{Fits, listed-fit, unfolded-fit}
@@ -67,10 +67,10 @@ device-sound k s at e =
     falls d h a b c e (suc (suc (suc (suc i)))) l = absurd (omega arith)
 
 module _ (k : Kind) (s : List ℕ) (ok : Faultless k s) where
-  devices-sound : (i : ℕ) → i < length (devicesIn k s) → Sound (getD (padded 8 emptyDevice (devicesIn k s)) i noDevice)
+  devices-sound : (i : ℕ) → i < length (devicesIn k s) → Sound (getD (padded 8 vacantDevice (devicesIn k s)) i noDevice)
   devices-sound i l =
       let b : i < byteAt s 2 = rw length-upTo at l in
-      rw (getD-held 8 emptyDevice (devicesIn k s) i noDevice l, getD-upTo _ _ _ _ b)
+      rw (getD-held 8 vacantDevice (devicesIn k s) i noDevice l, getD-upTo _ _ _ _ b)
       (device-sound k s (devicePlace k s i) (first-each (recordFault s (DeviceRecords k)) (sizeOf s (DeviceRecords k)) (byteAt s 2) 3 i b (ok .device-records)))
 
   -- Each period divides a horizon that tasks give.
@@ -85,8 +85,8 @@ module _ (k : Kind) (s : List ℕ) (ok : Faultless k s) where
       (λ z. listed-fit s (byteAt s 2) (horizonIn k s) (byteAt s (jobsPlace k s)) (jobsPlace k s + 1) (ok .jobs .records))
       (λ z. unfolded-fit s (byteAt s 2) (horizonIn k s) (taskCount k s) (tasksPlace k s + 1) (ok .task-records) (periods-divide z) (horizonIn k s) (le-refl (horizonIn k s)))
 
-  held-fits : (j : ℕ) → j < length (jobsIn k s) → Fits (horizonIn k s) (byteAt s 2) (getD (padded 16 emptyJob (jobsIn k s)) j noJob)
-  held-fits j l = rw (getD-held 16 emptyJob (jobsIn k s) j noJob l) (every-at (Fits (horizonIn k s) (byteAt s 2)) (jobsIn k s) noJob jobs-fit j l)
+  held-fits : (j : ℕ) → j < length (jobsIn k s) → Fits (horizonIn k s) (byteAt s 2) (getD (padded 16 vacantJob (jobsIn k s)) j noJob)
+  held-fits j l = rw (getD-held 16 vacantJob (jobsIn k s) j noJob l) (every-at (Fits (horizonIn k s) (byteAt s 2)) (jobsIn k s) noJob jobs-fit j l)
 
   valid : Valid (recorderAs k s)
   unfolding recorderAs

@@ -17,8 +17,8 @@ use Rattle.base.proofs.Records.{after-even}
 use Rattle.schedule.specs.declared.Recorder.{Recorder}
 use Rattle.tables.specs.declared.Kind.{Kind}
 use Rattle.tables.specs.declared.Tables.{Tables}
-use Rattle.tables.specs.declared.Part.{Part}
-use Rattle.tables.specs.declared.Part.the-variants.{Devices, Tasks, Jobs}
+use Rattle.tables.specs.declared.TableName.{TableName}
+use Rattle.tables.specs.declared.TableName.the-variants.{Devices, Tasks, Jobs}
 use Rattle.tables.specs.Layout.{recordIn, layoutOf, tasksPlace, taskCount, jobsPlace}
 use Rattle.tables.specs.inside.Held.{cut, Whole}
 use Rattle.tables.proofs.Back.{read-horizon, tasks-place, jobs-place}
@@ -113,7 +113,7 @@ module _ (T : Tables) where
 
 -- The same fault, where the first count above its limit is above it in both.
 module _
-    (T U : Tables) (kind : T .kind ≡ U .kind) (h : T .horizon ≡ U .horizon) (r : (p : Part) → recordIn T p ≡ recordIn U p)
+    (T U : Tables) (kind : T .kind ≡ U .kind) (h : T .horizon ≡ U .horizon) (r : (p : TableName) → recordIn T p ≡ recordIn U p)
     (d : T .devices .count ≡ U .devices .count) (few : T .devices .count ≤ 8)
   where
     same-at-tasks : 8 < T .tasks .count → 8 < U .tasks .count → faultAs (T .kind) (layoutOf T) ≡ faultAs (U .kind) (layoutOf U)

@@ -15,7 +15,7 @@ use Rattle.base.proofs.Arrays.{padded-more, padded-full}
 use Rattle.schedule.specs.declared.Job.{Job}
 use Rattle.tables.specs.declared.TaskRecord.{TaskRecord}
 use Rattle.tables.specs.Records.{taskAt}
-use Rattle.request.specs.Format.{jobOf, released, releasedAt, unfolded, emptyJob, jobsHeld}
+use Rattle.request.specs.Format.{jobOf, released, releasedAt, unfolded, vacantJob, jobsHeld}
 use Rattle.request.specs.inside.Held.{packed, pushed, releasedTo}
 
 push-small : (l : List Job) (j : Job) → length l < 16 → pushed (packed l) j ≡ packed (l ++ (j ∷ []))
@@ -23,14 +23,14 @@ unfolding packed pushed
 push-small l j h =
     let m : min (length l) 17 ≡ length l = omega arith in
     let n : min (length l + 1) 17 ≡ length l + 1 = omega arith in
-    rw (m, lt-ltb _ _ h, padded-more 16 emptyJob l j h, length-append, n)
+    rw (m, lt-ltb _ _ h, padded-more 16 vacantJob l j h, length-append, n)
 
 push-full : (l : List Job) (j : Job) → 16 ≤ length l → pushed (packed l) j ≡ packed (l ++ (j ∷ []))
 unfolding packed pushed
 push-full l j h =
     let m : 16 ≤ min (length l) 17 = omega arith in
     let n : min (length l + 1) 17 ≡ 17 = omega arith in
-    rw (le-ltb _ _ m, length-append, n, padded-full 16 emptyJob l j h)
+    rw (le-ltb _ _ m, length-append, n, padded-full 16 vacantJob l j h)
 
 pub packed-push : (l : List Job) (j : Job) → pushed (packed l) j ≡ packed (l ++ (j ∷ []))
 packed-push l j = elim (decLt (length l) 16) [ yes h ↦ push-small l j h | no h ↦ push-full l j (omega arith) ]

@@ -232,17 +232,17 @@ abbrev pub jobsIn : Kind → List ℕ → List Job
 jobsIn k s = jobsOf s (taskCount k s) (tasksPlace k s + 1) (jobsPlace k s)
 
 -- A list of devices and one of jobs in their arrays. The places that hold none are all 0.
-abbrev pub emptyDevice : Device
-emptyDevice = record { shut = 0; wake = 0; pw = 0; pd = 0; pu = 0; levels = 0; powers = replicate 4 0 }
+abbrev pub vacantDevice : Device
+vacantDevice = record { shut = 0; wake = 0; pw = 0; pd = 0; pu = 0; levels = 0; powers = replicate 4 0 }
 
-abbrev pub emptyJob : Job
-emptyJob = record { release = 0; deadline = 0; run = 0; uses = replicate 8 false }
+abbrev pub vacantJob : Job
+vacantJob = record { release = 0; deadline = 0; run = 0; uses = replicate 8 false }
 
 abbrev pub devicesHeld : List Device → Devices
-devicesHeld l = record { count = length l; list = padded 8 emptyDevice l }
+devicesHeld l = record { count = length l; list = padded 8 vacantDevice l }
 
 abbrev pub jobsHeld : List Job → Jobs
-jobsHeld l = record { count = length l; list = padded 16 emptyJob l }
+jobsHeld l = record { count = length l; list = padded 16 vacantJob l }
 
 unfoldable pub recorderAs : Kind → List ℕ → Recorder
 recorderAs k s = record { horizon = horizonIn k s; round = roundIn k s; digits = digitsIn k; devices = devicesHeld (devicesIn k s); jobs = jobsHeld (jobsIn k s) }

@@ -25,8 +25,8 @@ use Rattle.text.specs.Numerals.{valueOf, digitsOf, numbersText}
 use Rattle.text.proofs.Decimal.{value-digits, is-number}
 use Rattle.sheet.proofs.Signs.{signs-ordinary}
 use Rattle.text.proofs.Split.{Unbroken, lines-text, ordinary-unbroken, quoted-more, Small, numbers-fields, numbers-unbroken}
-use Rattle.sheet.specs.declared.Rows.{Rows}
-use Rattle.sheet.specs.declared.Rows.the-variants.{Devices, Jobs}
+use Rattle.sheet.specs.declared.SheetKind.{SheetKind}
+use Rattle.sheet.specs.declared.SheetKind.the-variants.{Devices, Jobs}
 use Rattle.sheet.specs.Sheets.{areNumbers, fieldsIn, lineFault, linesFault, partIn, jobIn, partsIn, jobsIn, partsFault, recordsFault, devicesRefused, jobsRefused, partLine, jobLine, devicesText, jobsText, catalogueOf, recordsOf}
 use Rattle.sheet.proofs.LineFaults.{passes}
 use Rattle.sheet.proofs.Laid.{Sized, row-long, pieces-back, parts-back, fit-sized}
@@ -106,7 +106,7 @@ module _ (j : JobRecord) (h : FitsJob j) where
 
 -- ---- all lines
 
-module _ {A : Type 0} (r : Rows) (line : A → List ℕ) (read : List (List ℕ) → A) where
+module _ {A : Type 0} (r : SheetKind) (line : A → List ℕ) (read : List (List ℕ) → A) where
   -- What one row of a table needs: its line has no break, passes, and is read as the row.
   abbrev pub Comes : A → Type 0
   Comes x = Unbroken (line x) × (lineFault r (line x) ≡ 0) × (read (fieldsIn (line x)) ≡ x)

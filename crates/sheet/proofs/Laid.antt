@@ -1,4 +1,4 @@
--- Rows laid one after the other as bytes, and taken apart again.
+-- SheetKind laid one after the other as bytes, and taken apart again.
 -- Assumes nothing.
 use mathlib.Core.Path.{_≡_, refl, ap, _∙_}
 use mathlib.Core.Bool.{true, false, not}

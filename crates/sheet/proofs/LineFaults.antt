@@ -14,9 +14,9 @@ use Rattle.base.specs.Refusals.{Refusal, firstThat, orElse}
 use Rattle.base.proofs.Cases.{cond-cases, both}
 use Rattle.base.specs.Lists.{all}
 use Rattle.text.specs.Grammar.{linesOf, fieldsOf}
-use Rattle.sheet.specs.declared.Rows.{Rows}
-use Rattle.sheet.specs.declared.Rows.the-variants.{Devices, Jobs}
-use Rattle.sheet.specs.Sheets.{layout, areNumbers, lineTable, lineFault, linesFault, devicesRefused, jobsRefused}
+use Rattle.sheet.specs.declared.SheetKind.{SheetKind}
+use Rattle.sheet.specs.declared.SheetKind.the-variants.{Devices, Jobs}
+use Rattle.sheet.specs.Sheets.{columnsOf, areNumbers, lineTable, lineFault, linesFault, devicesRefused, jobsRefused}
 
 abbrev pub OfLine : ℕ → Type 0
 OfLine n = (27 ≤ n) × (n ≤ 29)
@@ -35,17 +35,17 @@ table-number (r ∷ rs) h n =
     (λ _ m. table-number rs (p .1) m) n
 
 -- A line is refused by no other number.
-pub line-number : (r : Rows) (l : List ℕ) → (lineFault r l ≡ 0 → ⊥) → OfLine (lineFault r l)
+pub line-number : (r : SheetKind) (l : List ℕ) → (lineFault r l ≡ 0 → ⊥) → OfLine (lineFault r l)
 line-number r l = table-number (lineTable r (fieldsOf l)) refl
 
 -- With its fields in number and its numbers within their bounds it passes.
-pub passes : (r : Rows) (l : List ℕ) (fs : List (List ℕ)) → fieldsOf l ≡ some fs → eqb (length fs) (layout r .texts + 4) ≡ true
-    → areNumbers (layout r .most) (drop (layout r .texts) fs) ≡ true → lineFault r l ≡ 0
+pub passes : (r : SheetKind) (l : List ℕ) (fs : List (List ℕ)) → fieldsOf l ≡ some fs → eqb (length fs) (columnsOf r .texts + 4) ≡ true
+    → areNumbers (columnsOf r .most) (drop (columnsOf r .texts) fs) ≡ true → lineFault r l ≡ 0
 passes r l fs e p q = rw (e, p, q)
 
 -- ---- all lines, and the table behind them
 
-lines-number : (r : Rows) (ls : List (List ℕ)) (k : ℕ) → k < length ls → (lineFault r (getD ls k []) ≡ 0 → ⊥) → OfLine (linesFault r ls)
+lines-number : (r : SheetKind) (ls : List (List ℕ)) (k : ℕ) → k < length ls → (lineFault r (getD ls k []) ≡ 0 → ⊥) → OfLine (linesFault r ls)
 lines-number r [] k h n = absurd (omega arith)
 lines-number r (l ∷ ls) zero h n =
     cond-cases OfLine (eqb (lineFault r l) 0) (λ e. absurd (n (eqb-true (lineFault r l) 0 e))) (λ e. line-number r l n)

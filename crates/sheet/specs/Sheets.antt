@@ -15,19 +15,19 @@ use Rattle.tables.specs.Records.{averaged, firstAt, firstBytes, jobAt, jobBytes
 use Rattle.catalogue.specs.Parts.{space, front, Part, numbers, unfit, repeated}
 use Rattle.text.specs.Grammar.{quote, comma, linesOf, textOf, fieldsOf, unread}
 use Rattle.text.specs.Numerals.{valueOf, isNumber, numbersText}
-use Rattle.sheet.specs.declared.Rows.{Rows}
-use Rattle.sheet.specs.declared.Rows.the-variants.{Devices, Jobs}
+use Rattle.sheet.specs.declared.SheetKind.{SheetKind}
+use Rattle.sheet.specs.declared.SheetKind.the-variants.{Devices, Jobs}
 
 -- ---- one line
 
 -- What stands in a line: so many fields of text, then numbers, each of at most this (rules 104 and 105).
-pub record Layout : Type 0 where
+pub record Columns : Type 0 where
   pub texts : ℕ
   pub most : List ℕ
 
-abbrev pub layout : Rows → Layout
-layout Devices = record { texts = 1; most = 255 ∷ 65535 ∷ 65535 ∷ 65535 ∷ [] }
-layout Jobs = record { texts = 0; most = 65535 ∷ 65535 ∷ 65535 ∷ 255 ∷ [] }
+abbrev pub columnsOf : SheetKind → Columns
+columnsOf Devices = record { texts = 1; most = 255 ∷ 65535 ∷ 65535 ∷ 65535 ∷ [] }
+columnsOf Jobs = record { texts = 0; most = 65535 ∷ 65535 ∷ 65535 ∷ 255 ∷ [] }
 
 -- Each field is a number of at most its bound.
 abbrev pub areNumbers : List ℕ → List (List ℕ) → Bool
@@ -36,18 +36,18 @@ areNumbers (m ∷ ms) [] = false
 areNumbers (m ∷ ms) (f ∷ fs) = isNumber m f && areNumbers ms fs
 
 -- 27 a stray quote or an open one, 28 another number of fields, 29 a field that is no number or too large (rule 106).
-abbrev pub lineTable : Rows → Option (List (List ℕ)) → List Refusal
+abbrev pub lineTable : SheetKind → Option (List (List ℕ)) → List Refusal
 lineTable r o = let fs = Option·getD o [] in
     (unread o ⇒ 27)
-    ∷ (not (eqb (length fs) (layout r .texts + 4)) ⇒ 28)
-    ∷ (not (areNumbers (layout r .most) (drop (layout r .texts) fs)) ⇒ 29)
+    ∷ (not (eqb (length fs) (columnsOf r .texts + 4)) ⇒ 28)
+    ∷ (not (areNumbers (columnsOf r .most) (drop (columnsOf r .texts) fs)) ⇒ 29)
     ∷ []
 
-abbrev pub lineFault : Rows → List ℕ → ℕ
+abbrev pub lineFault : SheetKind → List ℕ → ℕ
 lineFault r l = firstThat (lineTable r (fieldsOf l))
 
 -- The first line at fault decides.
-abbrev pub linesFault : Rows → List (List ℕ) → ℕ
+abbrev pub linesFault : SheetKind → List (List ℕ) → ℕ
 linesFault r [] = 0
 linesFault r (l ∷ ls) = orElse (lineFault r l) (linesFault r ls)
 

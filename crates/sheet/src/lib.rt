@@ -8,7 +8,7 @@ use planner::refusal;
 use planner::success;
 
 // What the lines of a sheet hold.
-pub enum Rows {
+pub enum SheetKind {
     Devices,
     Jobs,
 }

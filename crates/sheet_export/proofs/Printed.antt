@@ -1,4 +1,4 @@
--- Rows printed one after the other: the text of a table, and how long its lines can be.
+-- SheetKind printed one after the other: the text of a table, and how long its lines can be.
 -- Assumes nothing.
 use mathlib.Core.Path.{_≡_, refl, sym, ap, _∙_}
 use mathlib.Core.List.{List, [], _∷_, _++_, map, append-assoc}

@@ -14,7 +14,7 @@ use Rattle.base.specs.Bytes.{inRow}
 use Rattle.tables.specs.Records.{jobBytes}
 use Rattle.catalogue.specs.Parts.{partsOf, numbers, unfit, repeated}
 use Rattle.text.specs.Grammar.{linesOf}
-use Rattle.sheet.specs.declared.Rows.the-variants.{Devices, Jobs}
+use Rattle.sheet.specs.declared.SheetKind.the-variants.{Devices, Jobs}
 use Rattle.sheet.specs.Sheets.{linesFault, partsIn, jobsIn, devicesRefused, jobsRefused, partBytes, catalogueOf, recordsOf}
 use Rattle.sheet.proofs.Laid.{row-map, parts-back, fit-sized}
 use Rattle.sheet_import.specs.inside.Reading.{partRaw, jobRaw, devicesRaw}

@@ -22,9 +22,9 @@ use Rattle.text.specs.inside.Cursors.{rawOf}
 use Rattle.text.specs.Numerals.{isNumber}
 use Rattle.text.proofs.Quotes.{quote-29, Like, LikeAll, LikeRead, raw-like}
 use Rattle.sheet.proofs.Signs.{quote-21}
-use Rattle.sheet.specs.declared.Rows.{Rows}
-use Rattle.sheet.specs.declared.Rows.the-variants.{Devices, Jobs}
-use Rattle.sheet.specs.Sheets.{layout, areNumbers, fieldsIn, lineTable, lineFault, linesFault, partIn, jobIn, partsIn, jobsIn, partsFault, devicesRefused, jobsRefused}
+use Rattle.sheet.specs.declared.SheetKind.{SheetKind}
+use Rattle.sheet.specs.declared.SheetKind.the-variants.{Devices, Jobs}
+use Rattle.sheet.specs.Sheets.{columnsOf, areNumbers, fieldsIn, lineTable, lineFault, linesFault, partIn, jobIn, partsIn, jobsIn, partsFault, devicesRefused, jobsRefused}
 use Rattle.sheet_import.specs.inside.Reading.{rawIn, devicesRaw, jobsRaw}
 
 -- ---- a line's fault
@@ -53,14 +53,14 @@ like-drop (suc n) [] (g ∷ gs) h = absurd h
 like-drop (suc n) (f ∷ fs) [] h = absurd h
 like-drop (suc n) (f ∷ fs) (g ∷ gs) h = like-drop n fs gs (h .1)
 
-like-line : (r : Rows) (o p : Option (List (List ℕ))) → LikeRead o p → firstThat (lineTable r o) ≡ firstThat (lineTable r p)
+like-line : (r : SheetKind) (o p : Option (List (List ℕ))) → LikeRead o p → firstThat (lineTable r o) ≡ firstThat (lineTable r p)
 like-line r none none h = refl
 like-line r none (some gs) h = absurd h
 like-line r (some fs) none h = absurd h
 like-line r (some fs) (some gs) h =
-    rw (like-length fs gs h, like-numbers (layout r .most) (drop (layout r .texts) fs) (drop (layout r .texts) gs) (like-drop (layout r .texts) fs gs h))
+    rw (like-length fs gs h, like-numbers (columnsOf r .most) (drop (columnsOf r .texts) fs) (drop (columnsOf r .texts) gs) (like-drop (columnsOf r .texts) fs gs h))
 
-pub raw-fault : (r : Rows) (l : List ℕ) → firstThat (lineTable r (fieldsOf l)) ≡ firstThat (lineTable r (rawOf l))
+pub raw-fault : (r : SheetKind) (l : List ℕ) → firstThat (lineTable r (fieldsOf l)) ≡ firstThat (lineTable r (rawOf l))
 raw-fault r l = like-line r (fieldsOf l) (rawOf l) (raw-like l)
 
 -- ---- the import over raw fields
@@ -84,8 +84,8 @@ numbers-same (m ∷ ms) (f ∷ fs) (g ∷ gs) h e n =
     let q : f ≡ g = ⊎-elim (λ x. x) (λ w. absurd (true≢false (sym (p .0) ∙ quote-29 m f (w .0)))) (h .0) in
     cc
 
-passed : (r : Rows) (fs : List (List ℕ)) → firstThat (lineTable r (some fs)) ≡ 0
-    → (length fs ≡ layout r .texts + 4) × (areNumbers (layout r .most) (drop (layout r .texts) fs) ≡ true)
+passed : (r : SheetKind) (fs : List (List ℕ)) → firstThat (lineTable r (some fs)) ≡ 0
+    → (length fs ≡ columnsOf r .texts + 4) × (areNumbers (columnsOf r .most) (drop (columnsOf r .texts) fs) ≡ true)
 passed r fs e =
     let c = clear (lineTable r (some fs)) (tt, (tt, (tt, tt))) (sym e) in
     (eqb-true _ _ (not-false _ (c .1 .0)), not-false _ (c .1 .1 .0))
@@ -93,9 +93,9 @@ passed r fs e =
 job-line : (o p : Option (List (List ℕ))) → LikeRead o p → firstThat (lineTable Jobs o) ≡ 0 → Option·getD o [] ≡ Option·getD p []
 job-line none p h e = absurd (omega arith)
 job-line (some fs) none h e = absurd h
-job-line (some fs) (some gs) h e = let w = passed Jobs fs e in numbers-same (layout Jobs .most) fs gs h (w .0) (w .1)
+job-line (some fs) (some gs) h e = let w = passed Jobs fs e in numbers-same (columnsOf Jobs .most) fs gs h (w .0) (w .1)
 
--- Rows that are the same, or of which neither has a good part number.
+-- SheetKind that are the same, or of which neither has a good part number.
 abbrev LikePart : Part → Part → Type 0
 LikePart d d′ = (d ≡ d′) ⊎ ((wellFormed (d .number) ≡ false) × (wellFormed (d′ .number) ≡ false))
 
@@ -107,7 +107,7 @@ device-line (some []) (some gs) h e = absurd (omega (arith, passed Devices [] e 
 device-line (some (f ∷ fs)) (some []) h e = absurd h
 device-line (some (f ∷ fs)) (some (g ∷ gs)) h e =
     let w = passed Devices (f ∷ fs) e in
-    let r = numbers-same (layout Devices .most) fs gs (h .1) (omega (arith, w .0)) (w .1) in
+    let r = numbers-same (columnsOf Devices .most) fs gs (h .1) (omega (arith, w .0)) (w .1) in
     ⊎-elim (λ q. let a : f ∷ fs ≡ g ∷ gs = cc in inl (ap partIn a)) (λ q. inr (quote-21 f (q .0), quote-21 g (q .1))) (h .0)
 
 -- ---- all lines

@@ -16,8 +16,8 @@ use Rattle.catalogue.proofs.PartNumbers.{formed}
 use Rattle.text.specs.Numerals.{digit, valueOf, isNumber}
 use Rattle.text.specs.inside.Cursors.{rawOf, fieldAt, numberOf}
 use Rattle.text.proofs.Scanning.{number-value}
-use Rattle.sheet.specs.declared.Rows.{Rows}
-use Rattle.sheet.specs.declared.Rows.the-variants.{Devices, Jobs}
+use Rattle.sheet.specs.declared.SheetKind.{SheetKind}
+use Rattle.sheet.specs.declared.SheetKind.the-variants.{Devices, Jobs}
 use Rattle.sheet_import.specs.inside.Reading.{partRaw}
 use Rattle.sheet_import.specs.inside.RowBytes.{rowBytes, rowSize, Ready}
 
@@ -34,7 +34,7 @@ number-is m f h e =
 -- ---- rows
 
 -- A part has fifteen bytes, a job record seven.
-pub row-size : (r : Rows) (l : List ℕ) → Ready r l → length (rowBytes r l) ≡ rowSize r
+pub row-size : (r : SheetKind) (l : List ℕ) → Ready r l → length (rowBytes r l) ≡ rowSize r
 row-size Devices l h =
     let n = formed (padded 8 space (fieldAt (rawOf l) 0)) (h .1) .0 in
     omega (arith, length-append (partRaw l .number) (partRaw l .device))

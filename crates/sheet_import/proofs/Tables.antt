@@ -17,8 +17,8 @@ use Rattle.catalogue.specs.Parts.{space, wellFormed, malformed, Part, numbers, 
 use Rattle.text.specs.Grammar.{linesOf}
 use Rattle.text.specs.Numerals.{isNumber}
 use Rattle.text.specs.inside.Cursors.{rawOf, fieldAt}
-use Rattle.sheet.specs.declared.Rows.{Rows}
-use Rattle.sheet.specs.Sheets.{layout, areNumbers, lineTable, lineFault, linesFault}
+use Rattle.sheet.specs.declared.SheetKind.{SheetKind}
+use Rattle.sheet.specs.Sheets.{columnsOf, areNumbers, lineTable, lineFault, linesFault}
 use Rattle.sheet_import.specs.inside.Reading.{rawIn, partRaw, devicesRaw, Sound, Formed, EachLine}
 use Rattle.sheet_import.proofs.Raw.{raw-fault}
 use Rattle.sheet_import.proofs.Faults.{most-count}
@@ -31,16 +31,16 @@ numbers-at (m ∷ ms) [] h k l = absurd (true≢false (sym h))
 numbers-at (m ∷ ms) (f ∷ fs) h zero l = both (isNumber m f) (areNumbers ms fs) h .0
 numbers-at (m ∷ ms) (f ∷ fs) h (suc k) l = numbers-at ms fs (both (isNumber m f) (areNumbers ms fs) h .1) k (omega arith)
 
-sound : (r : Rows) (l : List ℕ) → lineFault r l ≡ 0 → Sound r l
+sound : (r : SheetKind) (l : List ℕ) → lineFault r l ≡ 0 → Sound r l
 sound r l e =
     let c = clear (lineTable r (rawOf l)) (tt, (tt, (tt, tt))) (sym e ∙ raw-fault r l) in
     let n = not-false _ (c .1 .1 .0) in
     record {
       reads = c .0;
-      numbers = λ k h. rw (← getD-drop (layout r .texts) (rawIn l) k []) (numbers-at (layout r .most) (drop (layout r .texts) (rawIn l)) n k (omega (arith, most-count r)));
+      numbers = λ k h. rw (← getD-drop (columnsOf r .texts) (rawIn l) k []) (numbers-at (columnsOf r .most) (drop (columnsOf r .texts) (rawIn l)) n k (omega (arith, most-count r)));
     }
 
-pub sound-lines : (r : Rows) (text : List ℕ) → linesFault r (linesOf text) ≡ 0 → EachLine (Sound r) text
+pub sound-lines : (r : SheetKind) (text : List ℕ) → linesFault r (linesOf text) ≡ 0 → EachLine (Sound r) text
 sound-lines r text e = go (linesOf text) (sym e)
   where
     go : (ls : List (List ℕ)) → 0 ≡ linesFault r ls → (k : ℕ) → k < length ls → Sound r (getD ls k [])

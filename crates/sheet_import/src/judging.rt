@@ -8,14 +8,14 @@ ghost use Rattle.sheet.specs.Sheets.{linesFault};
 ghost use Rattle.sheet_import.specs.inside.Reading.{devicesRaw};
 use crate::lines::lines_fault;
 use crate::parts::has_bad_number;
-use sheet::Rows;
+use sheet::SheetKind;
 use text::count_lines;
 
 // 27, 28 or 29 by its lines, and then 21.
 pub(crate) fn devices_fault(text: &[u8]) -> u8
-    ensures { λ r. ⌜ r ≡ orElse (linesFault Rows.Devices (linesOf (now (text .entry)))) (firstThat ((unfit (devicesRaw (linesOf (now (text .entry)))) ⇒ 21) ∷ [])) ⌝ }
+    ensures { λ r. ⌜ r ≡ orElse (linesFault SheetKind.Devices (linesOf (now (text .entry)))) (firstThat ((unfit (devicesRaw (linesOf (now (text .entry)))) ⇒ 21) ∷ [])) ⌝ }
 {
-    let fault = lines_fault(text, Rows::Devices);
+    let fault = lines_fault(text, SheetKind::Devices);
     if fault != 0 {
         return fault;
     }

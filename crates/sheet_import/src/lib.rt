@@ -7,7 +7,7 @@ use crate::reading::put_rows;
 use catalogue::is_repeated;
 use planner::Answer;
 use planner::refusal;
-use sheet::Rows;
+use sheet::SheetKind;
 use sheet::give;
 use text::count_lines;
 
@@ -27,7 +27,7 @@ pub fn import_devices(text: &[u8], out: &mut [u8]) -> Answer
     let lines = count_lines(text);
     let size = lines * 15;
     let mut own = [0u8; 960];
-    put_rows(&mut own, text, lines, Rows::Devices);
+    put_rows(&mut own, text, lines, SheetKind::Devices);
     if is_repeated(&own[..size]) {
         return refusal(22);
     }
@@ -38,7 +38,7 @@ pub fn import_devices(text: &[u8], out: &mut [u8]) -> Answer
 pub fn import_jobs(text: &[u8], out: &mut [u8]) -> Answer
     ensures { λ a. ⌜ ImportedJobs (now (text .entry)) (now (out .entry)) a (now (out .exit)) ⌝ }
 {
-    let fault = lines_fault(text, Rows::Jobs);
+    let fault = lines_fault(text, SheetKind::Jobs);
     if fault != 0 {
         return refusal(fault);
     }
@@ -48,6 +48,6 @@ pub fn import_jobs(text: &[u8], out: &mut [u8]) -> Answer
     }
     let size = lines * 7;
     let mut own = [0u8; 112];
-    put_rows(&mut own, text, lines, Rows::Jobs);
+    put_rows(&mut own, text, lines, SheetKind::Jobs);
     give(&own[..size], 0, lines, out)
 }

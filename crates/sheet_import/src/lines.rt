@@ -5,9 +5,9 @@ ghost use Prim.Native.Nat.{_<_};
 ghost use lib.ListN.{drop, getD};
 ghost use Rattle.text.specs.Grammar.{linesOf, unread};
 ghost use Rattle.text.specs.inside.Cursors.{rawOf};
-ghost use Rattle.sheet.specs.Sheets.{layout, areNumbers, lineFault, linesFault};
+ghost use Rattle.sheet.specs.Sheets.{columnsOf, areNumbers, lineFault, linesFault};
 ghost use Rattle.sheet_import.specs.inside.Reading.{rawIn};
-use sheet::Rows;
+use sheet::SheetKind;
 use text::count_fields;
 use text::field;
 use text::line_end;
@@ -15,29 +15,29 @@ use text::next_line;
 use text::number_of;
 
 // How many fields of text stand before the four numbers.
-fn texts(rows: Rows) -> usize
-    ensures { λ r. ⌜ r ≡ layout rows .texts ⌝ }
+fn texts(rows: SheetKind) -> usize
+    ensures { λ r. ⌜ r ≡ columnsOf rows .texts ⌝ }
 {
     match rows {
-        Rows::Devices => 1,
-        Rows::Jobs => 0,
+        SheetKind::Devices => 1,
+        SheetKind::Jobs => 0,
     }
 }
 
 // The most that number k may be: T and the device set have a byte, the others two.
-fn most(rows: Rows, k: usize) -> u32
+fn most(rows: SheetKind, k: usize) -> u32
     requires { ⌜ k < 4 ⌝ }
-    ensures { λ r. ⌜ r ≡ getD (layout rows .most) k 0 ⌝ }
+    ensures { λ r. ⌜ r ≡ getD (columnsOf rows .most) k 0 ⌝ }
 {
     match rows {
-        Rows::Devices => { if k == 0 { 255 } else { 65535 } }
-        Rows::Jobs => { if k == 3 { 255 } else { 65535 } }
+        SheetKind::Devices => { if k == 0 { 255 } else { 65535 } }
+        SheetKind::Jobs => { if k == 3 { 255 } else { 65535 } }
     }
 }
 
-fn are_numbers(line: &[u8], rows: Rows) -> bool
+fn are_numbers(line: &[u8], rows: SheetKind) -> bool
     requires { ⌜ unread (rawOf (now line)) ≡ false ⌝ }
-    ensures { λ r. ⌜ r ≡ areNumbers (layout rows .most) (drop (layout rows .texts) (rawIn (now (line .entry)))) ⌝ }
+    ensures { λ r. ⌜ r ≡ areNumbers (columnsOf rows .most) (drop (columnsOf rows .texts) (rawIn (now (line .entry)))) ⌝ }
 {
     let first = texts(rows);
     let mut k = 0;
@@ -51,7 +51,7 @@ fn are_numbers(line: &[u8], rows: Rows) -> bool
 }
 
 // 27, 28 or 29, in this order; 0 for a line without fault.
-fn line_fault(line: &[u8], rows: Rows) -> u8
+fn line_fault(line: &[u8], rows: SheetKind) -> u8
     ensures { λ r. ⌜ r ≡ lineFault rows (now (line .entry)) ⌝ }
 {
     let count = count_fields(line);
@@ -65,7 +65,7 @@ fn line_fault(line: &[u8], rows: Rows) -> u8
 }
 
 // The number of the first line at fault.
-pub(crate) fn lines_fault(text: &[u8], rows: Rows) -> u8
+pub(crate) fn lines_fault(text: &[u8], rows: SheetKind) -> u8
     ensures { λ r. ⌜ r ≡ linesFault rows (linesOf (now (text .entry))) ⌝ }
 {
     let n = text.len();

@@ -10,7 +10,7 @@ ghost use Rattle.text.specs.inside.Cursors.{rawOf, fieldAt};
 ghost use Rattle.sheet_import.specs.inside.Reading.{Sound, EachLine};
 use base::copy;
 use catalogue::is_formed;
-use sheet::Rows;
+use sheet::SheetKind;
 use text::field;
 use text::line;
 
@@ -38,7 +38,7 @@ fn is_bad(line: &[u8]) -> bool
 }
 
 pub(crate) fn has_bad_number(text: &[u8], lines: usize) -> bool
-    requires { ⌜ (lines ≡ length (linesOf (now text))) × EachLine (Sound Rows.Devices) (now text) ⌝ }
+    requires { ⌜ (lines ≡ length (linesOf (now text))) × EachLine (Sound SheetKind.Devices) (now text) ⌝ }
     ensures { λ r. ⌜ r ≡ not (all (λ l. wellFormed (padded 8 space (fieldAt (rawOf l) 0))) (linesOf (now (text .entry)))) ⌝ }
 {
     let mut k = 0;

@@ -14,7 +14,7 @@ ghost use Rattle.sheet.specs.Sheets.{partBytes};
 ghost use Rattle.sheet_import.specs.inside.Reading.{partRaw, jobRaw, Sound, Formed, EachLine};
 ghost use Rattle.sheet_import.specs.inside.RowBytes.{rowBytes, rowSize, Ready};
 use crate::parts::eight_of;
-use sheet::Rows;
+use sheet::SheetKind;
 use text::field;
 use text::line;
 use text::number_of;
@@ -53,7 +53,7 @@ fn put_device(out: &mut [u8], at: usize, t: u8, pw: u16, ps: u16, p0: u16) -> us
 
 // One part: 8 bytes of number, 7 of device record.
 fn put_part(out: &mut [u8], at: usize, line: &[u8]) -> usize
-    requires { ⌜ (at + 15 ≤ length (now out)) × (Sound Rows.Devices (now line) × Formed (now line)) ⌝ }
+    requires { ⌜ (at + 15 ≤ length (now out)) × (Sound SheetKind.Devices (now line) × Formed (now line)) ⌝ }
     ensures { λ r. ⌜ Put (partBytes (partRaw (now (line .entry)))) at (now (out .entry)) r (now (out .exit)) ⌝ }
 {
     let eight = eight_of(field(line, 0));
@@ -71,7 +71,7 @@ fn put_part(out: &mut [u8], at: usize, line: &[u8]) -> usize
 // ---- jobs
 
 fn put_record(out: &mut [u8], at: usize, line: &[u8]) -> usize
-    requires { ⌜ (at + 7 ≤ length (now out)) × Sound Rows.Jobs (now line) ⌝ }
+    requires { ⌜ (at + 7 ≤ length (now out)) × Sound SheetKind.Jobs (now line) ⌝ }
     ensures { λ r. ⌜ Put (jobBytes (jobRaw (now (line .entry)))) at (now (out .entry)) r (now (out .exit)) ⌝ }
 {
     let due = put_pair(out, at, number_at(line, 0));
@@ -82,17 +82,17 @@ fn put_record(out: &mut [u8], at: usize, line: &[u8]) -> usize
 
 // ---- rows
 
-fn put_row(out: &mut [u8], at: usize, line: &[u8], rows: Rows) -> usize
+fn put_row(out: &mut [u8], at: usize, line: &[u8], rows: SheetKind) -> usize
     requires { ⌜ (at + rowSize rows ≤ length (now out)) × Ready rows (now line) ⌝ }
     ensures { λ r. ⌜ Put (rowBytes rows (now (line .entry))) at (now (out .entry)) r (now (out .exit)) ⌝ }
 {
     match rows {
-        Rows::Devices => put_part(out, at, line),
-        Rows::Jobs => put_record(out, at, line),
+        SheetKind::Devices => put_part(out, at, line),
+        SheetKind::Jobs => put_record(out, at, line),
     }
 }
 
-pub(crate) fn put_rows(out: &mut [u8], text: &[u8], lines: usize, rows: Rows)
+pub(crate) fn put_rows(out: &mut [u8], text: &[u8], lines: usize, rows: SheetKind)
     requires { ⌜ (lines ≡ length (linesOf (now text))) × (lines * rowSize rows ≤ length (now out)) × EachLine (Ready rows) (now text) ⌝ }
     ensures { λ r. ⌜ Put (inRow (map (rowBytes rows) (linesOf (now (text .entry))))) 0 (now (out .entry)) (lines * rowSize rows) (now (out .exit)) ⌝ }
 {

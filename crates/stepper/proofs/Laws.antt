@@ -19,7 +19,7 @@ use Rattle.schedule.specs.Quantities.{device, jobs, run, uses, Valid}
 use Rattle.schedule.specs.Listing.{Feasible, Runs, usesOf, running}
 use Rattle.tables.specs.declared.Kind.the-variants.{First}
 use Rattle.tables.specs.Layout.{kindOf}
-use Rattle.request.specs.Format.{devicesIn, emptyDevice, recorderAs}
+use Rattle.request.specs.Format.{devicesIn, vacantDevice, recorderAs}
 use Rattle.request.proofs.Accepted.{accepted-as, accepted-valid}
 use Rattle.request.proofs.Marks.{read-first}
 use Rattle.planner.specs.Promises.{Reads}
@@ -40,7 +40,7 @@ first-alike s = every-upTo Alike _ (byteAt s 2) (λ i l. (refl, refl, refl))
 
 held-alike : (s : List ℕ) (k : ℕ) → k < recorderAs First s .devices .count → Alike (device (recorderAs First s) k)
 unfolding recorderAs
-held-alike s k l = rw (getD-held 8 emptyDevice (devicesIn First s) k noDevice l) (every-at Alike (devicesIn First s) noDevice (first-alike s) k l)
+held-alike s k l = rw (getD-held 8 vacantDevice (devicesIn First s) k noDevice l) (every-at Alike (devicesIn First s) noDevice (first-alike s) k l)
 
 unmarked-first : (s : List ℕ) → (byteAt s 0 ≡ 255 → ⊥) → kindOf s ≡ First
 unfolding kindOf

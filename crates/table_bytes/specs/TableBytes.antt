@@ -15,7 +15,7 @@ use Rattle.tables.specs.declared.DeviceTable.{DeviceTable}
 use Rattle.tables.specs.declared.TaskTable.{TaskTable}
 use Rattle.tables.specs.declared.JobTable.{JobTable}
 use Rattle.tables.specs.declared.Tables.{Tables}
-use Rattle.tables.specs.declared.Part.the-variants.{Devices, Tasks, Jobs}
+use Rattle.tables.specs.declared.TableName.the-variants.{Devices, Tasks, Jobs}
 use Rattle.tables.specs.Records.{deviceAt, deviceSize, taskAt, jobAt}
 use Rattle.tables.specs.Layout.{devicesHeld, tasksHeld, jobsHeld, recordIn, joined}
 

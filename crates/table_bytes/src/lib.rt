@@ -13,7 +13,7 @@ use tables::DeviceTable;
 use tables::File;
 use tables::JobTable;
 use tables::Kind;
-use tables::Part;
+use tables::TableName;
 use tables::Tables;
 use tables::TaskTable;
 use tables::device_size;
@@ -175,7 +175,7 @@ pub fn bytes_of(t: Tables) -> File
     let tasks = t.tasks.count;
     let jobs = t.jobs.count;
     let first = head(kind, t.horizon, devices as u16, tasks as u16, jobs as u16);
-    let second = push_records(first, t, Part::Devices, devices);
-    let third = push_records(second, t, Part::Tasks, tasks);
-    push_records(third, t, Part::Jobs, jobs)
+    let second = push_records(first, t, TableName::Devices, devices);
+    let third = push_records(second, t, TableName::Tasks, tasks);
+    push_records(third, t, TableName::Jobs, jobs)
 }

@@ -19,8 +19,8 @@ use Rattle.tables.specs.declared.Kind.{Kind}
 use Rattle.tables.specs.declared.Kind.the-variants.{First, Second, Third}
 use Rattle.tables.specs.declared.DeviceRecord.{DeviceRecord}
 use Rattle.tables.specs.declared.Tables.{Tables}
-use Rattle.tables.specs.declared.Part.{Part}
-use Rattle.tables.specs.declared.Part.the-variants.{Devices, Tasks, Jobs}
+use Rattle.tables.specs.declared.TableName.{TableName}
+use Rattle.tables.specs.declared.TableName.the-variants.{Devices, Tasks, Jobs}
 use Rattle.tables.specs.Records.{deviceAt, deviceSize, taskAt, jobAt, deviceBytes, taskBytes, jobBytes, told, blankDevice, blankTask, blankJob}
 use Rattle.tables.specs.Layout.{marker, kindOf, bodyOf, joined, deviceIn, taskIn, jobIn, countIn, recordIn, sectionOf, layoutOf, bytesOf, devicePlace, tasksPlace, taskCount, jobsPlace, tablesAs, tablesOf, counted, Bytes}
 use Rattle.tables.specs.inside.Held.{Whole}
@@ -93,19 +93,19 @@ bytes-told Third d =
     ap (λ (l : List ℕ). d .wake ∷ pairBytes (d .pw) ++ (pairBytes (d .pwake) ++ d .levels ∷ l)) (powers-told (d .levels) (d .ps) (d .ps2) (d .ps3) (d .ps4))
 
 module _ (T : Tables) where
-  record-counted : (p : Part) (k : ℕ) → k < countIn T p → recordIn (counted T) p k ≡ recordIn T p k
+  record-counted : (p : TableName) (k : ℕ) → k < countIn T p → recordIn (counted T) p k ≡ recordIn T p k
   unfolding counted
   record-counted Devices k l = ap (deviceBytes (T .kind)) (getD-padded 8 blankDevice _ k ∙ getD-upTo _ _ k blankDevice l) ∙ bytes-told (T .kind) (deviceIn T k)
   record-counted Tasks k l = ap taskBytes (getD-padded 8 blankTask _ k ∙ getD-upTo _ _ k blankTask l)
   record-counted Jobs k l = ap jobBytes (getD-padded 16 blankJob _ k ∙ getD-upTo _ _ k blankJob l)
 
-  count-counted : (p : Part) → countIn (counted T) p ≡ countIn T p
+  count-counted : (p : TableName) → countIn (counted T) p ≡ countIn T p
   unfolding counted
   count-counted Devices = refl
   count-counted Tasks = refl
   count-counted Jobs = refl
 
-  section-counted : (p : Part) → sectionOf (counted T) p ≡ sectionOf T p
+  section-counted : (p : TableName) → sectionOf (counted T) p ≡ sectionOf T p
   unfolding sectionOf
   section-counted p = rw (count-counted p, joined-same (recordIn (counted T) p) (recordIn T p) (countIn T p) (record-counted p))
 
@@ -128,29 +128,29 @@ module _ (k : Kind) (s : List ℕ) (ok : Whole k s) (b : Bytes s) where
   T = tablesAs k s
 
   -- What each section is in the file: its records' sizes, and the places of its count and of its end.
-  abbrev sizes : Part → ℕ → ℕ
+  abbrev sizes : TableName → ℕ → ℕ
   sizes Devices at = deviceSize k s at
   sizes Tasks at = 5
   sizes Jobs at = 7
 
-  abbrev place : Part → ℕ
+  abbrev place : TableName → ℕ
   place Devices = 2
   place Tasks = tasksPlace k s
   place Jobs = jobsPlace k s
 
-  record-part : (p : Part) (n : ℕ) → n < countIn T p → recordIn T p n ≡ part s (after (sizes p) n (place p + 1)) (sizes p (after (sizes p) n (place p + 1)))
+  record-part : (p : TableName) (n : ℕ) → n < countIn T p → recordIn T p n ≡ part s (after (sizes p) n (place p + 1)) (sizes p (after (sizes p) n (place p + 1)))
   unfolding tablesAs
   record-part Devices n l = ap (deviceBytes k) (getD-padded 8 blankDevice _ n ∙ getD-upTo _ _ n blankDevice l) ∙ device-part s (devicePlace k s n) b k
   record-part Tasks n l = rw (after-even 5 n (tasksPlace k s + 1)) (ap taskBytes (getD-padded 8 blankTask _ n ∙ getD-upTo _ _ n blankTask l) ∙ task-part s (tasksPlace k s + 1 + n * 5) b)
   record-part Jobs n l = rw (after-even 7 n (jobsPlace k s + 1)) (ap jobBytes (getD-padded 16 blankJob _ n ∙ getD-upTo _ _ n blankJob l) ∙ job-part s (jobsPlace k s + 1 + n * 7) b)
 
-  count-at : (p : Part) → countIn T p ≡ byteAt s (place p)
+  count-at : (p : TableName) → countIn T p ≡ byteAt s (place p)
   unfolding tablesAs
   count-at Devices = refl
   count-at Tasks = refl
   count-at Jobs = refl
 
-  section-part : (p : Part) (to : ℕ) → after (sizes p) (byteAt s (place p)) (place p + 1) ≡ to → sectionOf T p ≡ part s (place p) (to - place p)
+  section-part : (p : TableName) (to : ℕ) → after (sizes p) (byteAt s (place p)) (place p + 1) ≡ to → sectionOf T p ≡ part s (place p) (to - place p)
   unfolding sectionOf
   section-part p to e =
       let n = byteAt s (place p) in

@@ -12,8 +12,8 @@ use Rattle.tables.specs.declared.Kind.{Kind}
 use Rattle.tables.specs.declared.Kind.the-variants.{First, Second, Third}
 use Rattle.tables.specs.declared.DeviceRecord.{DeviceRecord}
 use Rattle.tables.specs.declared.Tables.{Tables}
-use Rattle.tables.specs.declared.Part.{Part}
-use Rattle.tables.specs.declared.Part.the-variants.{Devices, Tasks, Jobs}
+use Rattle.tables.specs.declared.TableName.{TableName}
+use Rattle.tables.specs.declared.TableName.the-variants.{Devices, Tasks, Jobs}
 use Rattle.tables.specs.Records.{deviceBytes}
 use Rattle.tables.specs.Layout.{marker, deviceIn, joined, countIn, recordIn, sectionOf, layoutOf, bytesOf}
 use Rattle.tables.specs.inside.Held.{cut}
@@ -65,7 +65,7 @@ module _ (T : Tables) where
   pub length-jobs : (n : ℕ) → length (joined (recordIn T Jobs) n) ≡ n * 7
   length-jobs n = length-joined (recordIn T Jobs) 7 n (λ k l. refl)
 
-  pub length-section : (p : Part) → length (sectionOf T p) ≡ 1 + length (joined (recordIn T p) (countIn T p))
+  pub length-section : (p : TableName) → length (sectionOf T p) ≡ 1 + length (joined (recordIn T p) (countIn T p))
   unfolding sectionOf
   length-section p = omega arith
 
@@ -74,13 +74,13 @@ module _ (T : Tables) where
   length-layout = omega (arith, length-append (sectionOf T Devices) (sectionOf T Tasks ++ sectionOf T Jobs), length-append (sectionOf T Tasks) (sectionOf T Jobs))
 
 -- Tables whose counts are cut have the same records, and fewer than 18 of each.
-pub record-cut : (T : Tables) (p : Part) → recordIn (cut T) p ≡ recordIn T p
+pub record-cut : (T : Tables) (p : TableName) → recordIn (cut T) p ≡ recordIn T p
 unfolding cut
 record-cut T Devices = refl
 record-cut T Tasks = refl
 record-cut T Jobs = refl
 
-pub count-cut : (T : Tables) (p : Part) → countIn (cut T) p ≤ 17
+pub count-cut : (T : Tables) (p : TableName) → countIn (cut T) p ≤ 17
 unfolding cut
 count-cut T Devices = omega arith
 count-cut T Tasks = omega arith

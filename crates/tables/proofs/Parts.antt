@@ -14,8 +14,8 @@ use Rattle.base.specs.Refusals as Refusals
 use Rattle.base.proofs.Arrays.{upTo-same, upTo-take}
 use Rattle.base.proofs.Records.{after-more, after-from}
 use Rattle.tables.specs.declared.Tables.{Tables}
-use Rattle.tables.specs.declared.Part.{Part}
-use Rattle.tables.specs.declared.Part.the-variants.{Devices, Tasks, Jobs}
+use Rattle.tables.specs.declared.TableName.{TableName}
+use Rattle.tables.specs.declared.TableName.the-variants.{Devices, Tasks, Jobs}
 use Rattle.tables.specs.Layout.{joined, countIn, recordIn, sectionOf, layoutOf}
 use Rattle.tables.proofs.Joining.{joined-le, length-section}
 
@@ -45,22 +45,22 @@ byte-joined g (suc n) k i h l =
 -- ---- a section of the layout of tables
 
 -- What stands before it and after it, and the place of its count.
-unfoldable before : Tables → Part → List ℕ
+unfoldable before : Tables → TableName → List ℕ
 before T Devices = pairBytes (T .horizon)
 before T Tasks = pairBytes (T .horizon) ++ sectionOf T Devices
 before T Jobs = pairBytes (T .horizon) ++ (sectionOf T Devices ++ sectionOf T Tasks)
 
-unfoldable after : Tables → Part → List ℕ
+unfoldable after : Tables → TableName → List ℕ
 after T Devices = sectionOf T Tasks ++ sectionOf T Jobs
 after T Tasks = sectionOf T Jobs
 after T Jobs = []
 
-abbrev pub placeIn : Tables → Part → ℕ
+abbrev pub placeIn : Tables → TableName → ℕ
 placeIn T Devices = 2
 placeIn T Tasks = 2 + length (sectionOf T Devices)
 placeIn T Jobs = 2 + length (sectionOf T Devices) + length (sectionOf T Tasks)
 
-parted : (T : Tables) (p : Part) → layoutOf T ≡ before T p ++ (sectionOf T p ++ after T p)
+parted : (T : Tables) (p : TableName) → layoutOf T ≡ before T p ++ (sectionOf T p ++ after T p)
 unfolding layoutOf before after
 parted T Devices = refl
 parted T Tasks = refl
@@ -70,21 +70,21 @@ parted T Jobs =
     let J = sectionOf T Jobs in
     ap (λ (l : List ℕ). pairBytes (T .horizon) ++ l) (sym (append-assoc D K J) ∙ ap (λ (l : List ℕ). (D ++ K) ++ l) (sym (append-nil J)))
 
-length-before : (T : Tables) (p : Part) → length (before T p) ≡ placeIn T p
+length-before : (T : Tables) (p : TableName) → length (before T p) ≡ placeIn T p
 unfolding before
 length-before T Devices = refl
 length-before T Tasks = omega arith
 length-before T Jobs = omega (arith, length-append (sectionOf T Devices) (sectionOf T Tasks))
 
 -- Its count, and byte i of its record k.
-pub count-is : (T : Tables) (p : Part) → byteAt (layoutOf T) (placeIn T p) ≡ countIn T p
+pub count-is : (T : Tables) (p : TableName) → byteAt (layoutOf T) (placeIn T p) ≡ countIn T p
 unfolding sectionOf
 count-is T p =
     let e : placeIn T p ≡ length (before T p) + 0 = omega (arith, length-before T p) in
     rw (parted T p, e) (byte-after (before T p) (sectionOf T p ++ after T p) 0)
 
 pub record-byte :
-    (T : Tables) (p : Part) (k i : ℕ) → k < countIn T p → i < length (recordIn T p k)
+    (T : Tables) (p : TableName) (k i : ℕ) → k < countIn T p → i < length (recordIn T p k)
     → byteAt (layoutOf T) (placeIn T p + 1 + length (joined (recordIn T p) k) + i) ≡ byteAt (recordIn T p k) i
 unfolding sectionOf
 record-byte T p k i h l =
@@ -99,18 +99,18 @@ record-byte T p k i h l =
 
 -- ---- two tables that begin alike: the same horizon field and the same records
 
-pub front-long : (T : Tables) (p : Part) → placeIn T p < length (layoutOf T)
+pub front-long : (T : Tables) (p : TableName) → placeIn T p < length (layoutOf T)
 unfolding sectionOf
 front-long T p =
     rw (parted T p)
     (omega (arith, length-append (before T p) (sectionOf T p ++ after T p), length-append (sectionOf T p) (after T p), length-before T p, length-section T p))
 
-module _ (T U : Tables) (h : T .horizon ≡ U .horizon) (r : (p : Part) → recordIn T p ≡ recordIn U p) where
-  section-same : (p : Part) → countIn T p ≡ countIn U p → sectionOf T p ≡ sectionOf U p
+module _ (T U : Tables) (h : T .horizon ≡ U .horizon) (r : (p : TableName) → recordIn T p ≡ recordIn U p) where
+  section-same : (p : TableName) → countIn T p ≡ countIn U p → sectionOf T p ≡ sectionOf U p
   unfolding sectionOf
   section-same p e = rw (e, r p)
 
-  front-same : (p : Part) → before T p ≡ before U p → (i : ℕ) → i < placeIn T p → byteAt (layoutOf T) i ≡ byteAt (layoutOf U) i
+  front-same : (p : TableName) → before T p ≡ before U p → (i : ℕ) → i < placeIn T p → byteAt (layoutOf T) i ≡ byteAt (layoutOf U) i
   front-same p e i l =
       let m : i < length (before T p) = omega (arith, length-before T p) in
       rw (parted T p, parted U p, ← e)

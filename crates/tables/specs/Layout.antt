@@ -18,8 +18,8 @@ use Rattle.tables.specs.declared.TaskTable.{TaskTable}
 use Rattle.tables.specs.declared.JobRecord.{JobRecord}
 use Rattle.tables.specs.declared.JobTable.{JobTable}
 use Rattle.tables.specs.declared.Tables.{Tables}
-use Rattle.tables.specs.declared.Part.{Part}
-use Rattle.tables.specs.declared.Part.the-variants.{Devices, Tasks, Jobs}
+use Rattle.tables.specs.declared.TableName.{TableName}
+use Rattle.tables.specs.declared.TableName.the-variants.{Devices, Tasks, Jobs}
 use Rattle.tables.specs.Records.{deviceAt, deviceSize, deviceBytes, told, taskAt, taskBytes, jobAt, jobBytes, blankDevice, blankTask, blankJob}
 
 -- ---- the kind
@@ -50,12 +50,12 @@ abbrev pub jobIn : Tables → ℕ → JobRecord
 jobIn T j = getD (T .jobs .list) j blankJob
 
 -- Of each table its count, and the bytes of one record.
-abbrev pub countIn : Tables → Part → ℕ
+abbrev pub countIn : Tables → TableName → ℕ
 countIn T Devices = T .devices .count
 countIn T Tasks = T .tasks .count
 countIn T Jobs = T .jobs .count
 
-abbrev pub recordIn : Tables → Part → ℕ → List ℕ
+abbrev pub recordIn : Tables → TableName → ℕ → List ℕ
 recordIn T Devices k = deviceBytes (T .kind) (deviceIn T k)
 recordIn T Tasks i = taskBytes (taskIn T i)
 recordIn T Jobs j = jobBytes (jobIn T j)
@@ -66,7 +66,7 @@ joined g zero = []
 joined g (suc n) = joined g n ++ g n
 
 -- A count stands as it is, even where no byte holds it: such a file is refused for it.
-unfoldable pub sectionOf : Tables → Part → List ℕ
+unfoldable pub sectionOf : Tables → TableName → List ℕ
 sectionOf T p = countIn T p ∷ joined (recordIn T p) (countIn T p)
 
 unfoldable pub layoutOf : Tables → List ℕ

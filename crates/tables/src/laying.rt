@@ -13,7 +13,7 @@ use crate::File;
 use crate::JobRecord;
 use crate::JobTable;
 use crate::Kind;
-use crate::Part;
+use crate::TableName;
 use crate::Tables;
 use crate::TaskRecord;
 use crate::TaskTable;
@@ -167,21 +167,21 @@ fn job_of(t: JobTable, j: usize) -> JobRecord
     if j < 16 { t.list[j] } else { blank_job() }
 }
 
-fn push_record(f: File, t: Tables, part: Part, k: usize) -> File
+fn push_record(f: File, t: Tables, part: TableName, k: usize) -> File
     requires { ⌜ f .count + length (recordIn t part k) ≤ 297 ⌝ }
     ensures { λ r. ⌜ r ≡ appended f (recordIn t part k) ⌝ }
 {
     match part {
-        Part::Devices => {
+        TableName::Devices => {
             let kind = t.kind;
             let devices = t.devices;
             push_device(f, kind, device_of(devices, k))
         }
-        Part::Tasks => {
+        TableName::Tasks => {
             let tasks = t.tasks;
             push_task(f, task_of(tasks, k))
         }
-        Part::Jobs => {
+        TableName::Jobs => {
             let jobs = t.jobs;
             push_job(f, job_of(jobs, k))
         }
@@ -195,18 +195,18 @@ fn at_most(n: usize, limit: usize) -> usize
 }
 
 // The count of a table, as far as it matters: one above the limit stands for all above it.
-fn count_of(t: Tables, part: Part) -> usize
+fn count_of(t: Tables, part: TableName) -> usize
     ensures { λ r. ⌜ r ≡ countIn (cut t) part ⌝ }
 {
     match part {
-        Part::Devices => at_most(t.devices.count, 9),
-        Part::Tasks => at_most(t.tasks.count, 9),
-        Part::Jobs => at_most(t.jobs.count, 17),
+        TableName::Devices => at_most(t.devices.count, 9),
+        TableName::Tasks => at_most(t.tasks.count, 9),
+        TableName::Jobs => at_most(t.jobs.count, 17),
     }
 }
 
 // The first n records of a table.
-pub fn push_records(f: File, t: Tables, part: Part, n: usize) -> File
+pub fn push_records(f: File, t: Tables, part: TableName, n: usize) -> File
     requires { ⌜ f .count + length (joined (recordIn t part) n) ≤ 297 ⌝ }
     ensures { λ r. ⌜ r ≡ appended f (joined (recordIn t part) n) ⌝ }
 {
@@ -220,7 +220,7 @@ pub fn push_records(f: File, t: Tables, part: Part, n: usize) -> File
 }
 
 // A table after its count.
-fn push_section(f: File, t: Tables, part: Part) -> File
+fn push_section(f: File, t: Tables, part: TableName) -> File
     requires { ⌜ f .count + length (sectionOf (cut t) part) ≤ 297 ⌝ }
     ensures { λ r. ⌜ r ≡ appended f (sectionOf (cut t) part) ⌝ }
 {
@@ -236,7 +236,7 @@ pub fn file_of(t: Tables) -> File
     let kind = t.kind;
     let marked = push_marker(empty(), kind);
     let a = push_pair(marked, t.horizon);
-    let b = push_section(a, t, Part::Devices);
-    let c = push_section(b, t, Part::Tasks);
-    push_section(c, t, Part::Jobs)
+    let b = push_section(a, t, TableName::Devices);
+    let c = push_section(b, t, TableName::Tasks);
+    push_section(c, t, TableName::Jobs)
 }

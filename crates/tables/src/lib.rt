@@ -90,7 +90,7 @@ pub struct Tables {
 }
 
 // One of the three tables.
-pub enum Part {
+pub enum TableName {
     Devices,
     Tasks,
     Jobs,

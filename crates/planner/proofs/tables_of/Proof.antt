@@ -31,7 +31,7 @@ tables-in-requires : tie.Need-tables-in-requires
 tables-in-requires c κs = listed-whole _ _ (recorded (c .before))
 
 returns-2 : tie.Need-returns-2
-returns-2 c = rw (c .tables-in .ensures, c .before .success .ensures) (P.OfFile.read (recorded (c .before .before)) P.ListOf.listed)
+returns-2 c = rw (c .tables-in .ensures, c .before .success .ensures) (P.OfFile.read (recorded (c .before .before)) P.TablesOf.listed)
 
 pub tables-of-spec : {M : Type 1} → statement M
 tables-of-spec =

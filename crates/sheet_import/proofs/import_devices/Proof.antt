@@ -8,7 +8,7 @@ use Rattle.base.specs.Refusals.{orElse, firstThat, _⇒_}
 use Rattle.catalogue.specs.Parts.{Part, partsOf, numbers, repeated, unfit}
 use Rattle.text.specs.Grammar.{linesOf}
 use Rattle.text.proofs.Puts.{put-front}
-use Rattle.sheet.specs.declared.Rows.the-variants.{Devices}
+use Rattle.sheet.specs.declared.SheetKind.the-variants.{Devices}
 use Rattle.sheet.specs.Sheets.{linesFault}
 use Rattle.sheet.proofs.Answers.{filled-as, refused-as}
 use Rattle.sheet_import.specs.inside.Reading.{devicesRaw}

@@ -4,7 +4,7 @@ use mathlib.Core.Path.{sym, _∙_}
 use native.Mathlib.Omega.{arith}
 use lib.Seq.{length-take-le}
 use Rattle.text.proofs.Puts.{put-front}
-use Rattle.sheet.specs.declared.Rows.the-variants.{Jobs}
+use Rattle.sheet.specs.declared.SheetKind.the-variants.{Jobs}
 use Rattle.sheet.proofs.Answers.{filled-as, refused-as}
 use Rattle.sheet_import.proofs.Tables.{sound-lines}
 use Rattle.sheet_import.proofs.Outcomes.{jobs-fault, jobs-many, jobs-fine, jobs-bytes, jobs-count}

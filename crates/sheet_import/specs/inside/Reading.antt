@@ -13,8 +13,8 @@ use Rattle.catalogue.specs.Parts.{space, wellFormed, Part}
 use Rattle.text.specs.Grammar.{linesOf, unread}
 use Rattle.text.specs.Numerals.{isNumber}
 use Rattle.text.specs.inside.Cursors.{rawOf, fieldAt}
-use Rattle.sheet.specs.declared.Rows.{Rows}
-use Rattle.sheet.specs.Sheets.{layout, partIn, jobIn}
+use Rattle.sheet.specs.declared.SheetKind.{SheetKind}
+use Rattle.sheet.specs.Sheets.{columnsOf, partIn, jobIn}
 
 abbrev pub rawIn : List ℕ → List (List ℕ)
 rawIn l = Option·getD (rawOf l) []
@@ -35,9 +35,9 @@ abbrev pub lineAt : List ℕ → ℕ → List ℕ
 lineAt text k = getD (linesOf text) k []
 
 -- A line without fault: it is read, and its numbers are numbers.
-pub record Sound (r : Rows) (l : List ℕ) : Type 0 where
+pub record Sound (r : SheetKind) (l : List ℕ) : Type 0 where
   pub reads : unread (rawOf l) ≡ false
-  pub numbers : (k : ℕ) → k < 4 → isNumber (getD (layout r .most) k 0) (fieldAt (rawOf l) (layout r .texts + k)) ≡ true
+  pub numbers : (k : ℕ) → k < 4 → isNumber (getD (columnsOf r .most) k 0) (fieldAt (rawOf l) (columnsOf r .texts + k)) ≡ true
 
 abbrev pub Formed : List ℕ → Type 0
 Formed l = wellFormed (padded 8 space (fieldAt (rawOf l) 0)) ≡ true

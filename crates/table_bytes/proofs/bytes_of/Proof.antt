@@ -6,7 +6,7 @@ use Prim.Native.Nat.{_+_, _*_, _≤_}
 use native.Mathlib.Omega.{arith}
 use lib.ListN.{length, length-append}
 use Rattle.tables.specs.declared.File.{File}
-use Rattle.tables.specs.declared.Part.the-variants.{Devices, Tasks, Jobs}
+use Rattle.tables.specs.declared.TableName.the-variants.{Devices, Tasks, Jobs}
 use Rattle.tables.specs.Layout.{joined, recordIn}
 use Rattle.tables.specs.inside.Held.{held, appended}
 use Rattle.tables.proofs.Appending.{appended-more}

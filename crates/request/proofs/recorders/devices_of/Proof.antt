@@ -10,13 +10,13 @@ use Rattle.base.proofs.Arrays.{upTo-fill, length-upTo}
 use Rattle.base.proofs.Records.{after-more, after-one}
 use Rattle.tables.specs.Records.{deviceAt, deviceSize}
 use Rattle.tables.specs.Layout.{devicePlace}
-use Rattle.request.specs.Format.{deviceOf, emptyDevice}
+use Rattle.request.specs.Format.{deviceOf, vacantDevice}
 use Rattle.request.proofs.recorders.devices_of.Statement.{statement}
 use Rattle.request.proofs.recorders.devices_of.Tie as tie
 
 abbrev Inv-loop : tie.InvT-loop
 Inv-loop s kind n devices₀ at₀ k₀ devices at k =
-    (k ≤ n) × (at ≡ devicePlace kind s k) × (devices ≡ record { count = 0; list = padded 8 emptyDevice (upTo (λ x. deviceOf (deviceAt kind s (devicePlace kind s x))) k) })
+    (k ≤ n) × (at ≡ devicePlace kind s k) × (devices ≡ record { count = 0; list = padded 8 vacantDevice (upTo (λ x. deviceOf (deviceAt kind s (devicePlace kind s x))) k) })
 
 abbrev μ-loop : tie.MeasureT-loop
 μ-loop s kind n devices₀ at₀ k₀ devices at k = n - k
@@ -64,7 +64,7 @@ loop-again c =
     let a = c .before .before .before .before .before .before .before .args in (
       omega arith,
       rw (c .device-size .ensures, l .inv .1, add-one (l .k)) (sym (after-more (deviceSize (a .kind) (a .s .now)) (l .k) 3)),
-      rw (c .before .device-of .ensures, c .before .before .device-at .ensures, l .inv .2, l .inv .1, upTo-fill 8 emptyDevice (λ (x : ℕ). deviceOf (deviceAt (a .kind) (a .s .now) (devicePlace (a .kind) (a .s .now) x))) (l .k) (omega arith)),
+      rw (c .before .device-of .ensures, c .before .before .device-at .ensures, l .inv .2, l .inv .1, upTo-fill 8 vacantDevice (λ (x : ℕ). deviceOf (deviceAt (a .kind) (a .s .now) (devicePlace (a .kind) (a .s .now) x))) (l .k) (omega arith)),
     )
 
 returns : tie.Need-returns Inv-loop μ-loop

@@ -4,7 +4,7 @@ use mathlib.Core.Path.{sym, _∙_}
 use native.Mathlib.Omega.{arith}
 use Rattle.base.proofs.Paths.{paths}
 use Rattle.text.specs.Grammar.{linesOf}
-use Rattle.sheet.specs.declared.Rows.the-variants.{Devices}
+use Rattle.sheet.specs.declared.SheetKind.the-variants.{Devices}
 use Rattle.sheet_import.proofs.Tables.{sound-lines, unfit-many, unfit-few}
 use borrow.Author.Needs.{needs}
 use Rattle.sheet_import.proofs.judging.devices_fault.Statement.{statement}

@@ -6,7 +6,7 @@ use Prim.Native.Nat.{ℕ, _+_, _-_, _≤_}
 use native.Mathlib.Omega.{arith}
 use lib.ListN.{drop, getD}
 use Rattle.text.specs.inside.Cursors.{numberOf}
-use Rattle.sheet.specs.Sheets.{layout, areNumbers}
+use Rattle.sheet.specs.Sheets.{columnsOf, areNumbers}
 use Rattle.sheet_import.specs.inside.Reading.{rawIn}
 use Rattle.sheet_import.proofs.Faults.{few-texts, number-fails, number-passes, numbers-done}
 use borrow.Author.Needs.{needs}
@@ -14,7 +14,7 @@ use Rattle.sheet_import.proofs.lines.are_numbers.Statement.{statement}
 use Rattle.sheet_import.proofs.lines.are_numbers.Tie as tie
 
 abbrev Inv-loop : tie.InvT-loop
-Inv-loop line rows first k₀ k = (k ≤ 4) × (areNumbers (layout rows .most) (drop (layout rows .texts) (rawIn line)) ≡ areNumbers (drop k (layout rows .most)) (drop (layout rows .texts + k) (rawIn line)))
+Inv-loop line rows first k₀ k = (k ≤ 4) × (areNumbers (columnsOf rows .most) (drop (columnsOf rows .texts) (rawIn line)) ≡ areNumbers (drop k (columnsOf rows .most)) (drop (columnsOf rows .texts + k) (rawIn line)))
 
 abbrev μ-loop : tie.MeasureT-loop
 μ-loop line rows first k₀ k = 4 - k
@@ -25,8 +25,8 @@ texts-requires c κs = search needs
 loop-holds : tie.Need-loop-holds Inv-loop μ-loop
 loop-holds c =
     let a = c .before .before .args in
-    let none : layout (a .rows) .texts ≡ layout (a .rows) .texts + 0 = omega arith in
-    (omega arith, ap (λ (x : ℕ). areNumbers (layout (a .rows) .most) (drop x (rawIn (a .line .now)))) none)
+    let none : columnsOf (a .rows) .texts ≡ columnsOf (a .rows) .texts + 0 = omega arith in
+    (omega arith, ap (λ (x : ℕ). areNumbers (columnsOf (a .rows) .most) (drop x (rawIn (a .line .now)))) none)
 
 most-requires : tie.Need-most-requires Inv-loop μ-loop
 most-requires c κs = search needs
@@ -46,8 +46,8 @@ returns c =
     let a = c .before .before .before .before .before .before .before .before .args in
     let fs = rawIn (a .line .now) in
     let first = c .before .before .before .before .before .before .texts .ensures in
-    let place : c .before .before .before .before .before .before .texts .result + l .k ≡ layout (a .rows) .texts + l .k = ap (λ (x : ℕ). x + l .k) first in
-    let number : c .before .number-of .result ≡ numberOf (getD fs (layout (a .rows) .texts + l .k) []) =
+    let place : c .before .before .before .before .before .before .texts .result + l .k ≡ columnsOf (a .rows) .texts + l .k = ap (λ (x : ℕ). x + l .k) first in
+    let number : c .before .number-of .result ≡ numberOf (getD fs (columnsOf (a .rows) .texts + l .k) []) =
     c .before .number-of .ensures ∙ ap numberOf (c .before .before .field .ensures ∙ ap (λ (x : ℕ). getD fs x []) place) in
     let bound = c .before .before .before .most .ensures in
     sym (l .inv .1 ∙ number-fails (a .rows) fs (l .k) (omega arith) (omega arith))
@@ -64,8 +64,8 @@ loop-again c =
     let a = c .before .before .before .before .before .before .before .before .args in
     let fs = rawIn (a .line .now) in
     let first = c .before .before .before .before .before .before .texts .ensures in
-    let place : c .before .before .before .before .before .before .texts .result + l .k ≡ layout (a .rows) .texts + l .k = ap (λ (x : ℕ). x + l .k) first in
-    let number : c .before .number-of .result ≡ numberOf (getD fs (layout (a .rows) .texts + l .k) []) =
+    let place : c .before .before .before .before .before .before .texts .result + l .k ≡ columnsOf (a .rows) .texts + l .k = ap (λ (x : ℕ). x + l .k) first in
+    let number : c .before .number-of .result ≡ numberOf (getD fs (columnsOf (a .rows) .texts + l .k) []) =
     c .before .number-of .ensures ∙ ap numberOf (c .before .before .field .ensures ∙ ap (λ (x : ℕ). getD fs x []) place) in
     let bound = c .before .before .before .most .ensures in
     (omega arith, l .inv .1 ∙ number-passes (a .rows) fs (l .k) (omega arith) (omega arith))

@@ -7,7 +7,7 @@ use Prim.Native.Nat.{_+_, _≤_}
 use native.Mathlib.Omega.{arith}
 use lib.ListN.{length}
 use Rattle.tables.specs.declared.File.{File}
-use Rattle.tables.specs.declared.Part.the-variants.{Devices, Tasks, Jobs}
+use Rattle.tables.specs.declared.TableName.the-variants.{Devices, Tasks, Jobs}
 use Rattle.base.specs.Bytes.{pairBytes}
 use Rattle.tables.specs.Layout.{marker, sectionOf, layoutOf, bytesOf}
 use Rattle.tables.specs.inside.Held.{cut, held, appended}

@@ -8,7 +8,7 @@ use lib.ListN.{length, length-append}
 use Rattle.tables.specs.inside.Held.{appended}
 use Rattle.tables.specs.declared.File.{File}
 use Rattle.tables.specs.declared.Tables.{Tables}
-use Rattle.tables.specs.declared.Part.{Part}
+use Rattle.tables.specs.declared.TableName.{TableName}
 use Rattle.tables.specs.Layout.{joined, recordIn}
 use Rattle.tables.proofs.Appending.{appended-count, appended-more}
 use Rattle.tables.proofs.Joining.{joined-more, joined-le}
@@ -23,7 +23,7 @@ abbrev μ-loop : tie.MeasureT-loop
 
 -- The next record has room in what all of them ask for.
 fits :
-    (T : Tables) (p : Part) (f : File) (n k : ℕ) (out : File) → out ≡ appended f (joined (recordIn T p) k) → k < n
+    (T : Tables) (p : TableName) (f : File) (n k : ℕ) (out : File) → out ≡ appended f (joined (recordIn T p) k) → k < n
     → f .count + length (joined (recordIn T p) n) ≤ 297 → out .count + length (recordIn T p k) ≤ 297
 fits T p f n k out o l room =
     let g = recordIn T p in
