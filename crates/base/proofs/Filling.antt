@@ -1,6 +1,5 @@
 -- A lent list that is written from left to right, whatever its elements are: the first places hold what was written, and the rest stand as they did.
 -- It grows by a place that is stored, by a part that is lent and comes back written, or by a rest that was handed on and written in its turn.
--- Assumes nothing.
 use mathlib.Core.Path.{_≡_, refl, ap, _∙_}
 use mathlib.Core.List.{List, [], _∷_, _++_, append-assoc, append-nil}
 use Prim.Native.Nat.{ℕ, suc, _+_, _-_, _<_, _≤_}

@@ -1,5 +1,4 @@
 -- No second outcome satisfies what a call promises: for every input each of the four relations has one number, and one state of every buffer.
--- Assumes nothing.
 use mathlib.Core.Path.{_≡_, refl, sym, ap, _∙_}
 use mathlib.Core.List.{List, _++_}
 use Prim.Native.Nat.{ℕ, _*_}

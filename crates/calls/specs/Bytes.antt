@@ -1,5 +1,4 @@
 -- Numbers as bytes, the high byte first (rule 70).
--- Assumes nothing.
 use mathlib.Core.List.{List, [], _∷_, _++_}
 use Prim.Native.Nat.{ℕ, zero, suc, _*_, _/_, _%_}
 use Rattle.base.specs.Bytes.{pairAt}

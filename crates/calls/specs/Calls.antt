@@ -1,6 +1,5 @@
 -- What a C program gets (rules 70 to 74): for each call one relation between its buffers and its complete outcome, the number returned and every buffer after
 -- it. What is planned stands in the planner's promises; here is how it crosses. proofs/Only: each relation has one outcome for every input.
--- Assumes nothing.
 use mathlib.Core.Path.{_≡_}
 use mathlib.Core.Bool.{cond}
 use mathlib.Core.List.{List, _++_}

@@ -1,5 +1,4 @@
 -- No second outcome satisfies what `floe_first` promises: for every input one number, and one state of both buffers.
--- Assumes nothing.
 use mathlib.Core.Path.{_≡_}
 use mathlib.Core.List.{List}
 use Prim.Native.Nat.{ℕ}

@@ -1,6 +1,5 @@
 -- What a C program gets from `floe_first` (rule 115): as calls/specs/Calls has it of the search, with the promise of `first_plan` in the place of the search's.
 -- proofs/Only: it has one outcome for every input.
--- Assumes nothing.
 use mathlib.Core.List.{List}
 use Prim.Native.Nat.{ℕ}
 use Rattle.first.specs.Promises.{FirstOf}

@@ -1,6 +1,5 @@
 -- No second outcome satisfies what `floe_least` promises, but for 20: two outcomes that are no 20 have one number and one state of both buffers, whatever the memories
 -- and the budgets; and so have two that are 20 with one budget.
--- Assumes nothing.
 use mathlib.Core.Path.{_≡_}
 use mathlib.Core.List.{List}
 use Prim.Native.Nat.{ℕ}

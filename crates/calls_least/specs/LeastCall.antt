@@ -1,6 +1,5 @@
 -- What a C program gets from `floe_least`: as calls/specs/Calls has it of the search, with the promise of `least_plan` in the place of the search's. The lent memory
 -- is not spoken of: it may hold anything before and after. proofs/Only: it has one outcome for every input, but for 20.
--- Assumes nothing.
 use mathlib.Core.List.{List}
 use Prim.Native.Nat.{ℕ}
 use Rattle.calls.specs.Calls.{StartsCalled}

@@ -1,18 +1,17 @@
 -- Laws of looking up: what is found has the eight bytes asked for; where no number is repeated it is the only one; a part that is not wanted plays no part.
--- Assumes nothing.
-use mathlib.Core.Path.{_≡_, refl, sym, ap, subst, _∙_}
-use mathlib.Core.Bool.{Bool, true, false, not, cond, _&&_, _||_, true≢false}
+use mathlib.Core.Path.{_≡_, refl, sym, subst, _∙_}
+use mathlib.Core.Bool.{Bool, true, false, not, _||_, true≢false}
 use mathlib.Core.List.{List, [], _∷_, _++_, map}
-use mathlib.Core.Logic.{_⊎_, inl, inr, ⊎-elim}
-use Prim.Native.Nat.{ℕ, zero, suc, _+_, _<_, _≤_}
+use mathlib.Core.Logic.{inl, inr}
+use Prim.Native.Nat.{ℕ, _≤_}
 use native.Mathlib.Omega.{arith}
 use lib.ListN.{length}
 use lib.Dec.{ltb}
-use borrow.Author.Tests.{not-false, not-true, ltb-false, le-ltb}
+use borrow.Author.Tests.{not-false, ltb-false, le-ltb}
 use Rattle.base.proofs.Cases.{cond-cases, test-cases, both, neither}
-use Rattle.base.specs.Lists.{all, one}
+use Rattle.base.specs.Lists.{all}
 use Rattle.base.specs.Bytes.{same}
-use Rattle.base.proofs.Comparing.{same-true, same-self, same-only}
+use Rattle.base.proofs.Comparing.{same-true, same-self}
 use Rattle.catalogue.specs.Parts.{has, wellFormed, malformed, repeated, Part, numbers, whole, unfit, lacking, Has, LookedUp, recordOf}
 use Rattle.catalogue.specs.Parts as Parts
 

@@ -1,5 +1,4 @@
 -- 22, number by number; and the record that is looked up.
--- Assumes nothing.
 use mathlib.Core.Path.{_≡_}
 use mathlib.Core.Bool.{true, false}
 use mathlib.Core.List.{List, [], _∷_}

@@ -1,9 +1,8 @@
 -- No second outcome satisfies `Built`, since none satisfies the writer's promise. What a function that works it out has to show. A part that is not wanted does
 -- not change the outcome.
--- Assumes nothing.
 use mathlib.Core.Path.{_≡_, refl, sym, subst, _∙_}
 use mathlib.Core.Bool.{Bool, true, false, true≢false}
-use mathlib.Core.List.{List, [], _∷_, _++_, map}
+use mathlib.Core.List.{List, _∷_, _++_, map}
 use Prim.Native.Nat.{ℕ}
 use Rattle.tables.specs.declared.Kind.the-variants.{First}
 use Rattle.tables.specs.declared.DeviceTable.{DeviceTable}

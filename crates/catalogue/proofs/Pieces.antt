@@ -1,5 +1,4 @@
 -- The pieces of lent bytes by place, as a slice has them; and 21, 22 and 23 of whole pieces, by what is at each place.
--- Assumes nothing.
 use mathlib.Core.Path.{_≡_, refl, sym, ap, subst, _∙_}
 use mathlib.Core.Bool.{true, false, true≢false}
 use mathlib.Core.List.{List, [], _∷_, map, map-append}

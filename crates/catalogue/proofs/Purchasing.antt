@@ -1,10 +1,9 @@
 -- What a buyer is told by a file that was built: it is accepted, it has a device for each wanted part, and that device is the catalogue's record of the part.
--- Assumes nothing.
 use mathlib.Core.Path.{_≡_, refl, ap, _∙_}
-use mathlib.Core.List.{List, [], _∷_, map}
-use Prim.Native.Nat.{ℕ, zero, suc, _≤_, _<_}
+use mathlib.Core.List.{List, [], map}
+use Prim.Native.Nat.{ℕ, zero, suc, _<_}
 use native.Mathlib.Omega.{arith}
-use lib.ListN.{length, take, getD, length-map, length-take, List·getD-map}
+use lib.ListN.{length, take, getD, List·getD-map}
 use lib.Seq.{getD-take}
 use Rattle.base.proofs.Arrays.{getD-padded}
 use Rattle.base.specs.Bytes.{pieces}

@@ -1,5 +1,4 @@
 -- A loop over bytes, from the front on: what its test finds at place i, and what is then left.
--- Assumes nothing.
 use mathlib.Core.Path.{_≡_, refl, sym}
 use mathlib.Core.Bool.{true, false}
 use mathlib.Core.List.{List, [], _∷_, _++_}

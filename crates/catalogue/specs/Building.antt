@@ -1,6 +1,5 @@
 -- What `build` promises: a request file from part numbers, the other sections being given (rules 57 and 58). 21 before 22 before 23, each over the whole, and
 -- all before whatever the planner's writer says of the records that are looked up: `Written` is cited, and not opened.
--- Assumes nothing.
 use mathlib.Core.Path.{_≡_}
 use mathlib.Core.Bool.{true, false}
 use mathlib.Core.List.{List, map}

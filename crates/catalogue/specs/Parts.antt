@@ -1,5 +1,4 @@
 -- The catalogue: its parts and their numbers, what refuses it or a wanted number (21, 22, 23), and what is looked up in it (rules 55 to 58).
--- Assumes nothing.
 use mathlib.Core.Path.{_≡_}
 use mathlib.Core.Bool.{Bool, false, not, cond, _&&_, _||_}
 use mathlib.Core.List.{List, [], _∷_, map}

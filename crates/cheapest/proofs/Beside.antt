@@ -1,5 +1,4 @@
 -- `least_plan` beside `search`, by their promises alone: where neither is given up they have the same answer, but for the count of vertices, and the same starts.
--- Assumes nothing.
 use mathlib.Core.Path.{_≡_, refl}
 use mathlib.Core.List.{List}
 use Prim.Native.Nat.{ℕ}

@@ -1,5 +1,4 @@
 -- How `least_plan` ends: by the table of latest times, by the budget, or with the schedule that is read off.
--- Assumes nothing.
 use mathlib.Core.Path.{_≡_, sym}
 use mathlib.Core.Bool.{Bool, true, false, true≢false}
 use mathlib.Core.List.{List, _++_}

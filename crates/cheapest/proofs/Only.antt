@@ -1,6 +1,5 @@
 -- No second outcome satisfies the promise of `least_plan`, but for its 20: of one file and one lent list all outcomes that are no 20 are the same, also with two
 -- memories, which the promise does not name, or with two budgets; and two outcomes of 20 with one budget are the same.
--- Assumes nothing.
 use mathlib.Core.Path.{_≡_, refl, sym, _∙_, subst}
 use mathlib.Core.Logic.{_↔_}
 use mathlib.Core.List.{List, _++_}

@@ -1,6 +1,5 @@
 -- What `least_plan` promises: a case for each of its refusals after the file's, in their order, and one for success. Its 20 may depend on the memory that is lent,
 -- and no other outcome does: proofs/Only says that all others are one for every file and every lent list, whatever the memory and the budget.
--- Assumes nothing.
 use mathlib.Core.List.{List, _++_}
 use Prim.Native.Nat.{ℕ, _≤_, _<_}
 use lib.ListN.{length, drop}

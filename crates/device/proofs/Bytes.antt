@@ -1,5 +1,4 @@
 -- Rows as bytes: those of a gap, and what a buffer holds as run by run, gap by gap and use by use they are written at the front of what is left.
--- Assumes nothing.
 use mathlib.Core.Path.{_≡_, refl, sym, ap, _∙_}
 use mathlib.Core.Bool.{Bool, false}
 use mathlib.Core.List.{List, [], _∷_, _++_, append-assoc, append-nil, map, map-append}
@@ -8,7 +7,7 @@ use native.Mathlib.Nat.{zero-sub, sub-zero, sub-self, suc-sub-suc}
 use native.Mathlib.Omega.{arith}
 use borrow.Rule.Slice.PartMut.{putMid}
 use lib.ListN.{length, length-map, length-drop, length-append, length-replicate, replicate, take, drop}
-use lib.Seq.{take-all, take-nil, drop-nil, drop-at, drop-drop, length-take-le}
+use lib.Seq.{take-nil, drop-nil, drop-at, drop-drop, length-take-le}
 use Rattle.base.proofs.Filling.{Filled, filled-tail}
 use Rattle.device.specs.declared.Device.{Device}
 use Rattle.device.specs.declared.Uses.{Uses}

@@ -1,5 +1,4 @@
 -- The level chosen for a gap, and the gap's row by it: its length, its energy as a number, and between which bounds this lies. In the words of specs/Row.
--- Assumes nothing.
 use mathlib.Core.Path.{_≡_, refl, ap, subst}
 use mathlib.Core.Bool.{Bool, true, false, cond, _&&_}
 use mathlib.Core.List.{[]}

@@ -1,5 +1,4 @@
 -- No tick costs less than one at the deepest level, and no other letter costs as little. So a device that is never used stays there for ever (rule 88).
--- Assumes nothing.
 use mathlib.Core.Path.{_≡_, ap}
 use mathlib.Core.Logic.{⊎-elim}
 use Prim.Native.Nat.{ℕ, _≤_, _<_}

@@ -1,6 +1,5 @@
 -- The facts that others cite, in the words of specs/Row: the row by the rule for gaps is the row given, and the only one, by either rule; what each job placed adds
 -- to a row and to its energy; and in a round what the gap over the seam adds.
--- Assumes nothing.
 use mathlib.Core.Path.{_≡_, sym, ap, _∙_}
 use mathlib.Core.Bool.{Bool, true, false}
 use mathlib.Core.List.{List, [], _∷_, _++_, append-assoc, append-nil}

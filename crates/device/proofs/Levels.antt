@@ -1,6 +1,5 @@
 -- The device of specs/Row, with any number of sleep levels and with times and powers of its own for going down and coming up: every filling of a gap is a walk over
 -- the levels, so that the gap's row is the best filling.
--- Assumes nothing.
 use mathlib.Core.Path.{_≡_, refl, sym, ap, subst}
 use mathlib.Core.List.{List, [], _∷_, _++_, append-nil, append-assoc}
 use Prim.Native.Nat.{ℕ, zero, suc, _+_, _-_, _*_, _≤_, _<_}

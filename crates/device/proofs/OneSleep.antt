@@ -1,5 +1,4 @@
 -- The legal rows of a device that has one sleep and equal moves, said without levels, step by step; and the law that specs/Row accepts exactly these rows.
--- Assumes nothing.
 use mathlib.Core.Path.{_≡_, refl, sym, subst}
 use mathlib.Core.Bool.{Bool, true, false}
 use mathlib.Core.List.{List, [], _∷_}

@@ -1,6 +1,5 @@
 -- Rows without a seam (rule 86), over any machine: a row that is legal repeated for ever. With a use in it, it is the row of the pattern that begins after that
 -- use, turned back.
--- Assumes nothing.
 use mathlib.Core.Path.{_≡_, refl, sym, ap, _∙_, subst}
 use mathlib.Core.Bool.{Bool, true, false}
 use mathlib.Core.List.{List, [], _∷_, _++_, append-nil}

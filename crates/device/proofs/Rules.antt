@@ -1,5 +1,4 @@
 -- Rule 38 in its own words: for a device with one sleep level, and for one of rule 3. And rule 88: a device that a round never uses.
--- Assumes nothing.
 use mathlib.Core.Path.{_≡_, refl, sym, ap, _∙_}
 use mathlib.Core.Bool.{Bool, true, false, cond, _&&_, true≢false}
 use mathlib.Core.List.{List, [], _∷_, _++_, append-nil}
@@ -9,9 +8,9 @@ use native.Mathlib.Omega.{arith}
 use lib.Dec.{leb, ltb}
 use lib.ListN.{replicate}
 use borrow.Author.Tests.{leb-true, ltb-true, le-leb, lt-ltb}
-use Rattle.base.proofs.Additions.{total-append, total-replicate}
+use Rattle.base.proofs.Additions.{total-replicate}
 use Rattle.device.specs.declared.Device.{Device}
-use Rattle.device.specs.Row.{powerAt, deep, Sound, Letter, at, D, U, W, power, energy, moved, LeastRow, trip, depth, gapRow}
+use Rattle.device.specs.Row.{powerAt, deep, Sound, Letter, at, D, U, W, power, energy, LeastRow, trip, depth, gapRow}
 use Rattle.device.proofs.Chosen.{Shallowest, chosen}
 use Rattle.device.proofs.Least.{least-is-row, row-gap, round-never}
 

@@ -1,7 +1,6 @@
 -- The rows of a device (docs/RULES.md, rules 30 to 38, 82 and 85 to 88): the letters, the legal rows by either rule, their energy, the row given, and the rule for gaps.
 -- The declared `Device` is general. `shut` and `wake` are the ticks of a move down and of one up, by one level; `pd` and `pu` are their powers; `pw` is the power
 -- at work, and `powers` has those of the `levels` sleep levels, the shallowest first. A device of rule 3 has T and P0 for both moves and one level, of power Ps.
--- Assumes nothing.
 use mathlib.Core.Path.{_≡_}
 use mathlib.Core.Bool.{Bool, true, false, cond, _&&_}
 use mathlib.Core.List.{List, [], _∷_, _++_}

@@ -1,5 +1,4 @@
 -- No second outcome satisfies what a door promises: for every input one number, and one state of every lent byte.
--- Assumes nothing.
 use mathlib.Core.Path.{_≡_, refl, ap, _∙_}
 use mathlib.Core.List.{List, _++_}
 use Prim.Native.Nat.{ℕ, _*_}

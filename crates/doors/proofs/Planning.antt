@@ -1,5 +1,4 @@
 -- The sheet of a plan for more start times than a file can have jobs: it is refused, however many they are.
--- Assumes nothing.
 use mathlib.Core.Path.{_≡_}
 use mathlib.Core.List.{List}
 use Prim.Native.Nat.{ℕ, _<_}

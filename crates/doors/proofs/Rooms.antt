@@ -1,11 +1,10 @@
 -- The operations fill places of the door's own, no more than a file can need: what they answer is what they would with as many as the lent bytes have room for.
--- Assumes nothing.
 use mathlib.Core.Path.{_≡_, refl, sym, ap, subst, _∙_}
 use mathlib.Core.List.{List, _++_}
 use Prim.Native.Nat.{ℕ, _*_, _/_, _≤_, _<_, min}
 use native.Mathlib.Omega.{arith}
 use lib.IntN.{ℤ, pos}
-use lib.ListN.{length, getD, take, drop, replicate, length-replicate, length-append, List·getD-append}
+use lib.ListN.{length, getD, take, drop, length-replicate, length-append, List·getD-append}
 use lib.Seq.{take-at}
 use Rattle.base.specs.Lists.{upTo}
 use Rattle.base.proofs.Arrays.{length-upTo}

@@ -1,5 +1,4 @@
 -- A signed number of 32 bits as an unsigned one: a negative one by its two's complement.
--- Assumes nothing.
 use mathlib.Core.Path.{_≡_, refl}
 use mathlib.Core.Bool.{true, false, true≢false}
 use native.Mathlib.Omega.{arith}

@@ -1,5 +1,4 @@
 -- Stepping fills places of the door's own, no more than a file can have devices: what is answered is what would be with as many as the lent bytes have room for.
--- Assumes nothing.
 use mathlib.Core.Path.{_≡_, refl, sym, ap, subst, _∙_}
 use mathlib.Core.List.{List, _++_}
 use Prim.Native.Nat.{ℕ, _*_, _/_, _≤_, _<_, min}

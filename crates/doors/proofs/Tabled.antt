@@ -1,5 +1,4 @@
 -- The tables of a file fit their lists, and their bytes are copied whole.
--- Assumes nothing.
 use mathlib.Core.Path.{_≡_, refl, ap, _∙_}
 use mathlib.Core.Bool.{Bool, true, false, cond}
 use mathlib.Core.List.{List, _++_}

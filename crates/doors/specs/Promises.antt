@@ -1,6 +1,5 @@
 -- What the doors promise: for each its complete outcome, the number returned and every lent byte after it. What is answered stands in the promise of the
 -- operation; here is to what a door opens, and how its bytes cross. proofs/Only: each door has one outcome for every input.
--- Assumes nothing.
 use mathlib.Core.Path.{_≡_}
 use mathlib.Core.List.{List, _++_}
 use Prim.Native.Nat.{ℕ, suc, _-_, _*_, _/_, _≤_, _<_}

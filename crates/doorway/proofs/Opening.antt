@@ -1,5 +1,4 @@
 -- Laws of every door: no second outcome, and start times of which no more are handed on than decide the answer.
--- Assumes nothing.
 use mathlib.Core.Path.{_≡_, refl, sym, ap, subst, _∙_}
 use mathlib.Core.Bool.{Bool, true, false}
 use mathlib.Core.List.{List, _++_}
@@ -18,7 +17,7 @@ use Rattle.request.specs.declared.Request.{Request}
 use Rattle.request.specs.Format.{readOf, handedOn}
 use Rattle.request.proofs.Accepted.{accepted-valid, refused-number}
 use Rattle.planner.specs.declared.Answer.{Answer}
-use Rattle.planner.specs.Promises.{Reads, OfFile, refused, read, VerdictOf, Judged, MarginsOf, Margined}
+use Rattle.planner.specs.Promises.{Reads, OfFile, refused, read, VerdictOf, Judged, MarginsOf}
 use Rattle.planner.specs.Promises as P
 use Rattle.planner.proofs.Only.{same-recorder, not-both}
 use Rattle.calls.specs.Bytes.{spread, startsIn}

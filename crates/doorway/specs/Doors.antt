@@ -1,6 +1,5 @@
 -- What every door does (rule 74): it hands bytes to an operation and its answer back, as a call from C does, or it is shut. What is answered stands in the
 -- promise of the operation; each door says which, and to what bytes it opens. proofs/Opening: a door has one outcome for every input if its operation has.
--- Assumes nothing.
 use mathlib.Core.Path.{_≡_}
 use mathlib.Core.Bool.{Bool, true, false}
 use mathlib.Core.List.{List, _++_}

@@ -1,5 +1,4 @@
 -- The table laid one number after the other: gap by gap, then cap, rise and fall of the device, and device by device.
--- Assumes nothing.
 use mathlib.Core.Path.{_≡_, refl, sym, _∙_, subst}
 use mathlib.Core.Bool.{true, false}
 use mathlib.Core.List.{List}

@@ -1,6 +1,6 @@
 -- For callers that lay tables out: tables whose counts are cut at one above the limits are refused at the place at which they are uncut.
 use mathlib.Core.Path.{_≡_, refl, sym, ap, _∙_}
-use mathlib.Core.Bool.{Bool, true, false, cond, not, _||_}
+use mathlib.Core.Bool.{Bool, true, false, cond}
 use mathlib.Core.List.{List}
 use mathlib.Core.Logic.{⊎-elim}
 use Prim.Native.Nat.{ℕ, zero, suc, _+_, _*_, _<_, _≤_}
@@ -23,7 +23,7 @@ use Rattle.tables.proofs.Back.{read-horizon, tasks-place, jobs-place}
 use Rattle.tables.proofs.Joining.{record-cut, length-layout, length-section}
 use Rattle.tables.proofs.Parts.{placeIn, count-is, front-long, tasks-front, jobs-front, tasks-at-same, jobs-at-same}
 use Rattle.request.specs.declared.Section.{Section}
-use Rattle.request.specs.declared.Section.the-variants.{DeviceRecords, TaskRecords, JobRecords}
+use Rattle.request.specs.declared.Section.the-variants.{DeviceRecords, TaskRecords}
 use Rattle.request.specs.Format.{sizeOf, horizonOf, mixed, countOf}
 use Rattle.request.proofs.Alike.{Alike, size-same, record-same}
 use Rattle.request.proofs.Cutting.{or-true, manyJobs, cut-same}

@@ -1,5 +1,5 @@
 -- No second outcome satisfies what `fault_of` promises: for every file one number, one place and its bytes. And what is told agrees with `readOf`.
-use mathlib.Core.Path.{_≡_, refl, sym, ap, _∙_}
+use mathlib.Core.Path.{_≡_, refl, sym, _∙_}
 use mathlib.Core.List.{List}
 use Prim.Native.Nat.{ℕ}
 use native.Mathlib.Omega.{arith}

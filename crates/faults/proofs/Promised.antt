@@ -3,12 +3,12 @@ use mathlib.Core.Path.{_≡_, refl, sym, ap, subst, _∙_}
 use mathlib.Core.Bool.{Bool, true, false, cond}
 use mathlib.Core.List.{List, [], _∷_, _++_}
 use mathlib.Core.Logic.{⊎-elim}
-use Prim.Native.Nat.{ℕ, zero, suc, _+_, _*_, _<_, _≤_}
+use Prim.Native.Nat.{ℕ, zero, suc, _+_, _*_, _<_}
 use native.Mathlib.Omega.{arith}
 use native.Mathlib.Nat.{eq-zero-or-pos}
 use lib.ListN.{length}
 use lib.Dec.{T, ltb, leb, eqb}
-use borrow.Author.Tests.{eq-eqb, ne-eqb, eqb-true, eqb-false, lt-ltb, ltb-true}
+use borrow.Author.Tests.{ne-eqb, eqb-true, eqb-false, lt-ltb, ltb-true}
 use Rattle.base.specs.Bytes.{byteAt, pairAt}
 use Rattle.base.specs.Lists.{upTo}
 use Rattle.base.specs.Refusals.{Refusal, _⇒_, firstThat, orElse, after}
@@ -20,7 +20,7 @@ use Rattle.tables.specs.declared.Kind.{Kind}
 use Rattle.tables.specs.Layout.{marker, devicePlace, tasksPlace, taskCount, jobsPlace}
 use Rattle.request.specs.declared.Section.{Section}
 use Rattle.request.specs.declared.Section.the-variants.{DeviceRecords, TaskRecords, JobRecords}
-use Rattle.request.specs.Format.{sizeOf, recordsFault, horizonOf, mixed, countOf, jobRecords, jobSection, taskSection, faultAs, readAs, refused}
+use Rattle.request.specs.Format.{sizeOf, recordsFault, horizonOf, mixed, countOf, jobRecords, jobSection, taskSection, faultAs, refused}
 use Rattle.request.proofs.Faultless.{read-faultless, read-fault}
 use Rattle.faults.specs.declared.Place.the-variants.{Horizon, DeviceCount, TaskCount, JobCount, End}
 use Rattle.faults.specs.declared.PlaceFault.{PlaceFault}

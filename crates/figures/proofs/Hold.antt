@@ -1,5 +1,4 @@
 -- The table of figures holds: each case is computed by the checker from the definitions.
--- Assumes nothing.
 use mathlib.Core.Path.{_≡_, refl}
 use mathlib.Core.List.{List, [], _∷_}
 use mathlib.Core.Logic.{inl, inr}

@@ -1,5 +1,4 @@
 -- The greedy run gives the first of all feasible schedules, and stands in the lent list as it does.
--- Assumes nothing.
 use mathlib.Core.Path.{_≡_, refl, sym, ap, _∙_, subst}
 use mathlib.Core.List.{List, [], _∷_, _++_}
 use mathlib.Core.Logic.{inl, inr, ⊎-elim, by-cases}

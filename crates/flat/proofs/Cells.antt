@@ -1,5 +1,4 @@
 -- The recorder laid flat: which cell holds what, and that the recorder read back is the one that was laid.
--- Assumes nothing.
 use mathlib.Core.Path.{_≡_, refl, sym, ap, _∙_}
 use mathlib.Core.Bool.{Bool, true, false, cond}
 use mathlib.Core.List.{List, [], _∷_}

@@ -1,5 +1,4 @@
 -- The costs of gaps, laid one after the other: gap by gap for one device, and device by device.
--- Assumes nothing.
 use mathlib.Core.Path.{_≡_, refl, _∙_}
 use mathlib.Core.List.{List}
 use mathlib.Core.Logic.{⊎-elim}

@@ -1,5 +1,4 @@
 -- What owning a recorder tells of it and its type does not: how long each of its lists is, and which of its numbers are bytes.
--- Assumes nothing.
 use mathlib.Core.Path.{_≡_, sym, _∙_}
 use mathlib.Core.List.{List, [], _∷_, map}
 use Prim.Native.Nat.{ℕ, _<_}

@@ -1,5 +1,4 @@
 -- A job charged to one device after the other: once it is charged to all, the numbers are those with the job placed.
--- Assumes nothing.
 use mathlib.Core.Path.{_≡_, refl, ap, _∙_}
 use mathlib.Core.Bool.{Bool, true, false, cond}
 use mathlib.Core.List.{List}

@@ -1,5 +1,4 @@
 -- The loop over the jobs: `best` answers for those passed, and they entered no more vertices than each may.
--- Assumes nothing.
 use mathlib.Core.Path.{_≡_, subst}
 use mathlib.Core.Bool.{true, false}
 use mathlib.Core.List.{List}

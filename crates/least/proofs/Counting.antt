@@ -1,5 +1,4 @@
 -- Calls one after the other, and how many vertices they enter.
--- Assumes nothing.
 use mathlib.Core.Path.{_≡_, refl, ap, _∙_}
 use Prim.Native.Nat.{ℕ, zero, suc, _+_, _-_, _*_, _≤_, _<_}
 use mathlib.Core.Logic.{⊎-elim}

@@ -1,5 +1,4 @@
 -- What is known of a vertex, what it comes to where it waits, and what is remembered of it.
--- Assumes nothing.
 use mathlib.Core.Path.{_≡_, refl, sym, ap, _∙_, subst}
 use mathlib.Core.Bool.{Bool, true, false, _||_}
 use mathlib.Core.List.{List}

@@ -1,5 +1,4 @@
 -- The numbers of a key, as the code works them out of the lent numbers: device by device, and none of them is more than sixteen bits hold.
--- Assumes nothing.
 use mathlib.Core.Path.{_≡_}
 use mathlib.Core.Bool.{cond}
 use mathlib.Core.List.{List}

@@ -1,5 +1,4 @@
 -- The memory stays right: what is found of a key has P, and an entry may be written that has it.
--- Assumes nothing.
 use mathlib.Core.Path.{_≡_, _∙_, subst}
 use mathlib.Core.List.{List}
 use mathlib.Core.Logic.{_⊎_, inl, inr, by-cases}

@@ -1,5 +1,4 @@
 -- The key of the numbers that are lent is that of the vertex that they show; and what is right for a vertex is right for every vertex with its key.
--- Assumes nothing.
 use mathlib.Core.Path.{_≡_, refl, sym, ap, _∙_, subst}
 use mathlib.Core.Bool.{Bool, true, false, cond, _&&_}
 use mathlib.Core.List.{List}

@@ -1,5 +1,4 @@
 -- The numbers of the root: no device has been used, and each has the ticks of all jobs to come.
--- Assumes nothing.
 use mathlib.Core.Path.{_≡_, refl, ap, _∙_}
 use mathlib.Core.Bool.{Bool, false, cond}
 use mathlib.Core.List.{List, []}

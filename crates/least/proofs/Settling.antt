@@ -1,5 +1,4 @@
 -- The schedule read off: each step leaves the first of the least in reach, and the last one is it.
--- Assumes nothing.
 use mathlib.Core.Path.{_≡_, refl, sym, ap, _∙_, subst}
 use mathlib.Core.Bool.{true}
 use mathlib.Core.List.{List, [], _∷_}

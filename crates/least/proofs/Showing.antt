@@ -1,5 +1,4 @@
 -- The numbers that are lent show a vertex: what they add is what the vertex adds, and a job placed in them shows the child.
--- Assumes nothing.
 use mathlib.Core.Path.{_≡_, refl, sym, ap, _∙_, subst}
 use mathlib.Core.Bool.{Bool, true, false, cond, _&&_}
 use mathlib.Core.List.{List}

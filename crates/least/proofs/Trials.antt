@@ -1,5 +1,4 @@
 -- The loop over the starts of a job: `best` answers for those passed, and `ahead` is a bound of the next.
--- Assumes nothing.
 use mathlib.Core.Path.{_≡_, sym, ap, _∙_, subst}
 use mathlib.Core.Bool.{Bool, true, false, cond}
 use mathlib.Core.List.{List}

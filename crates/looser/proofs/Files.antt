@@ -1,6 +1,5 @@
 -- From the tables of a job list to the recorder that its file is read as: so the recorder of a file with looser windows has the wider windows.
--- Assumes nothing.
-use mathlib.Core.Path.{_≡_, refl, sym, ap, _∙_, subst}
+use mathlib.Core.Path.{_≡_, sym, ap, _∙_, subst}
 use mathlib.Core.Bool.{false}
 use mathlib.Core.List.{List}
 use Prim.Native.Nat.{ℕ, _<_}
@@ -14,11 +13,10 @@ use Rattle.schedule.specs.declared.Job.{Job}
 use Rattle.schedule.specs.declared.Recorder.{Recorder}
 use Rattle.schedule.specs.Quantities.{noDevice, device, noJob, job, jobs}
 use Rattle.tables.specs.declared.Kind.{Kind}
-use Rattle.tables.specs.declared.JobRecord.{JobRecord}
 use Rattle.tables.specs.declared.DeviceTable.{DeviceTable}
-use Rattle.tables.specs.Records.{deviceAt, jobAt, blankDevice, blankJob}
-use Rattle.tables.specs.Layout.{kindOf, bodyOf, devicePlace, taskCount, jobsPlace, deviceIn, jobIn, tablesAs, tablesOf}
-use Rattle.request.specs.Format.{deviceOf, listedJob, horizonOf, devicesIn, jobsOf, jobsIn, vacantDevice, vacantJob, recorderAs, readOf}
+use Rattle.tables.specs.Records.{blankDevice, blankJob}
+use Rattle.tables.specs.Layout.{kindOf, bodyOf, taskCount, jobsPlace, deviceIn, jobIn, tablesAs, tablesOf}
+use Rattle.request.specs.Format.{deviceOf, listedJob, horizonOf, devicesIn, jobsOf, vacantDevice, vacantJob, recorderAs, readOf}
 use Rattle.request.proofs.Accepted.{accepted-as}
 use Rattle.planner.specs.Promises.{Reads}
 use Rattle.looser.specs.Windows.{Wider, Looser}

@@ -1,5 +1,4 @@
 -- Looser windows never cost more (rule 99): of the results of two searches, and of two questions whether there is any plan, by their promises alone.
--- Assumes nothing.
 use mathlib.Core.Path.{_≡_, refl, sym, subst, _∙_}
 use mathlib.Core.List.{List}
 use Prim.Native.Nat.{ℕ, _≤_}
@@ -16,7 +15,7 @@ use Rattle.possible.specs.Promises.{PossibleOf, Possible}
 use Rattle.possible.specs.Promises as P
 use Rattle.possible.proofs.Beside.{Enough}
 use Rattle.looser.specs.Windows.{Looser}
-use Rattle.looser.proofs.Helps.{Widened, still-feasible, no-dearer}
+use Rattle.looser.proofs.Helps.{still-feasible, no-dearer}
 use Rattle.looser.proofs.Files.{widened}
 
 -- What an operation does on a file that is accepted is what its own cases say of the recorder.

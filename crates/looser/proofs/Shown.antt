@@ -1,6 +1,5 @@
 -- What looser windows do not promise, by figures: the number of vertices moves either way, and a plan for the looser windows is none for the others.
 -- Each is two complete outcomes, computed by the checker from the definitions.
--- Assumes nothing.
 use mathlib.Core.Path.{_≡_, refl}
 use mathlib.Core.List.{List, [], _∷_, _++_}
 use mathlib.Core.Option.{some}

@@ -1,5 +1,4 @@
 -- Which of two requests has the looser windows (docs/RULES.md, rules 97 and 98): said of the tables of their files, as each file gives them.
--- Assumes nothing.
 use mathlib.Core.Path.{_≡_}
 use Prim.Native.Nat.{ℕ, _≤_, _<_}
 use Rattle.tables.specs.declared.JobRecord.{JobRecord}

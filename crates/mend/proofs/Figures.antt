@@ -1,5 +1,4 @@
 -- Figures: whole outcomes of small requests, computed by the checker from the definitions. Jobs are written (a, d, c); there is no device.
--- Assumes nothing.
 use mathlib.Core.Path.{_≡_, refl}
 use mathlib.Core.Option.{none, some}
 use mathlib.Core.List.{List, [], _∷_, _++_}

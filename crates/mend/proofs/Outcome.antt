@@ -1,5 +1,4 @@
 -- Where the jobs come out, and what that says of the mended schedule: it is where they come out if all are in time, and else there is none.
--- Assumes nothing.
 use mathlib.Core.Path.{_≡_, sym, _∙_, subst}
 use mathlib.Core.Option.{none, some}
 use mathlib.Core.List.{List}

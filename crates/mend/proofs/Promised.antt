@@ -1,5 +1,4 @@
 -- What the code has when it returns is a case of the promise.
--- Assumes nothing.
 use mathlib.Core.Path.{_≡_, sym}
 use mathlib.Core.Bool.{true, false, cond, true≢false}
 use mathlib.Core.List.{List, _++_}

@@ -1,5 +1,4 @@
 -- Laws of the queue: m jobs u that wait take their places from t on.
--- Assumes nothing.
 use mathlib.Core.Path.{_≡_, refl, sym, ap, _∙_, subst}
 use mathlib.Core.Option.{Option, none, some}
 use mathlib.Core.List.{List, [], _∷_}

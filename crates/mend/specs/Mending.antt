@@ -1,7 +1,6 @@
 -- Start times mended (docs/RULES.md, rules 65 to 68): what the mended schedule is, which job is the first late one, and the list of moves. Nothing here says
 -- how they are found.
 -- Given starts are any numbers, one for each job.
--- Assumes nothing.
 use mathlib.Core.Path.{_≡_}
 use mathlib.Core.Bool.{cond}
 use mathlib.Core.List.{List, [], _∷_, _++_}

@@ -1,6 +1,5 @@
 -- What `mend` promises: a case for each of its refusals after the file's, in their order, and one for success (rule 69). proofs/Only: it has one outcome for
 -- every input.
--- Assumes nothing.
 use mathlib.Core.Path.{_≡_}
 use mathlib.Core.List.{List, _++_}
 use Prim.Native.Nat.{ℕ, _*_, _≤_}

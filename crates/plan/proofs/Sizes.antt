@@ -1,5 +1,4 @@
 -- The size of a signed number fits its place, where it is negative and where it is not.
--- Assumes nothing.
 use mathlib.Core.Path.{_≡_}
 use mathlib.Core.Bool.{true, false, true≢false}
 use native.Mathlib.Omega.{arith}

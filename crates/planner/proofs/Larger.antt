@@ -1,5 +1,4 @@
 -- Every answer but 20 is the answer under each larger budget too.
--- Assumes nothing.
 use mathlib.Core.Path.{_≡_, refl}
 use mathlib.Core.List.{List}
 use Prim.Native.Nat.{ℕ, _≤_}

@@ -1,13 +1,11 @@
 -- The search answers as before, whatever a sleep is written as: the same starts, energy and count, or the same refusal.
--- Assumes nothing.
-use mathlib.Core.Path.{_≡_, sym, subst}
+use mathlib.Core.Path.{sym, subst}
 use mathlib.Core.Bool.{Bool}
 use mathlib.Core.List.{List, _++_}
 use Prim.Native.Nat.{ℕ, _≤_, _<_}
 use lib.ListN.{drop}
 use Rattle.schedule.specs.declared.Recorder.{Recorder}
 use Rattle.schedule.specs.Quantities.{jobs}
-use Rattle.schedule.specs.Visiting.{vertices}
 use Rattle.schedule.proofs.Letters.{lettered, feasible-plain, plan-lettered, vertices-lettered}
 use Rattle.planner.specs.declared.Answer.{Answer}
 use Rattle.planner.specs.Promises as P

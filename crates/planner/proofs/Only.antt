@@ -1,6 +1,5 @@
 -- No second outcome satisfies a promise: for every input each of the eight relations has one answer, and one state of the lent memory. `only-of-file` says it
 -- of every promise over a file whose cases have one outcome for each valid recorder; so each operation shows it of its own cases only.
--- Assumes nothing.
 use mathlib.Core.Path.{_≡_, refl, sym, ap, subst, _∙_}
 use mathlib.Core.Bool.{Bool}
 use mathlib.Core.List.{List, _++_}
@@ -12,7 +11,7 @@ use Rattle.base.specs.Sums.{sum}
 use Rattle.base.proofs.Additions.{sum-same}
 use Rattle.device.specs.Row.{Letter, energy}
 use Rattle.schedule.specs.declared.Recorder.{Recorder}
-use Rattle.schedule.specs.Quantities.{device, jobs, Valid}
+use Rattle.schedule.specs.Quantities.{device, Valid}
 use Rattle.schedule.specs.Listing.{Fault, Rows, Costs, laid}
 use Rattle.schedule.proofs.Judgements.{fault-one, fault-infeasible}
 use Rattle.schedule.proofs.Outcome.{costs-only, rows-only, one-first-least}

@@ -8,10 +8,10 @@ use Prim.Native.Nat.{ℕ}
 use lib.Dec.{eqb}
 use borrow.Author.Tests.{eqb-true, eqb-false}
 use Rattle.schedule.specs.declared.Recorder.{Recorder}
-use Rattle.schedule.specs.Listing.{Feasible, Fault}
+use Rattle.schedule.specs.Listing.{Feasible}
 use Rattle.schedule.proofs.Judgements.{fault-one, fault-some, fault-infeasible}
 use Rattle.planner.specs.declared.Answer.{Answer}
-use Rattle.planner.specs.Promises.{refusalAt, Unless, stops, passes, UnlessFaulty, Gives, gives}
+use Rattle.planner.specs.Promises.{Unless, stops, passes, UnlessFaulty, Gives, gives}
 use Rattle.planner.specs.Promises as P
 
 -- ---- one outcome

@@ -1,6 +1,5 @@
 -- Files that give the same figures, of kinds that write a sleep alike, get the same answers and leave the lent memory the same: every promise over the one is a
 -- promise over the other (rule 79). Of kinds that write it otherwise the search answers alike (rule 84).
--- Assumes nothing.
 use mathlib.Core.Path.{_≡_, sym, ap, subst, _∙_}
 use mathlib.Core.List.{List}
 use Prim.Native.Nat.{ℕ}

@@ -1,5 +1,4 @@
 -- The search of a recorder, as crate visit gives it, is one of the cases of `search`.
--- Assumes nothing.
 use mathlib.Core.Path.{_≡_, sym, ap, subst, _∙_}
 use mathlib.Core.Bool.{true, false, cond}
 use mathlib.Core.List.{List, _++_}

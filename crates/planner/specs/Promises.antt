@@ -1,7 +1,6 @@
 -- What the eight public operations promise: for each one relation between its inputs and its complete outcome, the answer and the lent memory after it.
 -- The file comes first, in one way for all (`OfFile`); then each operation has its own cases for a recorder, one for each refusal that it can give after the
 -- file, in their order (rule 16), and one for success. proofs/Only: each relation has one outcome for every input.
--- Assumes nothing.
 use mathlib.Core.Path.{_≡_}
 use mathlib.Core.List.{List, _∷_, _++_}
 use Prim.Native.Nat.{ℕ, _*_, _≤_, _<_}

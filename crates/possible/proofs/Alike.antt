@@ -1,6 +1,5 @@
 -- The visit asks a vertex for its time, its unplaced jobs and its starts alone: two that are alike in these are visited alike. So the numbers that the code lends
 -- stand for a vertex of the visiting order, and a job marked in them for a child.
--- Assumes nothing.
 use mathlib.Core.Path.{_≡_, refl, sym, ap, _∙_}
 use mathlib.Core.Bool.{Bool, true, false, cond}
 use mathlib.Core.Option.{Option, none, some}

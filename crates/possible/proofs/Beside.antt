@@ -1,5 +1,4 @@
 -- `any_plan` beside `search`, by their promises alone: both say yes or both say no; its count is never above the search's, and the same where there is no plan.
--- Assumes nothing.
 use mathlib.Core.Path.{_≡_, refl, sym, subst, _∙_}
 use mathlib.Core.List.{List}
 use Prim.Native.Nat.{ℕ, _≤_}

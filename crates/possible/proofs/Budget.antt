@@ -1,5 +1,4 @@
 -- A budget over a visit that stops when a schedule is found: where a loop stops, where it goes on, and where it ends.
--- Assumes nothing.
 use mathlib.Core.Path.{_≡_, refl, sym, ap, _∙_, subst}
 use mathlib.Core.Bool.{Bool, true, false}
 use mathlib.Core.Option.{Option, none, some}

@@ -1,5 +1,4 @@
 -- The count of the visit that stops when a schedule is found, beside that of the search: never above it, and the same where nothing is feasible.
--- Assumes nothing.
 use mathlib.Core.Path.{_≡_, refl, sym, ap, subst}
 use mathlib.Core.Bool.{cond}
 use mathlib.Core.Option.{Option, none, some}

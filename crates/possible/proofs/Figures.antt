@@ -1,5 +1,4 @@
 -- Figures: whole outcomes of small requests, computed by the checker from the definitions.
--- Assumes nothing.
 use mathlib.Core.Path.{_≡_, refl, ap}
 use mathlib.Core.Option.{none, some}
 use mathlib.Core.List.{List, [], _∷_, _++_}

@@ -1,6 +1,5 @@
 -- The visit that stops when a schedule is found finds the first of all feasible ones, and none exactly if nothing is feasible. It stands on the laws of the tree
 -- (schedule/proofs/Tree), where every schedule costs the same.
--- Assumes nothing.
 use mathlib.Core.Path.{_≡_, refl, sym, subst}
 use mathlib.Core.Option.{Option, none, some, Option·some-injective}
 use mathlib.Core.List.{List}

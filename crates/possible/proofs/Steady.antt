@@ -1,5 +1,4 @@
 -- A walk is steady where it takes no vertex back from the count and, once a schedule is found, does nothing more: so a loop over choices may stop there.
--- Assumes nothing.
 use mathlib.Core.Path.{_≡_, refl, sym, ap, _∙_, subst}
 use mathlib.Core.Option.{Option, none, some}
 use mathlib.Core.List.{List, [], _∷_}

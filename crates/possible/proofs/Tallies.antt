@@ -1,5 +1,4 @@
 -- The lent tally: one vertex more, and a schedule kept.
--- Assumes nothing.
 use mathlib.Core.Path.{_≡_, refl, sym, ap, _∙_}
 use mathlib.Core.Bool.{cond}
 use mathlib.Core.Option.{none, some}

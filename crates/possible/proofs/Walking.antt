@@ -1,5 +1,4 @@
 -- The walk over the tree, step by step: what each way out of its functions comes to.
--- Assumes nothing.
 use mathlib.Core.Path.{_≡_, refl, sym, ap, _∙_, subst}
 use mathlib.Core.Bool.{Bool, true, false, not}
 use mathlib.Core.Option.{Option, none, some}

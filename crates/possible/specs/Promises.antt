@@ -1,6 +1,5 @@
 -- What `any_plan` promises: a case for each of its refusals after the file's, in their order, and one for success (rule 64). proofs/Only: it has one outcome for
 -- every input.
--- Assumes nothing.
 use mathlib.Core.List.{List, _++_}
 use Prim.Native.Nat.{ℕ, _≤_, _<_}
 use lib.ListN.{length, drop}

@@ -1,6 +1,5 @@
 -- Whether there is a plan, whatever it costs (docs/RULES.md, rules 60 to 63): what is found, said without the tree; and the visit that ends once it has found a
 -- schedule, without a budget. The count of vertices is its one part that a promise speaks of. Vertices, children, cut A and counting are the search's own.
--- Assumes nothing.
 use mathlib.Core.Path.{_≡_}
 use mathlib.Core.Bool.{cond}
 use mathlib.Core.Option.{Option, none, some}

@@ -1,9 +1,8 @@
 -- Refusals 1 and 2, for bytes that are missing or left over, never come from tables (rule 52): what is laid out for them is all there, with nothing after it.
--- Assumes nothing.
-use mathlib.Core.Path.{_≡_, sym, ap, _∙_}
-use mathlib.Core.Bool.{Bool, true, false, cond}
+use mathlib.Core.Path.{_≡_}
+use mathlib.Core.Bool.{Bool, true}
 use mathlib.Core.List.{List, [], _∷_}
-use Prim.Native.Nat.{ℕ, zero, suc, _+_, _-_, _*_, _≤_, _<_, min}
+use Prim.Native.Nat.{ℕ, zero, suc, _+_, _-_, _*_, _≤_}
 use native.Mathlib.Omega.{arith}
 use lib.Dec.{eqb, ltb, leb}
 use lib.ListN.{length}
@@ -12,7 +11,6 @@ use Rattle.base.specs.Bytes.{byteAt, pairAt}
 use Rattle.base.specs.Refusals.{Refusal, firstThat, orElse, after, firstOf}
 use Rattle.base.proofs.Cases.{cond-cases}
 use Rattle.base.proofs.Records.{after-from, after-even}
-use Rattle.schedule.specs.declared.Recorder.{Recorder}
 use Rattle.tables.specs.declared.Kind.{Kind}
 use Rattle.tables.specs.declared.Kind.the-variants.{First, Second, Third}
 use Rattle.tables.specs.declared.Tables.{Tables}
@@ -21,13 +19,13 @@ use Rattle.tables.specs.declared.DeviceRecord.{DeviceRecord}
 use Rattle.tables.specs.declared.TaskRecord.{TaskRecord}
 use Rattle.tables.specs.declared.JobRecord.{JobRecord}
 use Rattle.tables.specs.Records.{deviceAt, deviceSize, taskAt, jobAt}
-use Rattle.tables.specs.Layout.{layoutOf, tasksPlace, taskCount, jobsPlace}
+use Rattle.tables.specs.Layout.{layoutOf, tasksPlace, jobsPlace}
 use Rattle.tables.proofs.Back.{tasks-place, jobs-place}
 use Rattle.tables.proofs.Parts.{placeIn, count-is}
 use Rattle.tables.proofs.Joining.{length-section, length-jobs, length-layout}
 use Rattle.request.specs.declared.Section.{Section}
 use Rattle.request.specs.declared.Section.the-variants.{DeviceRecords, TaskRecords, JobRecords}
-use Rattle.request.specs.Format.{Reading, powersTable, deviceTable, taskTable, jobTable, sizeOf, headOf, recordTable, recordFault, recordsFault, horizonOf, mixed, countOf, jobRecords, jobSection, taskSection, faultAs, recorderAs, readAs}
+use Rattle.request.specs.Format.{Reading, powersTable, deviceTable, taskTable, jobTable, headOf, recordTable, recordFault, horizonOf, mixed, countOf, jobRecords, jobSection, taskSection, faultAs, readAs}
 use Rattle.request.specs.Format as Format
 use Rattle.planner.specs.declared.Answer.{Answer}
 use Rattle.planner.specs.Promises.{Written}

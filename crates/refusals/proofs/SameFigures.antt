@@ -1,25 +1,23 @@
 -- Files of whatever kinds that give the same figures, and are otherwise the same, are refused alike (rule 79): so what is accepted in one kind is accepted in the
 -- other, and every promise over the one is a promise over the other.
--- Assumes nothing.
 use mathlib.Core.Path.{_≡_, refl, sym, ap, subst, _∙_}
-use mathlib.Core.Bool.{Bool, true, false, cond}
+use mathlib.Core.Bool.{Bool, true, false}
 use mathlib.Core.List.{List}
 use Prim.Native.Nat.{ℕ, zero, suc, _+_, _-_, _*_, _≤_, _<_}
 use native.Mathlib.Omega.{arith}
-use lib.Dec.{eqb, ltb, leb}
+use lib.Dec.{ltb, leb}
 use lib.ListN.{length, getD, drop, length-drop}
 use lib.Seq.{getD-drop}
 use borrow.Author.Tests.{ltb-true, ltb-false, leb-true, leb-false, lt-ltb, le-ltb, le-leb, lt-leb}
 use Rattle.base.specs.Bytes.{byteAt, pairAt}
-use Rattle.base.specs.Refusals.{firstThat, orElse, after, firstOf}
+use Rattle.base.specs.Refusals.{firstThat, after, firstOf}
 use Rattle.base.proofs.Records.{after-from}
 use Rattle.schedule.specs.declared.Recorder.{Recorder}
 use Rattle.tables.specs.declared.Kind.{Kind}
-use Rattle.tables.specs.declared.Kind.the-variants.{First, Second, Third}
 use Rattle.tables.specs.Records.{deviceAt, deviceSize, taskAt, jobAt}
 use Rattle.tables.specs.Layout.{kindOf, bodyOf, devicePlace, tasksPlace, taskCount, jobsPlace}
 use Rattle.request.specs.declared.Section.the-variants.{DeviceRecords, TaskRecords, JobRecords}
-use Rattle.request.specs.Format.{deviceTable, taskTable, jobTable, headOf, recordTable, recordFault, horizonOf, unfolded, mixed, countOf, jobRecords, jobSection, taskSection, faultAs, digitsIn, recorderAs, readAs, readOf, refused, accepted}
+use Rattle.request.specs.Format.{deviceTable, headOf, recordTable, recordFault, horizonOf, countOf, jobRecords, jobSection, taskSection, faultAs, digitsIn, recorderAs, readOf, refused}
 use Rattle.request.proofs.Beyond.{SameTasks, horizon-same, unfolded-same}
 use Rattle.request.proofs.Faultless.{read-faultless, read-fault}
 use Rattle.request.proofs.Accepted.{accepted-as, number-as}

@@ -1,5 +1,4 @@
 -- For callers: what a file that is accepted guarantees, and what is handed on of a reading.
--- Assumes nothing.
 use mathlib.Core.Path.{_≡_, refl, sym, ap, subst, _∙_}
 use mathlib.Core.Bool.{false}
 use mathlib.Core.List.{List}

@@ -1,5 +1,4 @@
 -- Two files of at least p bytes, of which the first p are the same: what is read below p is the same of both.
--- Assumes nothing.
 use mathlib.Core.Path.{_≡_, refl, sym, ap, _∙_}
 use mathlib.Core.Bool.{false, cond}
 use mathlib.Core.List.{List}

@@ -1,5 +1,4 @@
 -- Nothing is read beyond the end of the longest file: one of 232 bytes or more is refused as its first 232 bytes are.
--- Assumes nothing.
 use mathlib.Core.Path.{_≡_, refl, sym, ap, _∙_}
 use mathlib.Core.Bool.{Bool, true, false, cond}
 use mathlib.Core.List.{List, _++_}
@@ -14,11 +13,10 @@ use Rattle.base.specs.Refusals.{orElse}
 use Rattle.base.proofs.Records.{after-even}
 use Rattle.tables.specs.declared.TaskRecord.{TaskRecord}
 use Rattle.request.specs.declared.Section.the-variants.{DeviceRecords, TaskRecords, JobRecords}
-use Rattle.request.specs.Euclid.{lcmOf}
 use Rattle.tables.specs.declared.Kind.{Kind}
 use Rattle.tables.specs.declared.Kind.the-variants.{First, Second, Third}
 use Rattle.tables.specs.Records.{taskAt}
-use Rattle.tables.specs.Layout.{marker, kindOf, bodyOf, devicePlace}
+use Rattle.tables.specs.Layout.{marker, kindOf, devicePlace}
 use Rattle.request.specs.Format.{recordsFault, lcmFrom, horizonOf, released, releasedAt, unfolded, mixed, countOf, jobRecords, jobSection, taskSection, faultAs, refused, readAs, readOf}
 use Rattle.request.proofs.Multiples.{first, next}
 use Rattle.request.proofs.Alike.{Alike, pair-same, records-same, place-same}

@@ -1,5 +1,4 @@
 -- The bits of a device set.
--- Assumes nothing.
 use mathlib.Core.Path.{_≡_, _∙_}
 use mathlib.Core.Bool.{false}
 use Prim.Native.Nat.{ℕ, _+_, _/_, _^_, _<_, _≤_}

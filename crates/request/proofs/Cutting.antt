@@ -1,5 +1,4 @@
 -- For callers that lay tables out: tables whose counts are cut at one above the limits read as they do uncut. And a file without a fault has whole tables.
--- Assumes nothing.
 use mathlib.Core.Path.{_≡_, refl, sym, ap, _∙_}
 use mathlib.Core.Bool.{Bool, true, false, cond, not, _||_}
 use mathlib.Core.List.{List}
@@ -24,7 +23,7 @@ use Rattle.tables.specs.inside.Held.{cut, Whole}
 use Rattle.tables.proofs.Back.{read-horizon, tasks-place, jobs-place}
 use Rattle.tables.proofs.Joining.{record-cut, length-layout, length-section}
 use Rattle.tables.proofs.Parts.{placeIn, count-is, front-long, tasks-front, jobs-front, tasks-at-same, jobs-at-same}
-use Rattle.request.specs.declared.Section.the-variants.{DeviceRecords, TaskRecords, JobRecords}
+use Rattle.request.specs.declared.Section.the-variants.{DeviceRecords, TaskRecords}
 use Rattle.request.specs.Format.{recordsFault, horizonOf, mixed, countOf, jobRecords, jobSection, taskSection, faultAs, readAs, accepted, refused}
 use Rattle.request.proofs.Checked.{jobs-room}
 use Rattle.request.proofs.Faultless.{faultless, few-listed, read-fault}

@@ -1,5 +1,4 @@
 -- What a file without a fault says, section by section, each fact read off once; and what is read of a file by its fault.
--- Assumes nothing.
 use mathlib.Core.Path.{_≡_, refl, sym}
 use mathlib.Core.Bool.{Bool, true, false, cond, not, _||_, true≢false}
 use mathlib.Core.List.{List}

@@ -1,5 +1,4 @@
 -- Every job of a file without a fault fits: the listed ones by their table, the unfolded ones because each period divides the horizon.
--- Assumes nothing.
 use mathlib.Core.Path.{_≡_}
 use mathlib.Core.Bool.{false}
 use mathlib.Core.List.{List}

@@ -1,5 +1,4 @@
 -- What the code works out no further than a limit: a test of it is the test of the whole. The horizon is known up to 4,097 and the number of jobs up to 17.
--- Assumes nothing.
 use mathlib.Core.Path.{_≡_, _∙_, ap}
 use mathlib.Core.Bool.{cond}
 use mathlib.Core.List.{List}

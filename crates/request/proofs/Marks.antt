@@ -1,7 +1,6 @@
 -- The kinds of files and their marks: a file without a mark reads as it did before there were any, one with a mark was refused then, and equal figures make the
 -- same recorder whatever the kind.
--- Assumes nothing.
-use mathlib.Core.Path.{_≡_, refl, sym, ap, _∙_}
+use mathlib.Core.Path.{_≡_, refl, ap, _∙_}
 use mathlib.Core.Bool.{Bool, true, false, cond}
 use mathlib.Core.List.{List, [], _∷_}
 use mathlib.Core.Logic.{⊎-elim}
@@ -20,7 +19,7 @@ use Rattle.device.proofs.Rules.{first}
 use Rattle.schedule.specs.declared.Recorder.{Recorder}
 use Rattle.schedule.proofs.Letters.{lettered}
 use Rattle.tables.specs.declared.Kind.{Kind}
-use Rattle.tables.specs.declared.Kind.the-variants.{First, Second, Third}
+use Rattle.tables.specs.declared.Kind.the-variants.{First, Second}
 use Rattle.tables.specs.Records.{averaged, firstAt, secondAt, deviceAt, jobAt}
 use Rattle.tables.specs.Layout.{kindOf, bodyOf, devicePlace, tasksPlace, taskCount, jobsPlace}
 use Rattle.request.specs.declared.Section.the-variants.{DeviceRecords}

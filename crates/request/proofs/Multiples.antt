@@ -1,6 +1,5 @@
 -- Euclid's remainders give the greatest common divisor; the least common multiple is a common multiple and divides every other, for two numbers and for the
 -- periods of any number of tasks.
--- Assumes nothing.
 use mathlib.Core.Path.{_≡_, refl, sym, ap, _∙_}
 use mathlib.Core.List.{List}
 use Prim.Native.Nat.{ℕ, zero, suc, _+_, _-_, _*_, _/_, _%_, _<_, _≤_, _∣_}

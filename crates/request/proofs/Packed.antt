@@ -1,5 +1,4 @@
 -- Laws of a list of jobs in an array: one job more, what a task releases, and that a list that fits is held as it is.
--- Assumes nothing.
 use mathlib.Core.Path.{_≡_, _∙_}
 use mathlib.Core.Bool.{Bool, true, false, cond}
 use mathlib.Core.List.{List, [], _∷_, _++_, append-nil, append-assoc}

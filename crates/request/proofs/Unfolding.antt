@@ -1,5 +1,4 @@
 -- TaskRecord i gives H / p jobs, released at 0, p, 2p and so on: the unfolded jobs are those of the tasks, whatever is counted or summed over them.
--- Assumes nothing.
 use mathlib.Core.Path.{_≡_, refl, sym, ap, _∙_}
 use mathlib.Core.List.{List, [], _∷_, _++_, append-nil}
 use Prim.Native.Nat.{ℕ, zero, suc, _+_, _-_, _*_, _/_, _%_, _<_, _∣_}

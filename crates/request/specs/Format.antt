@@ -1,6 +1,5 @@
 -- The request file (rules 8 to 15, 75 to 77 and 80 to 83): from a list of bytes to the recorder, or to its refusal, one of the numbers 1 to 13 or 26. The bytes are looked at in their
 -- order, and whatever is wrong first gives the number: each section takes the place where it begins, and goes on with the next.
--- Assumes nothing.
 use Prim.Native.Nat.{ℕ, zero, suc, _+_, _-_, _*_, _/_, _%_, _^_}
 use mathlib.Core.List.{List, [], _∷_, _++_}
 use mathlib.Core.Bool.{Bool, true, false, cond, not, _&&_, _||_}

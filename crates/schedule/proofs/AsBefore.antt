@@ -1,15 +1,14 @@
 -- What the round without a seam leaves as it was, and what it saves: a list has the rows, the energy and the floor that it had; a round costs no more than as a list.
--- Assumes nothing.
-use mathlib.Core.Path.{_≡_, ap, _∙_}
-use mathlib.Core.Bool.{Bool, true, false, cond}
+use mathlib.Core.Path.{_≡_, ap}
+use mathlib.Core.Bool.{Bool, false, cond}
 use mathlib.Core.List.{List}
-use Prim.Native.Nat.{ℕ, _+_, _-_, _*_, _≤_, _<_}
+use Prim.Native.Nat.{ℕ, _+_, _-_, _*_, _≤_}
 use native.Mathlib.Nat.{mul-zero, zero-add, sub-zero}
 use native.Mathlib.Omega.{arith}
 use Rattle.base.specs.Sums.{total, sum}
 use Rattle.base.proofs.Additions.{sum-same, sum-le}
 use Rattle.base.proofs.Cases.{test-cases}
-use Rattle.device.specs.Row.{Letter, deep, rowOf, energyOf, pattern}
+use Rattle.device.specs.Row.{deep, rowOf, energyOf, pattern}
 use Rattle.schedule.specs.declared.Recorder.{Recorder}
 use Rattle.schedule.specs.Quantities.{device, Valid}
 use Rattle.schedule.specs.Listing.{Feasible, used, usesOf, running}

@@ -1,6 +1,5 @@
 -- How large energies become, so that 32 bits hold every sum over the devices (rule 7): 65,535 × 4,096 = 268,431,360 for one device, and eight times that,
 -- 2,147,450,880, for a plan.
--- Assumes nothing.
 use mathlib.Core.Path.{ap}
 use mathlib.Core.List.{List}
 use Prim.Native.Nat.{ℕ, zero, suc, _+_, _*_, _≤_, _<_}

@@ -1,6 +1,5 @@
 -- The gap form of a device's energy: what the gaps and the uses along a sequence of places cost. In a list it is the least energy of the device's legal rows; for
 -- either rule: Rounds.
--- Assumes nothing.
 use mathlib.Core.Path.{_≡_, refl, sym, ap, _∙_, subst}
 use mathlib.Core.Bool.{Bool, true, false, cond, _&&_, _||_, and-false, or-assoc, or-comm}
 use mathlib.Core.List.{List, [], _∷_, _++_, map}

@@ -1,5 +1,4 @@
 -- Laws of judging: what a job's own test and the tests of two jobs say.
--- Assumes nothing.
 use mathlib.Core.Path.{_≡_, refl, sym, ap, subst}
 use mathlib.Core.Bool.{Bool, true, false, true≢false}
 use mathlib.Core.List.{List, []}

@@ -1,5 +1,4 @@
 -- How a sleep is written plays no part in planning: a recorder that differs in nothing else has the same schedules, rows and energies, the same plan, and as many vertices.
--- Assumes nothing.
 use mathlib.Core.Path.{_≡_, refl, sym, ap, subst, _∙_}
 use mathlib.Core.Bool.{Bool, cond}
 use mathlib.Core.Option.{Option, none, some}

@@ -1,27 +1,26 @@
 -- Either rule, in the gap form. A device that is used pays from tick `since` on: in a list from tick 0, in a round from its first use. In a round what lies before the
 -- first use and after the last is one gap, paid when the plan is whole; a device never used sleeps throughout.
 -- Code carries three numbers for each device: `since`, what has been paid from there on (paid), and the end of the last use (lastEnd).
--- Assumes nothing.
 use mathlib.Core.Path.{_≡_, refl, sym, ap, _∙_}
 use mathlib.Core.Bool.{Bool, true, false, cond, _&&_, and-true, and-false, true≢false}
 use mathlib.Core.List.{List, [], _∷_, _++_, append-assoc}
 use mathlib.Core.Logic.{_⊎_, inl, inr, ⊎-elim, by-cases}
-use Prim.Native.Nat.{ℕ, zero, suc, _+_, _-_, _*_, _≤_, _<_}
-use native.Mathlib.Nat.{zero-add, add-comm, sub-zero, sub-self, mul-le-mul-right}
+use Prim.Native.Nat.{ℕ, suc, _+_, _-_, _*_, _≤_, _<_}
+use native.Mathlib.Nat.{zero-add, add-comm, sub-zero, sub-self}
 use native.Mathlib.Decide.{decLe}
 use native.Mathlib.Omega.{arith}
 use lib.Dec.{eqb}
-use lib.ListN.{length, replicate}
+use lib.ListN.{replicate}
 use borrow.Author.Tests.{ne-eqb}
 use Rattle.base.specs.Sums.{total, sum}
 use Rattle.base.proofs.Additions.{sum-same, total-replicate}
 use Rattle.base.proofs.Cases.{test-cases}
 use Rattle.device.specs.declared.Device.{Device}
 use Rattle.device.specs.Row.{Sound, at, deep, power, energy, energyOf, gapCost, pattern}
-use Rattle.device.proofs.Pattern.{Ended, ended-after, length-pattern, pattern-split, pattern-const, pattern-close}
-use Rattle.device.proofs.Chosen.{gap-none, deep-low, gap-low}
+use Rattle.device.proofs.Pattern.{Ended, ended-after, pattern-split, pattern-const, pattern-close}
+use Rattle.device.proofs.Chosen.{gap-none, gap-low}
 use Rattle.device.proofs.Joined.{gap-joined}
-use Rattle.device.proofs.Least.{energy-most, energy-front, round-never, round-close}
+use Rattle.device.proofs.Least.{energy-front, round-never, round-close}
 use Rattle.schedule.specs.declared.Recorder.{Recorder}
 use Rattle.schedule.specs.Quantities.{device, run, uses, Valid}
 use Rattle.schedule.specs.Listing.{Feasible, Place, used, usesOf, running}

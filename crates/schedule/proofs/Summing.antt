@@ -1,5 +1,4 @@
 -- The energy of the devices so far, as a loop over the devices adds it up.
--- Assumes nothing.
 use mathlib.Core.Path.{_≡_, refl, ap, _∙_}
 use mathlib.Core.List.{List}
 use Prim.Native.Nat.{ℕ, _+_, _*_, _≤_, _<_}

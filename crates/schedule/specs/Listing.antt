@@ -1,7 +1,6 @@
 -- Start times judged (docs/RULES.md, rules 20 to 24), the plan's energy (rules 36 to 39), and which schedule is the first of the least: the full listing
 -- (rules 47 and 49), in which nothing speaks of the tree.
 -- A schedule is a list of start times, one for each job.
--- Assumes nothing.
 use mathlib.Core.Path.{_≡_}
 use mathlib.Core.Bool.{Bool, false, cond, _&&_, _||_}
 use mathlib.Core.List.{List, [], _∷_, _++_, map}

@@ -1,5 +1,4 @@
 -- The devices and jobs of a recorder, by number, and their ranges (docs/RULES.md, rules 1 to 6).
--- Assumes nothing.
 use mathlib.Core.Path.{_≡_}
 use mathlib.Core.Bool.{Bool, false}
 use mathlib.Core.List.{[]}

@@ -1,5 +1,4 @@
 -- The search (docs/RULES.md, rules 40 to 46): the visiting order, without a budget. Of its parts the promises speak of the count of vertices, `vertices`; the visit that ends at a schedule (possible/specs/TillFound) takes vertices, children and cut A from here.
--- Assumes nothing.
 use mathlib.Core.Bool.{Bool, false, cond, _||_}
 use mathlib.Core.Option.{Option, none, some}
 use mathlib.Core.List.{List, [], _∷_, _++_}

@@ -1,5 +1,4 @@
 -- Importing what was exported gives the table again, to the byte, for whatever an export accepts; and nothing that was imported is refused on export.
--- Assumes nothing.
 use mathlib.Core.Path.{_≡_, refl, sym, ap, _∙_}
 use mathlib.Core.Bool.{true, false}
 use mathlib.Core.List.{List, [], _∷_, map}

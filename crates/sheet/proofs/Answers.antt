@@ -1,5 +1,4 @@
 -- Outcomes of what was made, by what is refused and what is given.
--- Assumes nothing.
 use mathlib.Core.Path.{_≡_}
 use mathlib.Core.List.{List}
 use Prim.Native.Nat.{ℕ}

@@ -1,5 +1,4 @@
 -- SheetKind laid one after the other as bytes, and taken apart again.
--- Assumes nothing.
 use mathlib.Core.Path.{_≡_, refl, ap, _∙_}
 use mathlib.Core.Bool.{true, false, not}
 use mathlib.Core.List.{List, [], _∷_, _++_, map, map-append}

@@ -1,6 +1,5 @@
 -- What refuses a line, and all lines before their table: wherever a line of a text is at fault, the text is refused by a number of a line, 27, 28 or 29, though
 -- an earlier line may hold what its table would be refused for.
--- Assumes nothing.
 use mathlib.Core.Path.{_≡_, refl}
 use mathlib.Core.Bool.{Bool, true, _&&_}
 use mathlib.Core.List.{List, [], _∷_}

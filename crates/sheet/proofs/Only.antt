@@ -1,5 +1,4 @@
 -- No second outcome satisfies a promise: for every input each of the five relations has one answer, and one state of the lent bytes.
--- Assumes nothing.
 use mathlib.Core.Path.{_≡_, refl, sym, ap, subst, _∙_}
 use mathlib.Core.List.{List, [], _∷_, map}
 use Prim.Native.Nat.{ℕ}

@@ -1,5 +1,4 @@
 -- The round trips in bytes: a catalogue and job records that an export accepts come back from the import to the byte.
--- Assumes nothing.
 use mathlib.Core.Path.{_≡_, refl, sym, ap, subst, _∙_}
 use mathlib.Core.Bool.{true, false, not}
 use mathlib.Core.List.{List, [], _∷_, map}

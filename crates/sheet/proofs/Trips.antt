@@ -1,6 +1,5 @@
 -- The round trips over the operations' own outcomes: what an export wrote is imported as the table that was exported, and what was imported from it is exported
 -- as the same text.
--- Assumes nothing.
 use mathlib.Core.Path.{_≡_, refl, sym, ap, subst, _∙_}
 use mathlib.Core.List.{List, _++_}
 use Prim.Native.Nat.{ℕ, _≤_}

@@ -1,6 +1,5 @@
 -- What the five operations promise: for each one relation between its inputs and its complete outcome, the answer and the lent bytes after it.
 -- proofs/Only: each relation has one outcome for every input.
--- Assumes nothing.
 use mathlib.Core.Path.{_≡_}
 use mathlib.Core.List.{List, _++_, map}
 use Prim.Native.Nat.{ℕ, _≤_, _<_}

@@ -1,6 +1,5 @@
 -- Sheets of devices and of jobs, each read as a table and written as text, with what refuses them (rules 104 to 109). A table of devices is the catalogue's
 -- list of parts, and 21 and 22 are the catalogue's own.
--- Assumes nothing.
 use mathlib.Core.Bool.{Bool, true, false, not, _&&_}
 use mathlib.Core.List.{List, [], _∷_, _++_, map}
 use mathlib.Core.Option.{Option, Option·getD}

@@ -1,5 +1,4 @@
 -- Job records in pieces of seven bytes: what refuses them, and how many there are.
--- Assumes nothing.
 use mathlib.Core.Path.{_≡_, _∙_}
 use mathlib.Core.Bool.{Bool}
 use mathlib.Core.List.{List, []}

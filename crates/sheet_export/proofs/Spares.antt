@@ -1,5 +1,4 @@
 -- Start times that the planner's verdict accepts have natural margins, and small ones: what a plan's line can hold.
--- Assumes nothing.
 use mathlib.Core.Path.{_≡_, refl, sym, ap, subst, _∙_}
 use mathlib.Core.List.{List, [], _∷_, _++_, map}
 use Prim.Native.Nat.{ℕ, zero, suc, _+_, _<_, _≤_}

@@ -1,5 +1,4 @@
 -- A field as a part number: padded with spaces to eight bytes, and never one if it is longer.
--- Assumes nothing.
 use mathlib.Core.Path.{_≡_, ap, _∙_}
 use mathlib.Core.Bool.{true, false}
 use mathlib.Core.List.{List, _++_}

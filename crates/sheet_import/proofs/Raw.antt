@@ -1,5 +1,4 @@
 -- An import that leaves two quotes between quotes as they stand gives what the import gives: the code need not put one for two.
--- Assumes nothing.
 use mathlib.Core.Path.{_≡_, refl, sym, ap, _∙_}
 use mathlib.Core.Bool.{Bool, true, false, not, _||_, true≢false}
 use mathlib.Core.List.{List, [], _∷_, map}

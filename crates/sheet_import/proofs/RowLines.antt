@@ -1,5 +1,4 @@
 -- Lines without fault, one after the other: their fields as numbers and part numbers, and their rows as bytes.
--- Assumes nothing.
 use mathlib.Core.Path.{_≡_, refl}
 use mathlib.Core.Bool.{true, _&&_}
 use mathlib.Core.List.{List}

@@ -1,6 +1,5 @@
 -- Figures: rows of small requests and of the I/O paper's Table 2, and some whole outcomes, computed by the checker from the definitions. Device A has T 1, Pw 5,
 -- Ps 1, P0 3.
--- Assumes nothing.
 use mathlib.Core.Path.{_≡_, refl}
 use mathlib.Core.List.{List, [], _∷_, _++_}
 use mathlib.Core.Logic.{inl}

@@ -1,5 +1,4 @@
 -- What the code's tests of 25 and 24 say, and the cases of the promise that they lead to.
--- Assumes nothing.
 use mathlib.Core.Path.{_≡_, refl, sym, ap, _∙_}
 use mathlib.Core.Bool.{true, false, cond}
 use mathlib.Core.List.{List}

@@ -1,5 +1,4 @@
 -- The laws of rules 91 to 95 for a file: what `step_through` steps, it steps as they say.
--- Assumes nothing.
 use mathlib.Core.Path.{_≡_, refl, sym, subst, _∙_}
 use mathlib.Core.Bool.{true}
 use mathlib.Core.List.{List}

@@ -1,6 +1,5 @@
 -- What `step_through` promises: its refusals after the file's, in their order, and what is answered where none is (rule 96). proofs/Only: it has one outcome for
 -- every input.
--- Assumes nothing.
 use mathlib.Core.Path.{_≡_}
 use mathlib.Core.List.{List, _++_}
 use Prim.Native.Nat.{ℕ, _<_}

@@ -1,5 +1,4 @@
 -- The code's steps are the ticks of the round: what `stepped` gives for the running order of feasible starts is the energy of the row, and the state at H.
--- Assumes nothing.
 use mathlib.Core.Path.{_≡_, refl, sym, _∙_}
 use mathlib.Core.List.{List, [], _∷_, _++_}
 use Prim.Native.Nat.{ℕ, suc, _+_, _-_}

@@ -1,5 +1,4 @@
 -- What the code's numbers keep to: no tick costs more than 65,535, and the jobs in turn lie within the horizon.
--- Assumes nothing.
 use mathlib.Core.Path.{_≡_}
 use mathlib.Core.Bool.{Bool, cond}
 use Prim.Native.Nat.{ℕ, zero, suc, _+_, _-_, _*_, _^_, _≤_, _<_}

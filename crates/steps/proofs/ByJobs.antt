@@ -1,5 +1,4 @@
 -- The row job by job: between two events a device goes on as it does. The ticks of the round come to the same, whatever the two rules are.
--- Assumes nothing.
 use mathlib.Core.Path.{_≡_, refl, ap, _∙_}
 use mathlib.Core.List.{List, [], _∷_, _++_}
 use Prim.Native.Nat.{ℕ, zero, suc, _+_, _-_, _≤_, _<_}

@@ -1,5 +1,4 @@
 -- The invariant along the jobs of a schedule, and what changes nothing where it holds.
--- Assumes nothing.
 use mathlib.Core.Path.{_≡_, refl}
 use mathlib.Core.Bool.{Bool, true, false, _&&_, _||_, and-false}
 use mathlib.Core.List.{List, [], _∷_, _++_}
@@ -11,12 +10,12 @@ use Rattle.device.specs.Row.{Goes, pattern}
 use Rattle.device.specs.Row as Row
 use Rattle.device.proofs.Pattern.{pattern-split, pattern-const, pattern-alike}
 use Rattle.schedule.specs.declared.Recorder.{Recorder}
-use Rattle.schedule.specs.Quantities.{device, jobs, run, uses}
-use Rattle.schedule.specs.Listing.{Place, used, places}
+use Rattle.schedule.specs.Quantities.{device, run, uses}
+use Rattle.schedule.specs.Listing.{Place, used}
 use Rattle.schedule.proofs.Runs.{InTurn, turn-front}
 use Rattle.schedule.proofs.Gaps.{used-before}
 use Rattle.steps.specs.declared.State.{State}
-use Rattle.steps.specs.Stepping.{moveTime, Rule, atStart, atEnd, endOf, nextUses, nextStart, pause, ruled, row}
+use Rattle.steps.specs.Stepping.{moveTime, Rule, atStart, atEnd, endOf, nextUses, nextStart, pause, ruled}
 use Rattle.steps.specs.inside.Running.{later}
 use Rattle.steps.proofs.ByJobs.{jobsRow, jobsLast, ran, ended, Along}
 use Rattle.steps.proofs.Moves.{Ready, Ended, Ran, start-keeps, end-keeps, goes-append, pause-keeps, run-keeps}

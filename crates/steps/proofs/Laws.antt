@@ -1,5 +1,4 @@
 -- The laws of rules 91 to 95: for feasible starts of a valid recorder, and a device whose moves take no longer than any job.
--- Assumes nothing.
 use mathlib.Core.Path.{_≡_, refl, sym, ap, _∙_}
 use mathlib.Core.Bool.{Bool, true, false, true≢false}
 use mathlib.Core.List.{List, [], _∷_, _++_, append-nil}
@@ -23,10 +22,10 @@ use Rattle.schedule.proofs.Usage.{tick-used}
 use Rattle.steps.specs.inside.Running.{alone, later}
 use Rattle.steps.specs.declared.State.{State}
 use Rattle.steps.specs.declared.State.the-variants.{Working, Asleep, Down, Up}
-use Rattle.steps.specs.Stepping.{moveTime, S, atStart, atEnd, rowBy, stateBy, nextStart, events, row, spent, finally}
+use Rattle.steps.specs.Stepping.{moveTime, S, atStart, atEnd, rowBy, nextStart, events, row, spent, finally}
 use Rattle.steps.proofs.ByJobs.{startsFirst, length-rowBy, jobsRow, jobsLast, row-jobs, last-jobs, ends-first, along-any, starts-first}
 use Rattle.steps.proofs.Moves.{Ready, ready-work, ready-woken, ready-sleep, ended-work}
-use Rattle.steps.proofs.Keeps.{Long, Settled, Kept, kept, row-alike, last-alike, along-map}
+use Rattle.steps.proofs.Keeps.{Long, Settled, Kept, kept, row-alike, along-map}
 use Rattle.steps.proofs.Clauses.{atAnyEnd, settled-any, settled-first}
 use Rattle.steps.proofs.Passing.{later-down, later-up, down-left, up-left}
 use Rattle.steps.proofs.Bounds.{Most, row-most}

@@ -1,7 +1,6 @@
 -- What one device does step by step (docs/RULES.md, rules 91 to 95): moves are begun at the starts and completions of given start times, and at no other tick.
 -- Said tick by tick. The declared `State` is what a device's record holds: it works, sleeps, or goes down or comes up with so many ticks left.
 -- A device of the first kind has one time and one power for both moves and one sleep level (rule 3); rule 96 lets no other get here.
--- Assumes nothing.
 use mathlib.Core.Bool.{Bool, false, cond, not, _&&_, _||_}
 use mathlib.Core.List.{List, [], _∷_}
 use Prim.Native.Nat.{ℕ, zero, suc, _+_, _-_}

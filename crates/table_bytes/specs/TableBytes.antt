@@ -1,6 +1,5 @@
 -- Tables as the doors take and give them: the kind (1 byte: 1, 2 or 3), the horizon field, then the device count, the task count and the job count (2 bytes
 -- each); then the records as they stand in a file of that kind, 8 devices, 8 tasks and 16 jobs at most, though a count may be larger.
--- Assumes nothing.
 use mathlib.Core.Path.{_≡_}
 use mathlib.Core.Bool.{cond}
 use mathlib.Core.List.{List, _∷_, _++_}

@@ -1,5 +1,4 @@
 -- Laws of lists joined one after the other, and of bytes that are read from such a list.
--- Assumes nothing.
 use mathlib.Core.Path.{_≡_, refl}
 use mathlib.Core.List.{List, _++_}
 use Prim.Native.Nat.{ℕ, zero, suc, _+_, _*_, _<_, _≤_, min}

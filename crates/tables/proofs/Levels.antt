@@ -1,5 +1,4 @@
 -- The powers that a record of the third kind lists: beyond the fourth level none counts, and so many bytes they have.
--- Assumes nothing.
 use mathlib.Core.Path.{_≡_, refl, sym, ap, _∙_}
 use mathlib.Core.Bool.{Bool, true, false, cond}
 use mathlib.Core.List.{List, [], _++_}
@@ -11,7 +10,7 @@ use lib.ListN.{length}
 use borrow.Author.Tests.{lt-ltb, le-ltb}
 use Rattle.tables.specs.declared.DeviceRecord.{DeviceRecord}
 use Rattle.base.specs.Bytes.{pairBytes}
-use Rattle.tables.specs.Records.{powerBytes, powersBytes, thirdBytes}
+use Rattle.tables.specs.Records.{powerBytes, thirdBytes}
 
 pub listed-min : (n i : ℕ) → i < 4 → ltb i n ≡ ltb i (min n 4)
 listed-min n i h =

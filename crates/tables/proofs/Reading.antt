@@ -1,12 +1,9 @@
 -- One record: reading its bytes gives the record, and a record that was read has the bytes that it was read from.
--- Assumes nothing.
 use mathlib.Core.Path.{_≡_, refl, sym, ap, subst, _∙_}
-use mathlib.Core.Bool.{cond}
 use mathlib.Core.List.{List, _∷_}
 use Prim.Native.Nat.{ℕ, zero, suc, _+_, _*_, _/_, _%_, _<_, _≤_, min}
 use native.Mathlib.Omega.{arith}
 use native.Mathlib.Nat.{div-add-mod', add-zero, add-assoc}
-use lib.Dec.{ltb}
 use lib.ListN.{length}
 use Rattle.base.specs.Bytes.{byteAt, pairAt, pairBytes}
 use Rattle.base.specs.Lists.{upTo}

@@ -1,6 +1,5 @@
 -- The tables of a request file and its bytes, one from the other (rule 10): what marks its kind, the horizon field, then the devices, the tasks and the jobs,
 -- each table after its count. Nothing is judged here. proofs/Back: reading the bytes of tables gives the tables again, and the bytes of the tables of a whole file are the file.
--- Assumes nothing.
 use Prim.Native.Nat.{ℕ, zero, suc, _+_, _*_, _<_}
 use mathlib.Core.List.{List, [], _∷_, _++_}
 use mathlib.Core.Bool.{cond}

@@ -1,5 +1,4 @@
 -- The records of a request file, each read from its bytes and laid out as them (rules 11 to 13, 76 and 81). A number of two bytes has its high byte first (rule 10).
--- Assumes nothing.
 use Prim.Native.Nat.{ℕ, _+_, _*_, min}
 use mathlib.Core.Bool.{cond}
 use mathlib.Core.List.{List, [], _∷_, _++_}

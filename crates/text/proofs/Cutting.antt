@@ -1,10 +1,9 @@
 -- The fields of a line by places are those of the definitions, two quotes left as they stand.
--- Assumes nothing.
 use mathlib.Core.Path.{_≡_, refl, sym, ap, subst, _∙_}
-use mathlib.Core.Bool.{Bool, true, false, cond, _&&_, true≢false}
+use mathlib.Core.Bool.{Bool, true, false, cond, true≢false}
 use mathlib.Core.List.{List, [], _∷_, _++_}
 use mathlib.Core.Option.{Option, none, some, Option·getD}
-use Prim.Native.Nat.{ℕ, zero, suc, _+_, _-_, _*_, _<_, _≤_}
+use Prim.Native.Nat.{ℕ, zero, suc, _+_, _-_, _<_, _≤_}
 use native.Mathlib.Omega.{arith}
 use native.Mathlib.Numerals.{add-one}
 use native.Mathlib.Decide.{decLt}
@@ -17,7 +16,6 @@ use Rattle.base.proofs.Numbers.{length-nil}
 use Rattle.text.specs.declared.State.{State}
 use Rattle.text.specs.declared.State.the-variants.{Fresh, Plain, Quoted, Closed}
 use Rattle.text.specs.Grammar.{comma, quote, Step, stray, ends, goes, step, kept, then, after, fieldsFrom, unread}
-use Rattle.text.specs.declared.Turn.{Turn}
 use Rattle.text.specs.declared.Turn.the-variants.{Stray, Ends, Goes}
 use Rattle.text.specs.declared.Cut.{Cut}
 use Rattle.text.specs.inside.Cursors.{raw, rawOf, turnOf, isOver, onward, cutFrom, cutOf, startsQuoted, firstField, counted, fieldAt}

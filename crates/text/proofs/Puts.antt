@@ -1,11 +1,10 @@
 -- Laws of bytes that are put one after the other.
--- Assumes nothing.
-use mathlib.Core.Path.{_≡_, refl, sym, ap, _∙_}
-use mathlib.Core.List.{List, [], _∷_, _++_, append-assoc, append-nil}
-use Prim.Native.Nat.{ℕ, suc, _+_, _-_, _<_, _≤_}
+use mathlib.Core.Path.{_≡_, sym, ap, _∙_}
+use mathlib.Core.List.{List, [], _∷_, _++_, append-assoc}
+use Prim.Native.Nat.{ℕ, suc, _+_, _<_, _≤_}
 use native.Mathlib.Omega.{arith}
 use native.Mathlib.Numerals.{add-one}
-use lib.ListN.{length, set, getD, take, drop, length-append, length-take, length-drop, take-append-drop}
+use lib.ListN.{length, set, getD, take, drop, length-append, length-drop, take-append-drop}
 use lib.Seq.{set-at, split-at, take-at, drop-at, drop-drop, length-take-le}
 use Rattle.text.specs.Grammar.{cr, lf, comma}
 use Rattle.text.specs.Numerals.{digitsOf, numbersText}

@@ -1,24 +1,21 @@
 -- No unescaping is needed: a field with a quote in it is no number (29), and no part number either (`quote-21` in sheet/proofs/Signs), so that what two quotes
 -- stand for never shows.
--- Assumes nothing.
-use mathlib.Core.Path.{_≡_, refl, sym, ap, subst, _∙_}
-use mathlib.Core.Bool.{Bool, true, false, not, cond, _&&_, _||_, true≢false}
-use mathlib.Core.List.{List, [], _∷_, _++_, map}
-use mathlib.Core.Logic.{_⊎_, inl, inr, ⊎-elim}
-use mathlib.Core.Option.{Option, none, some, Option·getD}
-use Prim.Native.Nat.{ℕ, zero, suc, _+_, _-_, _<_, _≤_}
-use native.Mathlib.Omega.{arith}
-use lib.ListN.{length, drop, replicate}
-use lib.Dec.{eqb, leb, ltb}
-use borrow.Author.Tests.{eqb-true, not-false}
-use Rattle.base.specs.Lists.{padded, all, one}
-use Rattle.base.specs.Refusals.{Refusal, firstThat, orElse}
+use mathlib.Core.Path.{_≡_, refl, sym}
+use mathlib.Core.Bool.{Bool, true, false, cond, _&&_, _||_, true≢false}
+use mathlib.Core.List.{List, [], _∷_, _++_}
+use mathlib.Core.Logic.{_⊎_, inl, inr}
+use mathlib.Core.Option.{Option, none, some}
+use Prim.Native.Nat.{ℕ}
+use lib.ListN.{length}
+use lib.Dec.{eqb, ltb}
+use borrow.Author.Tests.{eqb-true}
+use Rattle.base.specs.Lists.{all, one}
 use Rattle.base.proofs.Cases.{or-right, and-right}
 use Rattle.text.specs.declared.State.{State}
 use Rattle.text.specs.declared.State.the-variants.{Fresh, Plain, Quoted, Closed}
 use Rattle.text.specs.Grammar.{comma, quote, Step, stray, ends, goes, step, last, before, kept, then, after, fieldsFrom, fieldsOf}
 use Rattle.text.specs.inside.Cursors.{rawOf}
-use Rattle.text.specs.Numerals.{digit, valueOf, isNumber}
+use Rattle.text.specs.Numerals.{digit, isNumber}
 
 abbrev pub hasQuote : List ℕ → Bool
 hasQuote = one (λ b. eqb b quote)

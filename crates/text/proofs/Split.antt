@@ -1,20 +1,16 @@
 -- Laws of lines and fields: text that was joined comes apart as it was.
--- Assumes nothing.
-use mathlib.Core.Path.{_≡_, refl, sym, ap, _∙_}
-use mathlib.Core.Bool.{Bool, true, false, cond, _&&_, _||_, true≢false}
+use mathlib.Core.Path.{_≡_, refl, ap, _∙_}
+use mathlib.Core.Bool.{false}
 use mathlib.Core.List.{List, [], _∷_, _++_, map}
 use mathlib.Core.Option.{Option, none, some}
-use Prim.Native.Nat.{ℕ, zero, suc, _+_, _<_, _≤_}
+use Prim.Native.Nat.{ℕ, _<_}
 use native.Mathlib.Omega.{arith}
-use lib.Dec.{eqb, leb}
-use borrow.Author.Tests.{leb-true, ne-eqb}
+use lib.Dec.{eqb}
+use borrow.Author.Tests.{ne-eqb}
 use Rattle.base.proofs.Every.{Every, every-append}
-use Rattle.base.specs.Lists.{all}
-use Rattle.base.proofs.Cases.{both}
-use Rattle.text.specs.declared.State.{State}
-use Rattle.text.specs.declared.State.the-variants.{Fresh, Plain, Quoted, Closed}
-use Rattle.text.specs.Grammar.{cr, lf, comma, quote, onto, linesOf, textOf, Step, goes, step, before, kept, then, fieldsFrom, fieldsOf}
-use Rattle.text.specs.Numerals.{digits, digitsOf, numbersText}
+use Rattle.text.specs.declared.State.the-variants.{Fresh, Plain, Quoted}
+use Rattle.text.specs.Grammar.{cr, lf, comma, quote, onto, linesOf, textOf, goes, step, kept, then, fieldsFrom}
+use Rattle.text.specs.Numerals.{digitsOf, numbersText}
 use Rattle.text.proofs.Decimal.{all-digits, Ordinary, digits-ordinary}
 
 other : (b c : ℕ) → c < 48 → Ordinary b → eqb b c ≡ false

@@ -1,6 +1,5 @@
 -- Comma-separated text after RFC 4180, narrowed (rules 100 to 102): every line ends in CR LF, of which the last line of a text that is read may lack both; a
 -- line break is never part of a field; there is no header. Between quotes two quotes stand for one.
--- Assumes nothing.
 use mathlib.Core.Bool.{Bool, true, false, cond, _&&_}
 use mathlib.Core.List.{List, [], _∷_, _++_}
 use mathlib.Core.Option.{Option, none, some}

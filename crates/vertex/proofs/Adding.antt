@@ -1,5 +1,4 @@
 -- Sums over the unplaced jobs: one job less, none left, all of them.
--- Assumes nothing.
 use mathlib.Core.Path.{_≡_, refl, _∙_}
 use mathlib.Core.Bool.{Bool, true, false}
 use mathlib.Core.List.{List, [], _∷_}

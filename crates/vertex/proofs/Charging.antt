@@ -1,5 +1,4 @@
 -- What a device has cost: no more than working through all of its ticks, so that no sum of the search wraps; and a job placed keeps this.
--- Assumes nothing.
 use mathlib.Core.Path.{_≡_, sym, _∙_, subst}
 use mathlib.Core.Bool.{Bool, true, false, cond, true≢false}
 use mathlib.Core.List.{[]}

@@ -1,5 +1,4 @@
 -- A loop over flags, as code has it, beside a loop over the list of the numbers that are not flagged, as the visiting order has it.
--- Assumes nothing.
 use mathlib.Core.Path.{_≡_, refl, sym, ap, _∙_, subst}
 use mathlib.Core.Bool.{Bool, true, false, cond}
 use mathlib.Core.List.{List, [], _∷_, _++_, map-id}

@@ -1,5 +1,4 @@
 -- The floor of a child by its parent's numbers, and the energy of a complete vertex by its own.
--- Assumes nothing.
 use mathlib.Core.Path.{_≡_, _∙_}
 use mathlib.Core.Bool.{Bool, true, false, cond}
 use mathlib.Core.List.{List}

@@ -1,5 +1,4 @@
 -- Cut A as one comparison: a vertex is dropped exactly if its time is past the latest that its unplaced jobs allow.
--- Assumes nothing.
 use mathlib.Core.Path.{_≡_, refl, sym, _∙_}
 use mathlib.Core.Bool.{Bool, true, false}
 use mathlib.Core.List.{List}

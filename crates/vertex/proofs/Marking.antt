@@ -1,5 +1,4 @@
 -- A job marked in the numbers of its parent: its start, and the running times that are left.
--- Assumes nothing.
 use mathlib.Core.Path.{_≡_, _∙_}
 use mathlib.Core.Bool.{true, false}
 use mathlib.Core.List.{List}

@@ -1,5 +1,4 @@
 -- The jobs' numbers, from a vertex to a child and on to the vertex that the child becomes once cut A spares it. No device plays a part here.
--- Assumes nothing.
 use mathlib.Core.Path.{_≡_, sym, ap, _∙_}
 use mathlib.Core.Bool.{true, false}
 use mathlib.Core.List.{List}

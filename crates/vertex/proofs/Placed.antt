@@ -1,5 +1,4 @@
 -- A job placed in the numbers of its parent: they hold the child, and its sums are right.
--- Assumes nothing.
 use mathlib.Core.Path.{_≡_, refl, sym, ap, _∙_, subst}
 use mathlib.Core.Bool.{Bool, true, false, cond}
 use mathlib.Core.List.{List}

@@ -1,5 +1,4 @@
 -- A vertex that a search comes to holds its sums.
--- Assumes nothing.
 use mathlib.Core.Path.{_≡_, refl}
 use mathlib.Core.List.{List}
 use Prim.Native.Nat.{ℕ, _+_, _≤_}

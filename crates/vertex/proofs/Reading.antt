@@ -1,5 +1,4 @@
 -- Rows of a list of numbers and the jobs in it: what is read there, and what a store does to them.
--- Assumes nothing.
 use mathlib.Core.Path.{_≡_, sym, ap, _∙_}
 use mathlib.Core.Bool.{true, false, not}
 use mathlib.Core.List.{List}

@@ -1,5 +1,4 @@
 -- The root: its numbers, and that the sums stored there are those of all jobs.
--- Assumes nothing.
 use mathlib.Core.Path.{_≡_, refl, sym, ap, _∙_, subst}
 use mathlib.Core.Bool.{Bool, true, false, cond}
 use mathlib.Core.List.{List}

@@ -1,5 +1,4 @@
 -- The two least last starts of the unplaced jobs tell the least of them without any one job.
--- Assumes nothing.
 use mathlib.Core.Path.{_≡_, refl, ap, _∙_}
 use mathlib.Core.Bool.{Bool, true, false, cond}
 use mathlib.Core.List.{List}

@@ -1,6 +1,5 @@
 -- The code's steps are those of the visiting order (rules 40 to 46): at the same vertex the same tests, the same children in turn, the same count and the same best.
 -- So what the search answers follows from the visiting order and the budget.
--- Assumes nothing.
 use mathlib.Core.Path.{_≡_, refl, sym, ap, _∙_, subst}
 use mathlib.Core.Bool.{Bool, true, false, not, cond, _&&_, true≢false}
 use mathlib.Core.Option.{Option, none, some}

@@ -1,5 +1,4 @@
 -- The lent tally: one vertex more, the best offered anew, and cut B against it.
--- Assumes nothing.
 use mathlib.Core.Path.{_≡_, refl, sym, ap, _∙_}
 use mathlib.Core.Bool.{Bool, true, false, cond}
 use mathlib.Core.List.{List}

@@ -1,5 +1,4 @@
 -- A budget over turns that only add to the count: where a loop stops, where it goes on, and where it ends.
--- Assumes nothing.
 use mathlib.Core.Path.{_≡_, refl, sym, ap, _∙_}
 use mathlib.Core.Bool.{Bool, true, false}
 use Prim.Native.Nat.{ℕ, _+_, _≤_, _<_}

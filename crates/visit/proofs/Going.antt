@@ -1,5 +1,4 @@
 -- The cycle of the search, step by step: what each way out of its functions comes to.
--- Assumes nothing.
 use mathlib.Core.Path.{_≡_, refl, sym, ap, _∙_, subst}
 use mathlib.Core.Bool.{Bool, true, false}
 use mathlib.Core.List.{List}

@@ -1,5 +1,4 @@
 -- The steps' visit: it counts, and what comes of a vertex that a cut drops, of a complete one and of one whose children are examined.
--- Assumes nothing.
 use mathlib.Core.Path.{_≡_, refl}
 use mathlib.Core.Bool.{Bool, true, false, not}
 use mathlib.Core.List.{List}

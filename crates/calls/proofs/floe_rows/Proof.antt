@@ -1,5 +1,4 @@
 -- `calls::floe_rows` meets its contract.
--- Assumes nothing.
 use native.Mathlib.Omega.{arith}
 use Prim.Native.Nat.{_≤_}
 use Rattle.schedule.specs.Quantities.{jobs}
@@ -19,32 +18,11 @@ recorded c = read-accepted _ _ (c .before .before .read .ensures) (c .if1 .left)
 few : (c : tie.Else1) → jobs (c .before .before .read .result .recorder) ≤ 16
 few c = accepted-valid _ _ (recorded c) .few-jobs
 
-read-requires : tie.Need-read-requires
-read-requires c κs = search needs
-
-refusal-requires : tie.Need-refusal-requires
-refusal-requires c κs = search needs
-
-tell-requires : tie.Need-tell-requires
-tell-requires c κs = search needs
-
-same-length : tie.Need-same-length
-same-length c = search needs
-
 returns : tie.Need-returns
 returns c = let told = c .before .before .tell .ensures in rw (told .0, told .1, c .before .before .before .before .refusal .ensures) (Calls.called (P.OfFile.refused (read-refused _ _ (c .before .before .before .before .before .before .before .read .ensures) (c .before .before .before .before .before .if1 .taken))))
 
 mul-if2 : tie.Need-mul-if2
 mul-if2 c = omega (arith, few c)
-
-refusal-requires-2 : tie.Need-refusal-requires-2
-refusal-requires-2 c κs = search needs
-
-tell-requires-2 : tie.Need-tell-requires-2
-tell-requires-2 c κs = search needs
-
-same-length-2 : tie.Need-same-length-2
-same-length-2 c = search needs
 
 returns-2 : tie.Need-returns-2
 returns-2 c = let told = c .before .before .tell2 .ensures in rw (told .0, told .1, c .before .before .before .before .refusal2 .ensures) (Calls.called (P.OfFile.read (recorded (c .before .before .before .before .before .before)) (P.stops (c .before .before .before .before .before .if2 .taken))))
@@ -54,15 +32,6 @@ returns-3 c = let a = c .before .before .before .before .before .before .before 
 
 rows-bytes-requires : tie.Need-rows-bytes-requires
 rows-bytes-requires c κs = (accepted-valid _ _ (recorded (c .before .before .before)), c .before .before .if2 .left)
-
-tell-requires-3 : tie.Need-tell-requires-3
-tell-requires-3 c κs = search needs
-
-same-length-3 : tie.Need-same-length-3
-same-length-3 c = search needs
-
-same-length-4 : tie.Need-same-length-4
-same-length-4 c = search needs
 
 returns-4 : tie.Need-returns-4
 returns-4 c =
@@ -74,19 +43,19 @@ pub floe-rows-spec : {M : Type 1} → statement M
 floe-rows-spec =
     tie.close
     (tie.spec
-    read-requires
-    refusal-requires
-    tell-requires
-    same-length
+    (λ c κs. search needs)
+    (λ c κs. search needs)
+    (λ c κs. search needs)
+    (λ c. search needs)
     returns
     mul-if2
-    refusal-requires-2
-    tell-requires-2
-    same-length-2
+    (λ c κs. search needs)
+    (λ c κs. search needs)
+    (λ c. search needs)
     returns-2
     returns-3
     rows-bytes-requires
-    tell-requires-3
-    same-length-3
-    same-length-4
+    (λ c κs. search needs)
+    (λ c. search needs)
+    (λ c. search needs)
     returns-4)

@@ -1,5 +1,4 @@
 -- What the code hands on of a file where the result buffer has no room. Nobody need believe it: no contract of a call speaks of it.
--- Assumes nothing.
 use mathlib.Core.List.{List}
 use Prim.Native.Nat.{ℕ}
 use Rattle.schedule.specs.declared.Recorder.{Recorder}

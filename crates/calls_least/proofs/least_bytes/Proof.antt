@@ -1,5 +1,4 @@
 -- `calls_least::least_bytes` meets its contract.
--- Assumes nothing.
 use mathlib.Core.Path.{sym}
 use native.Mathlib.Omega.{arith}
 use Prim.Native.Nat.{_≤_}
@@ -27,26 +26,14 @@ few c = accepted-valid _ _ (recorded c) .few-jobs
 room : (c : tie.After-least-of) → jobs (c .before .before .before .before .before .before .read .result .recorder) ≤ length (c .least-of .last .1 .1 .1 .0)
 room c = omega (arith, few (c .before .before .before .before), c .least-of .kept)
 
-read-requires : tie.Need-read-requires
-read-requires c κs = search needs
-
-refusal-requires : tie.Need-refusal-requires
-refusal-requires c κs = search needs
-
 returns : tie.Need-returns
 returns c = rw (c .refusal .ensures) (P.OfFile.refused (read-refused _ _ (c .before .before .before .read .ensures) (c .before .if1 .taken)))
 
 mul-if2 : tie.Need-mul-if2
 mul-if2 c = omega (arith, few c)
 
-refusal-requires-2 : tie.Need-refusal-requires-2
-refusal-requires-2 c κs = search needs
-
 returns-2 : tie.Need-returns-2
 returns-2 c = rw (c .refusal2 .ensures) (P.OfFile.read (recorded (c .before .before)) (starts-short _ _ _ (c .before .if2 .taken) L.LeastOf.short))
-
-slice-aggregate-least-of : tie.Need-slice-aggregate-least-of
-slice-aggregate-least-of c = search needs
 
 least-of-requires : tie.Need-least-of-requires
 least-of-requires c κs = accepted-valid _ _ (recorded (c .before .before .before))
@@ -62,21 +49,12 @@ put-starts-requires c κs =
     let f = c .before .before .before .before .before .before .before in
     rw (length-take-le (jobs (c .before .before .before .before .before .before .before .before .before .before .before .before .before .read .result .recorder)) (f .least-of .last .1 .1 .1 .0) (room f)) (c .before .before .before .before .before .before .before .before .before .before .if2 .left)
 
-same-length : tie.Need-same-length
-same-length c = search needs
-
-same-length-2 : tie.Need-same-length-2
-same-length-2 c = search needs
-
 returns-3 : tie.Need-returns-3
 returns-3 c =
     let f = c .before .before .before .before .before .before .before .before .before .before in
     let r = recorded (c .before .before .before .before .before .before .before .before .before .before .before .before .before .before) in
     rw (c .before .before .put-starts .ensures, length-take-le _ _ (room f))
     (P.OfFile.read r (starts-given _ _ _ (least-alike _ _) (c .before .before .before .before .before .before .before .before .before .before .before .before .before .if2 .left) _ (omega (arith, few (c .before .before .before .before .before .before .before .before .before .before .before .before .before .before))) (c .before .before .before .before .before .if3 .taken) (f .least-of .ensures)))
-
-same-length-3 : tie.Need-same-length-3
-same-length-3 c = search needs
 
 returns-4 : tie.Need-returns-4
 returns-4 c =
@@ -87,19 +65,19 @@ pub least-bytes-spec : {M : Type 1} → statement M
 least-bytes-spec =
     tie.close
     (tie.spec
-    read-requires
-    refusal-requires
+    (λ c κs. search needs)
+    (λ c κs. search needs)
     returns
     mul-if2
-    refusal-requires-2
+    (λ c κs. search needs)
     returns-2
-    slice-aggregate-least-of
+    (λ c. search needs)
     least-of-requires
     array-share-prefix-own
     slice-aggregate-put-starts
     put-starts-requires
-    same-length
-    same-length-2
+    (λ c. search needs)
+    (λ c. search needs)
     returns-3
-    same-length-3
+    (λ c. search needs)
     returns-4)

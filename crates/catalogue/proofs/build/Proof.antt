@@ -1,5 +1,4 @@
 -- `catalogue::build` meets its contract.
--- Assumes nothing.
 use mathlib.Core.Path.{_≡_, sym, _∙_}
 use mathlib.Core.Bool.{false}
 use borrow.Author.Needs.{needs}
@@ -22,29 +21,17 @@ there : (c : tie.Else3)
     (pieces 8 (c .before .before .before .before .before .before .before .before .before .args .wanted .now)) ≡ false
 there c = sym (c .before .is-lacking .ensures) ∙ c .if3 .left
 
-is-unfit-requires : tie.Need-is-unfit-requires
-is-unfit-requires c κs = search needs
-
-refusal-requires : tie.Need-refusal-requires
-refusal-requires c κs = search needs
-
 returns : tie.Need-returns
 returns c = rw (c .refusal .ensures) (B.BuiltOf.bad (sym (c .before .before .is-unfit .ensures) ∙ c .before .if1 .taken))
 
 is-repeated-requires : tie.Need-is-repeated-requires
 is-repeated-requires c κs = fit c
 
-refusal-requires-2 : tie.Need-refusal-requires-2
-refusal-requires-2 c κs = search needs
-
 returns-2 : tie.Need-returns-2
 returns-2 c = rw (c .refusal2 .ensures) (B.BuiltOf.twice (fit (c .before .before .before)) (sym (c .before .before .is-repeated .ensures) ∙ c .before .if2 .taken))
 
 is-lacking-requires : tie.Need-is-lacking-requires
 is-lacking-requires c κs = fit (c .before .before)
-
-refusal-requires-3 : tie.Need-refusal-requires-3
-refusal-requires-3 c κs = search needs
 
 returns-3 : tie.Need-returns-3
 returns-3 c =
@@ -53,12 +40,6 @@ returns-3 c =
 
 devices-of-requires : tie.Need-devices-of-requires
 devices-of-requires c κs = (fit (c .before .before .before .before), there c)
-
-write-requires : tie.Need-write-requires
-write-requires c κs = search needs
-
-same-length : tie.Need-same-length
-same-length c = search needs
 
 returns-4 : tie.Need-returns-4
 returns-4 c =
@@ -72,16 +53,16 @@ pub build-spec : {M : Type 1} → statement M
 build-spec =
     tie.close
     (tie.spec
-    is-unfit-requires
-    refusal-requires
+    (λ c κs. search needs)
+    (λ c κs. search needs)
     returns
     is-repeated-requires
-    refusal-requires-2
+    (λ c κs. search needs)
     returns-2
     is-lacking-requires
-    refusal-requires-3
+    (λ c κs. search needs)
     returns-3
     devices-of-requires
-    write-requires
-    same-length
+    (λ c κs. search needs)
+    (λ c. search needs)
     returns-4)

@@ -1,5 +1,4 @@
 -- Where the code finds a part and a wanted number: in catalogues and lists of whole pieces, by place. Nobody need believe these: `Built` does not speak of them.
--- Assumes nothing.
 use mathlib.Core.Path.{_≡_}
 use mathlib.Core.Bool.{true, false}
 use mathlib.Core.List.{List}

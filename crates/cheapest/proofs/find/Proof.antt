@@ -1,5 +1,4 @@
 -- `cheapest::find` meets its contract.
--- Assumes nothing.
 use borrow.Author.Needs.{needs}
 use Rattle.flat.specs.inside.Flat.{recorderOf}
 use Rattle.extras.specs.inside.Tabled.{capAt}
@@ -8,12 +7,6 @@ use Rattle.least.proofs.Kept.{noKey, right-clear}
 use Rattle.least.proofs.Keyed.{recalls-none}
 use Rattle.cheapest.proofs.find.Statement.{statement}
 use Rattle.cheapest.proofs.find.Tie as tie
-
-lay-extras-requires : tie.Need-lay-extras-requires
-lay-extras-requires c κs = search needs
-
-clear-requires : tie.Need-clear-requires
-clear-requires c κs = search needs
 
 least-starts-requires : tie.Need-least-starts-requires
 least-starts-requires c κs =
@@ -30,13 +23,10 @@ least-starts-requires c κs =
       s .pre .1 .1,
     )
 
-same-length : tie.Need-same-length
-same-length c = search needs
-
 returns : tie.Need-returns
 returns c = c .before .before .least-starts .ensures
 
 pub find-spec : {M : Type 1} → statement M
 find-spec =
     tie.close
-    (tie.spec lay-extras-requires clear-requires least-starts-requires same-length returns)
+    (tie.spec (λ c κs. search needs) (λ c κs. search needs) least-starts-requires (λ c. search needs) returns)

@@ -1,14 +1,10 @@
 -- `cheapest::is_possible` meets its contract.
--- Assumes nothing.
 use native.Mathlib.Omega.{arith}
 use lib.Pow.{pow-pos}
 use borrow.Author.Needs.{needs}
 use Rattle.latest.proofs.Tabled.{power-few}
 use Rattle.cheapest.proofs.is_possible.Statement.{statement}
 use Rattle.cheapest.proofs.is_possible.Tie as tie
-
-power-requires : tie.Need-power-requires
-power-requires c κs = search needs
 
 sub-last : tie.Need-sub-last
 sub-last c = omega (arith, c .power .ensures, pow-pos (c .before .args .n))
@@ -24,4 +20,4 @@ returns c = rw (c .before .power .ensures)
 
 pub is-possible-spec : {M : Type 1} → statement M
 is-possible-spec =
-    tie.close (tie.spec power-requires sub-last mul-last element-copy-out-last returns)
+    tie.close (tie.spec (λ c κs. search needs) sub-last mul-last element-copy-out-last returns)

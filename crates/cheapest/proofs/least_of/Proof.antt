@@ -1,5 +1,4 @@
 -- `cheapest::least_of` meets its contract.
--- Assumes nothing.
 use mathlib.Core.Path.{sym, _∙_, subst}
 use borrow.Author.Needs.{needs}
 use borrow.Author.Tests.{not-true, not-false}
@@ -15,23 +14,11 @@ use Rattle.cheapest.proofs.least_of.Tie as tie
 tabled : (c : tie.After-lay-latest) → Laid (c .before .before .before .before .before .before .before .args .r) (c .lay-latest .last .1 .0)
 tabled c = subst (λ (X : Recorder). Laid X (c .lay-latest .last .1 .0)) (c .before .before .before .flat-of .ensures) (c .lay-latest .ensures)
 
-refusal-requires : tie.Need-refusal-requires
-refusal-requires c κs = search needs
-
 returns : tie.Need-returns
 returns c = rw (c .refusal .ensures) (P.LeastOf.short (c .before .if1 .taken))
 
-flat-of-requires : tie.Need-flat-of-requires
-flat-of-requires c κs = search needs
-
 lay-latest-requires : tie.Need-lay-latest-requires
 lay-latest-requires c κs = (subst Valid (sym (c .before .before .flat-of .ensures)) (c .before .before .before .before .before .before .pre), search needs)
-
-is-possible-requires : tie.Need-is-possible-requires
-is-possible-requires c κs = search needs
-
-refusal-requires-2 : tie.Need-refusal-requires-2
-refusal-requires-2 c κs = search needs
 
 returns-2 : tie.Need-returns-2
 returns-2 c =
@@ -60,27 +47,18 @@ least-with-requires c κs =
       ),
     )
 
-same-length : tie.Need-same-length
-same-length c = search needs
-
-same-length-2 : tie.Need-same-length-2
-same-length-2 c = search needs
-
-returns-3 : tie.Need-returns-3
-returns-3 c = search needs
-
 pub least-of-spec : {M : Type 1} → statement M
 least-of-spec =
     tie.close
     (tie.spec
-    refusal-requires
+    (λ c κs. search needs)
     returns
-    flat-of-requires
+    (λ c κs. search needs)
     lay-latest-requires
-    is-possible-requires
-    refusal-requires-2
+    (λ c κs. search needs)
+    (λ c κs. search needs)
     returns-2
     least-with-requires
-    same-length
-    same-length-2
-    returns-3)
+    (λ c. search needs)
+    (λ c. search needs)
+    (λ c. search needs))

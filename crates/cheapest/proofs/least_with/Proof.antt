@@ -1,5 +1,4 @@
 -- `cheapest::least_with` meets its contract.
--- Assumes nothing.
 use mathlib.Core.Path.{refl, sym, subst}
 use Prim.Native.Nat.{_-_, _^_, _<_}
 use native.Mathlib.Omega.{arith}
@@ -33,12 +32,6 @@ find-requires c κs =
       ),
     )
 
-refusal-after-requires : tie.Need-refusal-after-requires
-refusal-after-requires c κs = search needs
-
-same-length : tie.Need-same-length
-same-length c = search needs
-
 returns : tie.Need-returns
 returns c =
     let s = c .before .before .before .before .before .before .before .before .before in
@@ -65,12 +58,6 @@ give-requires c κs =
     (not-false (f .find .result) (c .before .before .if1 .left)) .feasible in
     (s .pre .0, (e, omega (arith, e .one-each, s .pre .1 .1 .1 .0)))
 
-same-length-2 : tie.Need-same-length-2
-same-length-2 c = search needs
-
-same-length-3 : tie.Need-same-length-3
-same-length-3 c = search needs
-
 returns-2 : tie.Need-returns-2
 returns-2 c =
     let s = c .before .before .before .before .before .before .before .before .before .before .before .before .before in
@@ -83,12 +70,12 @@ least-with-spec =
     tie.close
     (tie.spec
     find-requires
-    refusal-after-requires
-    same-length
+    (λ c κs. search needs)
+    (λ c. search needs)
     returns
     array-share-prefix-found
     slice-aggregate-give
     give-requires
-    same-length-2
-    same-length-3
+    (λ c. search needs)
+    (λ c. search needs)
     returns-2)

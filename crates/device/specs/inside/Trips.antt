@@ -1,5 +1,4 @@
 -- What the code keeps of a gap: the trip that is best so far, and its bytes.
--- Assumes nothing.
 use mathlib.Core.Path.{_≡_}
 use mathlib.Core.Bool.{Bool, false}
 use mathlib.Core.List.{List, _++_, map}

@@ -1,5 +1,4 @@
 -- The uses of one device, in running order, as the code keeps them: use i begins at tick `begin i` and ends before tick `end i`.
--- Assumes nothing.
 use mathlib.Core.Bool.{Bool, false, cond, _&&_, _||_}
 use Prim.Native.Nat.{ℕ, zero, suc, _≤_, _<_}
 use lib.Dec.{leb, ltb, eqb}

@@ -1,5 +1,4 @@
 -- `doorway::is_open` meets its contract.
--- Assumes nothing.
 use mathlib.Core.Path.{sym}
 use mathlib.Core.Bool.{true≢false}
 use native.Mathlib.Omega.{arith}

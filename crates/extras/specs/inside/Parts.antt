@@ -1,5 +1,4 @@
 -- One device in the table of extras: what stands there of it, and what laying it leaves as it was.
--- Assumes nothing.
 use mathlib.Core.Path.{_≡_}
 use mathlib.Core.List.{List}
 use mathlib.Core.Logic.{_⊎_}

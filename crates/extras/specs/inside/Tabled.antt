@@ -1,5 +1,4 @@
 -- The lent table of extras: what each gap of each device costs above the deepest sleep, and with it cap, steepest rise and steepest fall.
--- Assumes nothing.
 use mathlib.Core.Path.{_≡_}
 use mathlib.Core.List.{List}
 use Prim.Native.Nat.{ℕ, _+_, _*_, _<_, _≤_}

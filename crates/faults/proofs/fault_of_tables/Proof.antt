@@ -8,7 +8,7 @@ use lib.ListN.{length, take, drop, length-append}
 use lib.Seq.{length-take-le}
 use Rattle.tables.specs.declared.Tables.{Tables}
 use Rattle.tables.specs.Layout.{marker, layoutOf, bytesOf}
-use Rattle.tables.specs.inside.Held.{cut, held}
+use Rattle.tables.specs.inside.Held.{cut}
 use Rattle.tables.proofs.Appending.{held-front, held-long}
 use Rattle.tables.proofs.Back.{unmarked}
 use Rattle.tables.proofs.Joining.{cut-fits}

@@ -1,5 +1,4 @@
 -- `first::first_of` meets its contract.
--- Assumes nothing.
 use mathlib.Core.Path.{sym, subst}
 use Prim.Native.Nat.{ℕ, _<_}
 use native.Mathlib.Omega.{arith}
@@ -11,14 +10,8 @@ use Rattle.first.proofs.Found.{whole-known, is-none, is-ready, is-found
 use Rattle.first.proofs.first_of.Statement.{statement}
 use Rattle.first.proofs.first_of.Tie as tie
 
-refusal-requires : tie.Need-refusal-requires
-refusal-requires c κs = search needs
-
 returns : tie.Need-returns
 returns c = rw (c .refusal .ensures) (P.FirstOf.short (c .before .if1 .taken))
-
-flat-of-requires : tie.Need-flat-of-requires
-flat-of-requires c κs = search needs
 
 lay-latest-requires : tie.Need-lay-latest-requires
 lay-latest-requires c κs = (subst Valid (sym (c .before .before .flat-of .ensures)) (c .before .before .before .before .before .pre), length-replicate {A = ℕ} 65536 0)
@@ -36,9 +29,6 @@ mul-if2 c = let k = known c in search needs
 array-read-if2 : tie.Need-array-read-if2
 array-read-if2 c = omega (arith, known c)
 
-refusal-requires-2 : tie.Need-refusal-requires-2
-refusal-requires-2 c κs = search needs
-
 returns-2 : tie.Need-returns-2
 returns-2 c =
     let a = c .before .before in
@@ -52,12 +42,6 @@ lay-starts-requires c κs =
     let s = a .before .before .before .before .before .before .before .before in
     is-ready _ (s .pre) _ (a .before .before .before .before .before .flat-of .ensures) _ (a .before .before .lay-latest .ensures) (a .all-jobs .result) (a .all-jobs .ensures) (s .args .starts .now) (omega arith) (c .before .before .before .if2 .left)
 
-success-requires : tie.Need-success-requires
-success-requires c κs = search needs
-
-same-length : tie.Need-same-length
-same-length c = search needs
-
 returns-3 : tie.Need-returns-3
 returns-3 c =
     let a = c .before .before .before .before .before .before .before .before in
@@ -69,16 +53,16 @@ pub first-of-spec : {M : Type 1} → statement M
 first-of-spec =
     tie.close
     (tie.spec
-    refusal-requires
+    (λ c κs. search needs)
     returns
-    flat-of-requires
+    (λ c κs. search needs)
     lay-latest-requires
     all-jobs-requires
     mul-if2
     array-read-if2
-    refusal-requires-2
+    (λ c κs. search needs)
     returns-2
     lay-starts-requires
-    success-requires
-    same-length
+    (λ c κs. search needs)
+    (λ c. search needs)
     returns-3)

@@ -1,5 +1,4 @@
 -- `flat::deep_power` meets its contract.
--- Assumes nothing.
 use mathlib.Core.Path.{ap, _∙_}
 use Prim.Native.Nat.{ℕ, _+_, _*_}
 use native.Mathlib.Omega.{arith}
@@ -8,33 +7,6 @@ use borrow.Author.Needs.{needs}
 use Rattle.flat.proofs.Cells.{levels-at, deep-at}
 use Rattle.flat.proofs.deep_power.Statement.{statement}
 use Rattle.flat.proofs.deep_power.Tie as tie
-
-mul-levels : tie.Need-mul-levels
-mul-levels c = search needs
-
-add-levels : tie.Need-add-levels
-add-levels c = search needs
-
-mul-levels-2 : tie.Need-mul-levels-2
-mul-levels-2 c = search needs
-
-element-copy-out-levels : tie.Need-element-copy-out-levels
-element-copy-out-levels c = search needs
-
-cast-levels : tie.Need-cast-levels
-cast-levels c = search needs
-
-mul-result : tie.Need-mul-result
-mul-result c = search needs
-
-add-result : tie.Need-add-result
-add-result c = search needs
-
-add-result-2 : tie.Need-add-result-2
-add-result-2 c = search needs
-
-mul-result-2 : tie.Need-mul-result-2
-mul-result-2 c = search needs
 
 element-copy-out-result : tie.Need-element-copy-out-result
 element-copy-out-result c =
@@ -51,14 +23,14 @@ pub deep-power-spec : {M : Type 1} → statement M
 deep-power-spec =
     tie.close
     (tie.spec
-    mul-levels
-    add-levels
-    mul-levels-2
-    element-copy-out-levels
-    cast-levels
-    mul-result
-    add-result
-    add-result-2
-    mul-result-2
+    (λ c. search needs)
+    (λ c. search needs)
+    (λ c. search needs)
+    (λ c. search needs)
+    (λ c. search needs)
+    (λ c. search needs)
+    (λ c. search needs)
+    (λ c. search needs)
+    (λ c. search needs)
     element-copy-out-result
     returns)

@@ -1,5 +1,4 @@
 -- `flat::device_number` meets its contract.
--- Assumes nothing.
 use Prim.Native.Nat.{ℕ, _-_, _*_, _^_, _<_}
 use native.Mathlib.Omega.{arith}
 use borrow.Author.Needs.{needs}
@@ -8,15 +7,9 @@ use Rattle.flat.specs.inside.Flat.{deviceNumber}
 use Rattle.flat.proofs.device_number.Statement.{statement}
 use Rattle.flat.proofs.device_number.Tie as tie
 
-cast-result : tie.Need-cast-result
-cast-result c = search needs
-
 returns : tie.Need-returns
 unfolding deviceNumber
 returns c = simp (eq-eqb _ _ (c .if1 .taken))
-
-cast-result-2 : tie.Need-cast-result-2
-cast-result-2 c = search needs
 
 returns-2 : tie.Need-returns-2
 unfolding deviceNumber
@@ -34,15 +27,9 @@ returns-5 : tie.Need-returns-5
 unfolding deviceNumber
 returns-5 c = simp (ne-eqb _ _ (c .before .before .before .before .if1 .left), ne-eqb _ _ (c .before .before .before .if2 .left), ne-eqb _ _ (c .before .before .if3 .left), ne-eqb _ _ (c .before .if4 .left), eq-eqb _ _ (c .if5 .taken))
 
-cast-result-3 : tie.Need-cast-result-3
-cast-result-3 c = search needs
-
 returns-6 : tie.Need-returns-6
 unfolding deviceNumber
 returns-6 c = simp (ne-eqb _ _ (c .before .before .before .before .before .if1 .left), ne-eqb _ _ (c .before .before .before .before .if2 .left), ne-eqb _ _ (c .before .before .before .if3 .left), ne-eqb _ _ (c .before .before .if4 .left), ne-eqb _ _ (c .before .if5 .left), eq-eqb _ _ (c .if6 .taken))
-
-sub-result : tie.Need-sub-result
-sub-result c = search needs
 
 -- Past the first six numbers come the powers.
 low : {n : ℕ} → n < 10 → n - 6 < 4
@@ -68,16 +55,16 @@ pub device-number-spec : {M : Type 1} → statement M
 device-number-spec =
     tie.close
     (tie.spec
-    cast-result
+    (λ c. search needs)
     returns
-    cast-result-2
+    (λ c. search needs)
     returns-2
     returns-3
     returns-4
     returns-5
-    cast-result-3
+    (λ c. search needs)
     returns-6
-    sub-result
+    (λ c. search needs)
     mul-result
     element-copy-out-result
     returns-7)

@@ -1,5 +1,4 @@
 -- `flat::flat_of` meets its contract. The loop's invariant: the array holds the numbers of the cells so far.
--- Assumes nothing.
 use mathlib.Core.Path.{_≡_, refl}
 use Prim.Native.Nat.{ℕ, _-_, _≤_, _/_, _%_}
 use native.Mathlib.Omega.{arith}

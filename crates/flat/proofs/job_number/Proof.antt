@@ -1,5 +1,4 @@
 -- `flat::job_number` meets its contract.
--- Assumes nothing.
 use mathlib.Core.Bool.{false}
 use Prim.Native.Nat.{_-_}
 use lib.ListN.{getD}
@@ -22,15 +21,6 @@ returns-3 : tie.Need-returns-3
 unfolding jobNumber
 returns-3 c = simp (ne-eqb _ _ (c .before .before .if1 .left), ne-eqb _ _ (c .before .if2 .left), eq-eqb _ _ (c .if3 .taken))
 
-sub-result : tie.Need-sub-result
-sub-result c = search needs
-
-element-copy-out-result : tie.Need-element-copy-out-result
-element-copy-out-result c = search needs
-
-cast-result : tie.Need-cast-result
-cast-result c = search needs
-
 returns-4 : tie.Need-returns-4
 unfolding jobNumber
 returns-4 c =
@@ -41,4 +31,4 @@ returns-4 c =
 pub job-number-spec : {M : Type 1} → statement M
 job-number-spec =
     tie.close
-    (tie.spec returns returns-2 returns-3 sub-result element-copy-out-result cast-result returns-4)
+    (tie.spec returns returns-2 returns-3 (λ c. search needs) (λ c. search needs) (λ c. search needs) returns-4)

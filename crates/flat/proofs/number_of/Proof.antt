@@ -1,32 +1,13 @@
 -- `flat::number_of` meets its contract.
--- Assumes nothing.
 use borrow.Author.Needs.{needs}
 use borrow.Author.Tests.{lt-ltb, le-ltb}
 use Rattle.flat.specs.inside.Flat.{numberOf}
 use Rattle.flat.proofs.number_of.Statement.{statement}
 use Rattle.flat.proofs.number_of.Tie as tie
 
-mul-job-number : tie.Need-mul-job-number
-mul-job-number c = search needs
-
-element-copy-out-job-number : tie.Need-element-copy-out-job-number
-element-copy-out-job-number c = search needs
-
-job-number-requires : tie.Need-job-number-requires
-job-number-requires c κs = search needs
-
 returns : tie.Need-returns
 unfolding numberOf
 returns c = simp (lt-ltb _ _ (c .before .before .before .if1 .taken)) (c .job-number .ensures)
-
-mul-device-number : tie.Need-mul-device-number
-mul-device-number c = search needs
-
-element-copy-out-device-number : tie.Need-element-copy-out-device-number
-element-copy-out-device-number c = search needs
-
-device-number-requires : tie.Need-device-number-requires
-device-number-requires c κs = search needs
 
 returns-2 : tie.Need-returns-2
 unfolding numberOf
@@ -38,9 +19,6 @@ returns-3 : tie.Need-returns-3
 unfolding numberOf
 returns-3 c = simp (le-ltb _ _ (c .before .before .if1 .left), lt-ltb _ _ (c .before .if2 .taken), le-ltb _ _ (c .if3 .left))
 
-own-number-requires : tie.Need-own-number-requires
-own-number-requires c κs = search needs
-
 returns-4 : tie.Need-returns-4
 unfolding numberOf
 returns-4 c = simp (le-ltb _ _ (c .before .before .if1 .left), le-ltb _ _ (c .before .if2 .left)) (c .own-number .ensures)
@@ -49,14 +27,14 @@ pub number-of-spec : {M : Type 1} → statement M
 number-of-spec =
     tie.close
     (tie.spec
-    mul-job-number
-    element-copy-out-job-number
-    job-number-requires
+    (λ c. search needs)
+    (λ c. search needs)
+    (λ c κs. search needs)
     returns
-    mul-device-number
-    element-copy-out-device-number
-    device-number-requires
+    (λ c. search needs)
+    (λ c. search needs)
+    (λ c κs. search needs)
     returns-2
     returns-3
-    own-number-requires
+    (λ c κs. search needs)
     returns-4)

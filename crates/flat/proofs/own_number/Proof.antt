@@ -1,5 +1,4 @@
 -- `flat::own_number` meets its contract.
--- Assumes nothing.
 use borrow.Author.Needs.{needs}
 use borrow.Author.Tests.{eq-eqb, ne-eqb}
 use Rattle.flat.specs.inside.Flat.{ownNumber}
@@ -11,31 +10,19 @@ returns : tie.Need-returns
 unfolding ownNumber
 returns c = simp (eq-eqb _ _ (c .if1 .taken))
 
-cast-result : tie.Need-cast-result
-cast-result c = search needs
-
 returns-2 : tie.Need-returns-2
 unfolding ownNumber
 returns-2 c = simp (ne-eqb _ _ (c .before .before .if1 .left), eq-eqb _ _ (c .before .if2 .taken))
 
-cast-result-2 : tie.Need-cast-result-2
-cast-result-2 c = search needs
-
 returns-3 : tie.Need-returns-3
 unfolding ownNumber
 returns-3 c = simp (ne-eqb _ _ (c .before .before .before .if1 .left), ne-eqb _ _ (c .before .before .if2 .left), eq-eqb _ _ (c .before .if3 .taken))
-
-cast-result-3 : tie.Need-cast-result-3
-cast-result-3 c = search needs
 
 returns-4 : tie.Need-returns-4
 unfolding ownNumber
 returns-4 c =
     simp (ne-eqb _ _ (c .before .before .before .before .if1 .left), ne-eqb _ _ (c .before .before .before .if2 .left), ne-eqb _ _ (c .before .before .if3 .left), eq-eqb _ _ (c .before .if4 .taken))
     (flag-number (c .before .before .before .before .before .args .r .round))
-
-cast-result-4 : tie.Need-cast-result-4
-cast-result-4 c = search needs
 
 returns-5 : tie.Need-returns-5
 unfolding ownNumber
@@ -46,4 +33,4 @@ returns-5 c =
 pub own-number-spec : {M : Type 1} → statement M
 own-number-spec =
     tie.close
-    (tie.spec returns cast-result returns-2 cast-result-2 returns-3 cast-result-3 returns-4 cast-result-4 returns-5)
+    (tie.spec returns (λ c. search needs) returns-2 (λ c. search needs) returns-3 (λ c. search needs) returns-4 (λ c. search needs) returns-5)

@@ -1,5 +1,4 @@
 -- What the search lends beside the recorder: the cost of each gap of each device, 4,097 numbers a device.
--- Assumes nothing.
 use mathlib.Core.Path.{_≡_}
 use mathlib.Core.List.{List}
 use Prim.Native.Nat.{ℕ, _+_, _*_, _<_, _≤_}

@@ -2,7 +2,6 @@
 -- Rows 0 to 2 hold each job's release, deadline and running time; rows 3 to 10, one for each device, 1 for a job that uses it and 0 for another;
 -- rows 11 to 18, one for each device, its figures in their order, of which the times of its moves and its number of levels have one byte each; row 19 the horizon,
 -- the numbers of jobs and of devices, 1 for a round, and 1 where rows have digits.
--- Assumes nothing.
 use mathlib.Core.Bool.{false, cond}
 use mathlib.Core.List.{List}
 use Prim.Native.Nat.{ℕ, _+_, _-_, _*_, _%_}

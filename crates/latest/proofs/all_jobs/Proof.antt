@@ -1,13 +1,9 @@
 -- `latest::all_jobs` meets its contract.
--- Assumes nothing.
 use native.Mathlib.Omega.{arith}
 use lib.Pow.{pow-pos}
 use borrow.Author.Needs.{needs}
 use Rattle.latest.proofs.all_jobs.Statement.{statement}
 use Rattle.latest.proofs.all_jobs.Tie as tie
-
-job-count-requires : tie.Need-job-count-requires
-job-count-requires c κs = search needs
 
 power-requires : tie.Need-power-requires
 power-requires c κs = omega (arith, c .job-count .ensures, c .before .pre .few-jobs)
@@ -19,4 +15,4 @@ returns : tie.Need-returns
 returns c = rw (c .power .ensures, c .before .job-count .ensures)
 
 pub all-jobs-spec : {M : Type 1} → statement M
-all-jobs-spec = tie.close (tie.spec job-count-requires power-requires sub-result returns)
+all-jobs-spec = tie.close (tie.spec (λ c κs. search needs) power-requires sub-result returns)

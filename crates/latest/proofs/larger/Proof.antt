@@ -1,5 +1,4 @@
 -- `latest::larger` meets its contract. The prover would close it by itself; this file names the two facts, at which a wrong program is refused.
--- Assumes nothing.
 use native.Mathlib.Omega.{arith}
 use Rattle.latest.proofs.larger.Statement.{statement}
 use Rattle.latest.proofs.larger.Tie as tie

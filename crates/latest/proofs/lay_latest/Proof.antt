@@ -1,5 +1,4 @@
 -- `latest::lay_latest` meets its contract. The loop's invariant: the sets passed are laid.
--- Assumes nothing.
 use Prim.Native.Nat.{suc, _≤_, _<_, _-_}
 use native.Mathlib.Omega.{arith}
 use borrow.Author.Needs.{needs}

@@ -1,6 +1,5 @@
 -- The latest time from which a set of jobs can still be run, by recursion over the sets. Nobody need believe it: no promise speaks of it, and proofs/Feasibility
 -- shows what it decides.
--- Assumes nothing.
 use mathlib.Core.Path.{_≡_}
 use mathlib.Core.Bool.{true, cond}
 use mathlib.Core.List.{List, [], _∷_, _++_}

@@ -1,5 +1,4 @@
 -- A walk over the tree of schedule/specs/Visiting that enters no vertex below which no schedule stands. Nobody need believe it: no promise speaks of it.
--- Assumes nothing.
 use mathlib.Core.Bool.{Bool, cond}
 use mathlib.Core.List.{List}
 use Prim.Native.Nat.{ℕ, _-_, _^_}

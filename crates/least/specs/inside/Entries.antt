@@ -1,5 +1,4 @@
 -- The memory: entries of five words. The first is the key's head (29 bits), the effort (3 bits) and what is known (32 bits); the others are the key's.
--- Assumes nothing.
 use mathlib.Core.Path.{_≡_}
 use mathlib.Core.Bool.{cond}
 use mathlib.Core.List.{List}

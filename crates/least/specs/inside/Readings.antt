@@ -1,5 +1,4 @@
 -- What reading a schedule off comes to, step by step.
--- Assumes nothing.
 use mathlib.Core.Path.{_≡_}
 use mathlib.Core.List.{List}
 use mathlib.Core.Option.{Option, some}

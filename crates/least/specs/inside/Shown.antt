@@ -1,6 +1,5 @@
 -- A vertex as the search lends it: of device k the end of its last use at k, in a round the start of its first use at 8 + k, and at 16 + k the ticks for which the
 -- unplaced jobs will use it. That is all of a vertex that decides what is still to pay, with the time and the set of the unplaced jobs, which go beside.
--- Assumes nothing.
 use mathlib.Core.Path.{_≡_}
 use mathlib.Core.Bool.{Bool, cond}
 use mathlib.Core.List.{List}

@@ -1,5 +1,4 @@
 -- `mend::mend_recorder` meets its contract.
--- Assumes nothing.
 use mathlib.Core.Path.{sym, _∙_}
 use native.Mathlib.Omega.{arith}
 use lib.ListN.{length}
@@ -17,28 +16,13 @@ room c =
     let h = lacks-not _ _ _ (sym (c .before .lacks-room .ensures) ∙ c .if2 .left) in
     record { starts = h .0; moved = h .1 }
 
-refusal-requires : tie.Need-refusal-requires
-refusal-requires c κs = search needs
-
 returns : tie.Need-returns
 returns c = rw (c .refusal .ensures) (P.MendOf.unequal (c .before .if1 .taken))
-
-lacks-room-requires : tie.Need-lacks-room-requires
-lacks-room-requires c κs = search needs
-
-refusal-requires-2 : tie.Need-refusal-requires-2
-refusal-requires-2 c κs = search needs
 
 returns-2 : tie.Need-returns-2
 returns-2 c =
     rw (c .refusal2 .ensures) (P.MendOf.short (c .before .before .before .if1 .left)
     (λ h. lacks-none _ _ _ (sym (c .before .before .lacks-room .ensures) ∙ c .before .if2 .taken) (h .starts) (h .moved)))
-
-settle-requires : tie.Need-settle-requires
-settle-requires c κs = search needs
-
-refusal-at-requires : tie.Need-refusal-at-requires
-refusal-at-requires c κs = search needs
 
 returns-3 : tie.Need-returns-3
 returns-3 c = rw (c .refusal-at .ensures) (settled-late _ _ _ (c .before .before .before .before .before .if1 .left) (room (c .before .before .before)) (c .before .before .settle .result) (c .before .before .settle .ensures) (c .before .if3 .taken))
@@ -55,15 +39,6 @@ cast-success c =
     let few = moves-few g (c .before .before .before .before .before .before .before .before .before .before .settle .result .starts) (length g) in
     rw (c .before .before .list-moves .ensures .0) (omega (arith, c .before .before .before .before .before .before .before .before .before .before .before .before .before .if1 .left, c .before .before .before .before .before .before .before .before .before .before .before .before .before .before .before .before .before .pre))
 
-success-requires : tie.Need-success-requires
-success-requires c κs = search needs
-
-same-length : tie.Need-same-length
-same-length c = search needs
-
-same-length-2 : tie.Need-same-length-2
-same-length-2 c = search needs
-
 returns-4 : tie.Need-returns-4
 returns-4 c =
     let w = c .before .before .before .list-moves .ensures in
@@ -75,18 +50,18 @@ pub mend-recorder-spec : {M : Type 1} → statement M
 mend-recorder-spec =
     tie.close
     (tie.spec
-    refusal-requires
+    (λ c κs. search needs)
     returns
-    lacks-room-requires
-    refusal-requires-2
+    (λ c κs. search needs)
+    (λ c κs. search needs)
     returns-2
-    settle-requires
-    refusal-at-requires
+    (λ c κs. search needs)
+    (λ c κs. search needs)
     returns-3
     write-starts-requires
     list-moves-requires
     cast-success
-    success-requires
-    same-length
-    same-length-2
+    (λ c κs. search needs)
+    (λ c. search needs)
+    (λ c. search needs)
     returns-4)

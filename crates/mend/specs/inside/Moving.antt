@@ -1,5 +1,4 @@
 -- One turn of the loop that lists the moves.
--- Assumes nothing.
 use mathlib.Core.Bool.{cond}
 use mathlib.Core.List.{List}
 use Prim.Native.Nat.{ℕ, _+_, _*_}

@@ -1,6 +1,5 @@
 -- How the mended schedule is found: the jobs take their places one after the other, in the order of their given starts (rule 67). Contracts inside the crate
 -- speak of it; the promise does not.
--- Assumes nothing.
 use mathlib.Core.Bool.{true, false, cond}
 use mathlib.Core.Option.{Option, none, some}
 use mathlib.Core.List.{List, [], _∷_}

@@ -1,5 +1,4 @@
 -- `plan::print_margin` meets its contract.
--- Assumes nothing.
 use mir.Syntax.{w32}
 use mir.Val.{SFits, toZ, ofZ}
 use mir.Facts.{toZ-ofZ}
@@ -15,12 +14,6 @@ fitted c = rw (toZ-ofZ (c .fits .margin)) (c .fits .margin)
 negated : (c : tie.Then2) → Negated (toZ w32 (ofZ w32 (c .before .before .before .before .args .margin)))
 negated c = size-neg _ (fitted (c .before .before .before .before)) (c .before .before .before .if1 .taken)
 
-slice-aggregate-write-all : tie.Need-slice-aggregate-write-all
-slice-aggregate-write-all c = search needs
-
-write-all-requires : tie.Need-write-all-requires
-write-all-requires c κs = search needs
-
 cast-print-decimal : tie.Need-cast-print-decimal
 cast-print-decimal c = negated c .wide
 
@@ -30,36 +23,21 @@ sub-print-decimal c = rw (toZ-ofZ (negated c .wide)) (negated c .fits)
 cast-print-decimal-2 : tie.Need-cast-print-decimal-2
 cast-print-decimal-2 c = rw (toZ-ofZ (negated c .wide), toZ-ofZ (negated c .fits)) (negated c .size)
 
-print-decimal-requires : tie.Need-print-decimal-requires
-print-decimal-requires c κs = search needs
-
-returns : tie.Need-returns
-returns c = search needs
-
-returns-2 : tie.Need-returns-2
-returns-2 c = search needs
-
 cast-print-decimal-3 : tie.Need-cast-print-decimal-3
 cast-print-decimal-3 c = size-pos _ (fitted (c .before)) (c .if1 .left)
-
-print-decimal-requires-2 : tie.Need-print-decimal-requires-2
-print-decimal-requires-2 c κs = search needs
-
-returns-3 : tie.Need-returns-3
-returns-3 c = search needs
 
 pub print-margin-spec : {M : Type 1} → statement M
 print-margin-spec =
     tie.close
     (tie.spec
-    slice-aggregate-write-all
-    write-all-requires
+    (λ c. search needs)
+    (λ c κs. search needs)
     cast-print-decimal
     sub-print-decimal
     cast-print-decimal-2
-    print-decimal-requires
-    returns
-    returns-2
+    (λ c κs. search needs)
+    (λ c. search needs)
+    (λ c. search needs)
     cast-print-decimal-3
-    print-decimal-requires-2
-    returns-3)
+    (λ c κs. search needs)
+    (λ c. search needs))

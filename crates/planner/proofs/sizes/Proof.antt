@@ -2,7 +2,7 @@
 use mathlib.Core.List.{List}
 use Prim.Native.Nat.{ℕ, _≤_}
 use Rattle.schedule.specs.declared.Recorder.{Recorder}
-use Rattle.tables.specs.Layout.{kindOf, bodyOf, tablesOf, tablesAs}
+use Rattle.tables.specs.Layout.{tablesOf, tablesAs}
 use Rattle.request.proofs.Accepted.{read-accepted, read-refused, accepted-valid}
 use Rattle.planner.specs.Promises as P
 use Rattle.planner.specs.Promises.{Reads}

@@ -1,5 +1,4 @@
 -- `planner::tables_of` meets its contract.
--- Assumes nothing.
 use borrow.Author.Needs.{needs}
 use Rattle.request.proofs.Accepted.{read-accepted, read-refused}
 use Rattle.planner.specs.Promises.{Reads}
@@ -12,20 +11,8 @@ use Rattle.planner.proofs.tables_of.Tie as tie
 recorded : (c : tie.Else1) → Reads (c .before .before .before .before .args .file .now) (c .before .before .read .result .recorder)
 recorded c = read-accepted _ _ (c .before .before .read .ensures) (c .if1 .left)
 
-read-requires : tie.Need-read-requires
-read-requires c κs = search needs
-
-refusal-requires : tie.Need-refusal-requires
-refusal-requires c κs = search needs
-
-no-tables-requires : tie.Need-no-tables-requires
-no-tables-requires c κs = search needs
-
 returns : tie.Need-returns
 returns c = rw (c .no-tables .ensures, c .before .refusal .ensures) (P.OfFile.refused (read-refused _ _ (c .before .before .before .before .read .ensures) (c .before .before .if1 .taken)))
-
-success-requires : tie.Need-success-requires
-success-requires c κs = search needs
 
 tables-in-requires : tie.Need-tables-in-requires
 tables-in-requires c κs = listed-whole _ _ (recorded (c .before))
@@ -37,10 +24,10 @@ pub tables-of-spec : {M : Type 1} → statement M
 tables-of-spec =
     tie.close
     (tie.spec
-    read-requires
-    refusal-requires
-    no-tables-requires
+    (λ c κs. search needs)
+    (λ c κs. search needs)
+    (λ c κs. search needs)
     returns
-    success-requires
+    (λ c κs. search needs)
     tables-in-requires
     returns-2)

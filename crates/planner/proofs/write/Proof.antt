@@ -1,5 +1,4 @@
 -- The file that is laid out is that of the tables, but for counts that are refused.
--- Assumes nothing.
 use borrow.Author.Needs.{needs}
 use mathlib.Core.Path.{_≡_, sym, ap, _∙_}
 use mathlib.Core.List.{List, _++_}
@@ -68,9 +67,6 @@ written-as :
     → P.Written T lent (P.success (R .horizon) 0 n) (s ++ drop (length s) lent)
 written-as T lent R s n r e f h = rw (e, f) (P.Written.written r (omega arith))
 
-file-of-requires : tie.Need-file-of-requires
-file-of-requires c κs = search needs
-
 array-share-prefix-bytes : tie.Need-array-share-prefix-bytes
 array-share-prefix-bytes c = fits (c .before)
 
@@ -80,14 +76,8 @@ slice-aggregate-read-by c = long (c .before .before)
 read-by-requires : tie.Need-read-by-requires
 read-by-requires c κs = rw (laid (c .before .before)) (cut-mark (c .before .before .before .before .args .given) .0)
 
-refusal-requires : tie.Need-refusal-requires
-refusal-requires c κs = search needs
-
 returns : tie.Need-returns
 returns c = rw (c .refusal .ensures) (P.Written.refused (refused-by _ _ _ (reads (c .before .before)) (c .before .if1 .taken)))
-
-refusal-requires-2 : tie.Need-refusal-requires-2
-refusal-requires-2 c κs = search needs
 
 returns-2 : tie.Need-returns-2
 returns-2 c = rw (c .refusal2 .ensures) (P.Written.short (recorded (c .before .before)) (rw (size (c .before .before)) at (c .before .if2 .taken)))
@@ -104,12 +94,6 @@ copy-requires c κs = omega (arith, long (c .before .before .before .before .bef
 cast-success : tie.Need-cast-success
 cast-success c = omega (arith, small (c .before .before .before .before .before .before .before .before .before .before))
 
-success-requires : tie.Need-success-requires
-success-requires c κs = search needs
-
-same-length : tie.Need-same-length
-same-length c = search needs
-
 returns-3 : tie.Need-returns-3
 returns-3 c =
     rw (c .success .ensures, c .before .before .before .copy .ensures)
@@ -119,18 +103,18 @@ pub write-spec : {M : Type 1} → statement M
 write-spec =
     tie.close
     (tie.spec
-    file-of-requires
+    (λ c κs. search needs)
     array-share-prefix-bytes
     slice-aggregate-read-by
     read-by-requires
-    refusal-requires
+    (λ c κs. search needs)
     returns
-    refusal-requires-2
+    (λ c κs. search needs)
     returns-2
     array-share-prefix-bytes-2
     slice-aggregate-copy
     copy-requires
     cast-success
-    success-requires
-    same-length
+    (λ c κs. search needs)
+    (λ c. search needs)
     returns-3)

@@ -1,5 +1,4 @@
 -- `possible::any_plan` meets its contract.
--- Assumes nothing.
 use Rattle.request.proofs.Accepted.{read-accepted, read-refused, accepted-valid}
 use Rattle.planner.specs.Promises as Frame
 use Rattle.planner.specs.Promises.{Reads}
@@ -11,20 +10,11 @@ use Rattle.possible.proofs.any_plan.Tie as tie
 recorded : (c : tie.Else1) → Reads (c .before .before .before .before .before .args .file .now) (c .before .before .read .result .recorder)
 recorded c = read-accepted _ _ (c .before .before .read .ensures) (c .if1 .left)
 
-read-requires : tie.Need-read-requires
-read-requires c κs = search needs
-
-refusal-requires : tie.Need-refusal-requires
-refusal-requires c κs = search needs
-
 returns : tie.Need-returns
 returns c = rw (c .refusal .ensures) (Frame.OfFile.refused (read-refused _ _ (c .before .before .before .read .ensures) (c .before .if1 .taken)))
 
 first-schedule-requires : tie.Need-first-schedule-requires
 first-schedule-requires c κs = accepted-valid _ _ (recorded (c .before))
-
-same-length : tie.Need-same-length
-same-length c = search needs
 
 returns-2 : tie.Need-returns-2
 returns-2 c = Frame.OfFile.read (recorded (c .before .before .before .before)) (c .before .before .first-schedule .ensures)
@@ -32,4 +22,4 @@ returns-2 c = Frame.OfFile.read (recorded (c .before .before .before .before)) (
 pub any-plan-spec : {M : Type 1} → statement M
 any-plan-spec =
     tie.close
-    (tie.spec read-requires refusal-requires returns first-schedule-requires same-length returns-2)
+    (tie.spec (λ c κs. search needs) (λ c κs. search needs) returns first-schedule-requires (λ c. search needs) returns-2)

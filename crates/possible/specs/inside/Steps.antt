@@ -1,6 +1,5 @@
 -- How the code (src/) holds the visit: a vertex and a tally as lent numbers, a vertex's choices as loops, and what a budget makes of it. Nobody need believe these:
 -- no promise speaks of them.
--- Assumes nothing.
 use mathlib.Core.Path.{_≡_}
 use mathlib.Core.Bool.{Bool, true, false, not, cond}
 use mathlib.Core.Option.{Option, none, some}

@@ -1,5 +1,4 @@
 -- `request::read` meets its contract.
--- Assumes nothing.
 use borrow.Author.Needs.{needs}
 use mathlib.Core.Path.{_≡_}
 use Prim.Native.Nat.{ℕ}
@@ -17,9 +16,6 @@ by-its-own : (s : List ℕ) (k : Kind) (r : Request) → k ≡ kindOf s → r �
 unfolding readOf
 by-its-own s k r e h = rw e at h
 
-kind-of-requires : tie.Need-kind-of-requires
-kind-of-requires c κs = search needs
-
 read-by-requires : tie.Need-read-by-requires
 read-by-requires c κs = rw (c .kind-of .ensures) (mark-fits _)
 
@@ -30,6 +26,6 @@ pub read-spec : {M : Type 1} → statement M
 read-spec =
     tie.close
     (tie.spec
-    kind-of-requires
+    (λ c κs. search needs)
     read-by-requires
     returns)

@@ -1,20 +1,10 @@
 -- `request::read_as` meets its contract.
--- Assumes nothing.
 use borrow.Author.Needs.{needs}
 use mathlib.Core.Path.{sym, _∙_}
 use Rattle.request.specs.Format.{handedOn}
 use Rattle.request.proofs.Faultless.{read-faultless, read-fault}
 use Rattle.request.proofs.read_as.Statement.{statement}
 use Rattle.request.proofs.read_as.Tie as tie
-
-fault-of-requires : tie.Need-fault-of-requires
-fault-of-requires c κs = search needs
-
-recorder-in-requires : tie.Need-recorder-in-requires
-recorder-in-requires c κs = search needs
-
-no-recorder-requires : tie.Need-no-recorder-requires
-no-recorder-requires c κs = search needs
 
 returns : tie.Need-returns
 unfolding handedOn
@@ -30,8 +20,8 @@ pub read-as-spec : {M : Type 1} → statement M
 read-as-spec =
     tie.close
     (tie.spec
-    fault-of-requires
-    recorder-in-requires
-    no-recorder-requires
+    (λ c κs. search needs)
+    (λ c κs. search needs)
+    (λ c κs. search needs)
     returns
     returns-2)

@@ -1,8 +1,7 @@
 -- `request::read_by` meets its contract.
--- Assumes nothing.
 use borrow.Author.Needs.{needs}
 use native.Mathlib.Omega.{arith}
-use mathlib.Core.Path.{_≡_, ap, _∙_}
+use mathlib.Core.Path.{ap, _∙_}
 use mathlib.Core.List.{List}
 use Prim.Native.Nat.{_≤_}
 use lib.ListN.{length}
@@ -14,9 +13,6 @@ use Rattle.request.proofs.read_by.Tie as tie
 fits : (c : tie.After-marker-size) → c .marker-size .result ≤ length (c .before .before .args .s .now)
 fits c = rw (c .marker-size .ensures) (c .before .before .pre)
 
-marker-size-requires : tie.Need-marker-size-requires
-marker-size-requires c κs = search needs
-
 sub-read-as : tie.Need-sub-read-as
 sub-read-as c = fits c
 
@@ -25,9 +21,6 @@ part-read-as-start c = omega (arith, fits c)
 
 part-read-as-end : tie.Need-part-read-as-end
 part-read-as-end c = omega (arith, fits c)
-
-read-as-requires : tie.Need-read-as-requires
-read-as-requires c κs = search needs
 
 returns : tie.Need-returns
 returns c =
@@ -38,9 +31,9 @@ pub read-by-spec : {M : Type 1} → statement M
 read-by-spec =
     tie.close
     (tie.spec
-    marker-size-requires
+    (λ c κs. search needs)
     sub-read-as
     part-read-as-start
     part-read-as-end
-    read-as-requires
+    (λ c κs. search needs)
     returns)

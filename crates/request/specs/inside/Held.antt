@@ -1,5 +1,4 @@
 -- What the code keeps and knows on the way. Nobody need believe these: no contract of a public function speaks of them.
--- Assumes nothing.
 use Prim.Native.Nat.{ℕ, _+_, _*_, _%_, _<_, _≤_, min}
 use mathlib.Core.List.{List}
 use mathlib.Core.Bool.{cond}

@@ -1,5 +1,4 @@
 -- What judging start times gives, as the code hands it on.
--- Assumes nothing.
 use mathlib.Core.Bool.{Bool, true, false, cond}
 use mathlib.Core.List.{List}
 use Prim.Native.Nat.{ℕ, _+_}

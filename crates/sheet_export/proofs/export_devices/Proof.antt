@@ -1,5 +1,4 @@
 -- `sheet_export::export_devices` meets its contract.
--- Assumes nothing.
 use mathlib.Core.Path.{refl, sym, _∙_}
 use native.Mathlib.Omega.{arith}
 use lib.Seq.{length-take-le}
@@ -10,12 +9,6 @@ use borrow.Author.Needs.{needs}
 use Rattle.sheet_export.proofs.export_devices.Statement.{statement}
 use Rattle.sheet_export.proofs.export_devices.Tie as tie
 
-is-unfit-requires : tie.Need-is-unfit-requires
-is-unfit-requires c κs = search needs
-
-refusal-requires : tie.Need-refusal-requires
-refusal-requires c κs = search needs
-
 returns : tie.Need-returns
 returns c =
     let u = sym (c .before .before .is-unfit .ensures) ∙ c .before .if1 .taken in
@@ -24,17 +17,11 @@ returns c =
 is-repeated-requires : tie.Need-is-repeated-requires
 is-repeated-requires c κs = sym (c .before .is-unfit .ensures) ∙ c .if1 .left
 
-refusal-requires-2 : tie.Need-refusal-requires-2
-refusal-requires-2 c κs = search needs
-
 returns-2 : tie.Need-returns-2
 returns-2 c =
     let u = sym (c .before .before .before .before .is-unfit .ensures) ∙ c .before .before .before .if1 .left in
     let w = sym (c .before .before .is-repeated .ensures) ∙ c .before .if2 .taken in
     rw (c .refusal2 .ensures, u, w) (P.Filled.refused (λ n. omega (arith, n)))
-
-slice-aggregate-put-part-lines : tie.Need-slice-aggregate-put-part-lines
-slice-aggregate-put-part-lines c = search needs
 
 put-part-lines-requires : tie.Need-put-part-lines-requires
 put-part-lines-requires c κs = (sym (c .before .before .before .before .is-unfit .ensures) ∙ c .before .before .before .if1 .left, refl)
@@ -44,12 +31,6 @@ array-share-prefix-own c = search needs
 
 slice-aggregate-give : tie.Need-slice-aggregate-give
 slice-aggregate-give c = sym (length-take-le _ _ (array-share-prefix-own (c .before)))
-
-give-requires : tie.Need-give-requires
-give-requires c κs = search needs
-
-same-length : tie.Need-same-length
-same-length c = search needs
 
 returns-3 : tie.Need-returns-3
 returns-3 c =
@@ -62,16 +43,16 @@ pub export-devices-spec : {M : Type 1} → statement M
 export-devices-spec =
     tie.close
     (tie.spec
-    is-unfit-requires
-    refusal-requires
+    (λ c κs. search needs)
+    (λ c κs. search needs)
     returns
     is-repeated-requires
-    refusal-requires-2
+    (λ c κs. search needs)
     returns-2
-    slice-aggregate-put-part-lines
+    (λ c. search needs)
     put-part-lines-requires
     array-share-prefix-own
     slice-aggregate-give
-    give-requires
-    same-length
+    (λ c κs. search needs)
+    (λ c. search needs)
     returns-3)

@@ -1,5 +1,4 @@
 -- `sheet_export::export_jobs` meets its contract.
--- Assumes nothing.
 use mathlib.Core.Path.{sym}
 use native.Mathlib.Omega.{arith}
 use lib.Seq.{length-take-le}
@@ -10,17 +9,11 @@ use borrow.Author.Needs.{needs}
 use Rattle.sheet_export.proofs.export_jobs.Statement.{statement}
 use Rattle.sheet_export.proofs.export_jobs.Tie as tie
 
-refusal-requires : tie.Need-refusal-requires
-refusal-requires c κs = search needs
-
 returns : tie.Need-returns
 returns c =
     let s = c .before .before .before .before .args .records .now in
     let e = records-many s (omega arith) in
     rw (c .refusal .ensures) (refused-as e (λ n. omega (arith, n)))
-
-refusal-requires-2 : tie.Need-refusal-requires-2
-refusal-requires-2 c κs = search needs
 
 returns-2 : tie.Need-returns-2
 returns-2 c =
@@ -28,23 +21,11 @@ returns-2 c =
     let e = records-cut s (omega arith) (c .before .if2 .taken) in
     rw (c .refusal2 .ensures) (refused-as e (λ n. omega (arith, n)))
 
-slice-aggregate-put-job-lines : tie.Need-slice-aggregate-put-job-lines
-slice-aggregate-put-job-lines c = search needs
-
-put-job-lines-requires : tie.Need-put-job-lines-requires
-put-job-lines-requires c κs = search needs
-
 array-share-prefix-own : tie.Need-array-share-prefix-own
 array-share-prefix-own c = search needs
 
 slice-aggregate-give : tie.Need-slice-aggregate-give
 slice-aggregate-give c = sym (length-take-le _ _ (array-share-prefix-own (c .before)))
-
-give-requires : tie.Need-give-requires
-give-requires c κs = search needs
-
-same-length : tie.Need-same-length
-same-length c = search needs
 
 returns-3 : tie.Need-returns-3
 returns-3 c =
@@ -56,14 +37,14 @@ pub export-jobs-spec : {M : Type 1} → statement M
 export-jobs-spec =
     tie.close
     (tie.spec
-    refusal-requires
+    (λ c κs. search needs)
     returns
-    refusal-requires-2
+    (λ c κs. search needs)
     returns-2
-    slice-aggregate-put-job-lines
-    put-job-lines-requires
+    (λ c. search needs)
+    (λ c κs. search needs)
     array-share-prefix-own
     slice-aggregate-give
-    give-requires
-    same-length
+    (λ c κs. search needs)
+    (λ c. search needs)
     returns-3)

@@ -1,5 +1,4 @@
 -- What the code knows of a margin that it writes. Nobody need believe this: no promise speaks of it.
--- Assumes nothing.
 use mathlib.Core.Path.{_≡_}
 use Prim.Native.Nat.{_≤_}
 use lib.IntN.{ℤ, pos, natAbs}

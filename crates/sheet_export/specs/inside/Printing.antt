@@ -1,5 +1,4 @@
 -- A row's line with its CR LF, as the code puts it. Nobody need believe these: no promise speaks of them.
--- Assumes nothing.
 use mathlib.Core.List.{List, [], _∷_, _++_}
 use Prim.Native.Nat.{ℕ}
 use Rattle.tables.specs.Records.{jobAt}

@@ -1,5 +1,4 @@
 -- `sheet_import::import_devices` meets its contract.
--- Assumes nothing.
 use mathlib.Core.Path.{_≡_, sym, ap, _∙_}
 use native.Mathlib.Omega.{arith}
 use mathlib.Core.List.{List, [], _∷_}
@@ -23,19 +22,10 @@ faultless : (c : tie.Else1) → 0 ≡ orElse (linesFault Devices (linesOf (c .be
     (firstThat ((unfit (devicesRaw (linesOf (c .before .before .before .before .args .text .now))) ⇒ 21) ∷ []))
 faultless c = sym (c .if1 .left) ∙ c .before .devices-fault .ensures
 
-devices-fault-requires : tie.Need-devices-fault-requires
-devices-fault-requires c κs = search needs
-
-refusal-requires : tie.Need-refusal-requires
-refusal-requires c κs = search needs
-
 returns : tie.Need-returns
 returns c =
     let s = c .before .before .before .before .before .args .text .now in
     rw (c .refusal .ensures) (refused-as (devices-refused s (c .before .before .devices-fault .result) (c .before .before .devices-fault .ensures) (c .before .if1 .taken)) (c .before .if1 .taken))
-
-count-lines-requires : tie.Need-count-lines-requires
-count-lines-requires c κs = search needs
 
 mul-size : tie.Need-mul-size
 mul-size c =
@@ -45,9 +35,6 @@ mul-size c =
     let fit = fit-lines s (pass .1) in
     let count = c .count-lines .ensures in
     omega arith
-
-slice-aggregate-put-rows : tie.Need-slice-aggregate-put-rows
-slice-aggregate-put-rows c = search needs
 
 put-rows-requires : tie.Need-put-rows-requires
 put-rows-requires c κs =
@@ -79,9 +66,6 @@ is-repeated-requires c κs =
     let count = c .before .before .before .before .count-lines .ensures in
     let put = c .before .before .put-rows .ensures in
     ap unfit (ap partsOf (put-front put) ∙ rows-parts s (pass .1)) ∙ pass .1
-
-refusal-requires-2 : tie.Need-refusal-requires-2
-refusal-requires-2 c κs = search needs
 
 returns-2 : tie.Need-returns-2
 returns-2 c =
@@ -116,9 +100,6 @@ give-requires c κs =
     let count = c .before .before .before .before .before .before .before .before .count-lines .ensures in
     omega arith
 
-same-length : tie.Need-same-length
-same-length c = search needs
-
 returns-3 : tie.Need-returns-3
 returns-3 c =
     let s = c .before .before .before .before .before .before .before .before .before .before .before .before .before .before .before .before .args .text .now in
@@ -136,20 +117,20 @@ pub import-devices-spec : {M : Type 1} → statement M
 import-devices-spec =
     tie.close
     (tie.spec
-    devices-fault-requires
-    refusal-requires
+    (λ c κs. search needs)
+    (λ c κs. search needs)
     returns
-    count-lines-requires
+    (λ c κs. search needs)
     mul-size
-    slice-aggregate-put-rows
+    (λ c. search needs)
     put-rows-requires
     array-share-prefix-own
     slice-aggregate-is-repeated
     is-repeated-requires
-    refusal-requires-2
+    (λ c κs. search needs)
     returns-2
     array-share-prefix-own-2
     slice-aggregate-give
     give-requires
-    same-length
+    (λ c. search needs)
     returns-3)

@@ -1,5 +1,4 @@
 -- `sheet_import::import_jobs` meets its contract.
--- Assumes nothing.
 use mathlib.Core.Path.{sym, _∙_}
 use native.Mathlib.Omega.{arith}
 use lib.Seq.{length-take-le}
@@ -12,12 +11,6 @@ use borrow.Author.Needs.{needs}
 use Rattle.sheet_import.proofs.import_jobs.Statement.{statement}
 use Rattle.sheet_import.proofs.import_jobs.Tie as tie
 
-lines-fault-requires : tie.Need-lines-fault-requires
-lines-fault-requires c κs = search needs
-
-refusal-requires : tie.Need-refusal-requires
-refusal-requires c κs = search needs
-
 returns : tie.Need-returns
 returns c =
     let s = c .before .before .before .before .before .args .text .now in
@@ -25,24 +18,12 @@ returns c =
     let n = c .before .if1 .taken in
     rw (c .refusal .ensures) (refused-as (e ∙ jobs-fault s (λ z. n (e ∙ z))) n)
 
-count-lines-requires : tie.Need-count-lines-requires
-count-lines-requires c κs = search needs
-
-refusal-requires-2 : tie.Need-refusal-requires-2
-refusal-requires-2 c κs = search needs
-
 returns-2 : tie.Need-returns-2
 returns-2 c =
     let s = c .before .before .before .before .before .before .before .args .text .now in
     let e = sym (c .before .before .before .before .lines-fault .ensures) ∙ c .before .before .before .if1 .left in
     let count = c .before .before .count-lines .ensures in
     rw (c .refusal2 .ensures) (refused-as (jobs-many s e (omega arith)) (λ n. omega (arith, n)))
-
-mul-size : tie.Need-mul-size
-mul-size c = search needs
-
-slice-aggregate-put-rows : tie.Need-slice-aggregate-put-rows
-slice-aggregate-put-rows c = search needs
 
 put-rows-requires : tie.Need-put-rows-requires
 put-rows-requires c κs =
@@ -57,12 +38,6 @@ array-share-prefix-own c = search needs
 slice-aggregate-give : tie.Need-slice-aggregate-give
 slice-aggregate-give c = sym (length-take-le _ _ (array-share-prefix-own (c .before)))
 
-give-requires : tie.Need-give-requires
-give-requires c κs = search needs
-
-same-length : tie.Need-same-length
-same-length c = search needs
-
 returns-3 : tie.Need-returns-3
 returns-3 c =
     let s = c .before .before .before .before .before .before .before .before .before .before .before .before .before .before .args .text .now in
@@ -75,17 +50,17 @@ pub import-jobs-spec : {M : Type 1} → statement M
 import-jobs-spec =
     tie.close
     (tie.spec
-    lines-fault-requires
-    refusal-requires
+    (λ c κs. search needs)
+    (λ c κs. search needs)
     returns
-    count-lines-requires
-    refusal-requires-2
+    (λ c κs. search needs)
+    (λ c κs. search needs)
     returns-2
-    mul-size
-    slice-aggregate-put-rows
+    (λ c. search needs)
+    (λ c. search needs)
     put-rows-requires
     array-share-prefix-own
     slice-aggregate-give
-    give-requires
-    same-length
+    (λ c κs. search needs)
+    (λ c. search needs)
     returns-3)

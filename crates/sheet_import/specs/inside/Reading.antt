@@ -1,6 +1,5 @@
 -- What the code reads of a text, two quotes between quotes left as they stand, and what it knows on the way. Nobody need believe these: no promise speaks of
 -- them.
--- Assumes nothing.
 use mathlib.Core.Path.{_≡_}
 use mathlib.Core.Bool.{true, false}
 use mathlib.Core.List.{List, [], map}

@@ -1,5 +1,4 @@
 -- The rows of a text as the code puts them, by what its lines hold. Nobody need believe these: no promise speaks of them.
--- Assumes nothing.
 use mathlib.Core.List.{List}
 use Prim.Native.Nat.{ℕ}
 use Rattle.tables.specs.Records.{jobBytes}

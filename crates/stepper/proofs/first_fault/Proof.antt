@@ -1,5 +1,4 @@
 -- `stepper::first_fault` meets its contract.
--- Assumes nothing.
 use mathlib.Core.Path.{refl}
 use native.Mathlib.Omega.{arith}
 use Rattle.base.proofs.Paths.{eq-then, eq-else}

@@ -1,5 +1,4 @@
 -- `stepper::step_recorder` meets its contract.
--- Assumes nothing.
 use borrow.Author.Needs.{needs}
 use Rattle.schedule.specs.Listing.{Feasible}
 use Rattle.planner.specs.Promises.{stops, passes, feasible, gives}
@@ -17,29 +16,11 @@ faultless c =
     first-fit _ _ _ (a .energies .now) (e .before .before .if1 .left) (e .if2 .left) _ (c .before .before .first-fault .result) _
     (c .before .before .before .before .judge .ensures) (c .before .before .before .unfit .ensures) (c .before .before .first-fault .ensures) (c .if3 .left)
 
-refusal-requires : tie.Need-refusal-requires
-refusal-requires c κs = search needs
-
 returns : tie.Need-returns
 returns c = rw (c .refusal .ensures) (stops (c .before .if1 .taken))
 
-refusal-requires-2 : tie.Need-refusal-requires-2
-refusal-requires-2 c κs = search needs
-
 returns-2 : tie.Need-returns-2
 returns-2 c = rw (c .refusal2 .ensures) (passes (λ u. u (c .before .before .before .if1 .left)) (stops (c .before .if2 .taken)))
-
-judge-requires : tie.Need-judge-requires
-judge-requires c κs = search needs
-
-unfit-requires : tie.Need-unfit-requires
-unfit-requires c κs = search needs
-
-first-fault-requires : tie.Need-first-fault-requires
-first-fault-requires c κs = search needs
-
-refusal-at-requires : tie.Need-refusal-at-requires
-refusal-at-requires c κs = search needs
 
 returns-3 : tie.Need-returns-3
 returns-3 c =
@@ -53,12 +34,6 @@ run-devices-requires c κs =
     let e = c .before .before .before .before .before .before in
     (e .before .before .before .before .before .before .before .pre, faultless (c .before) .0, e .if2 .left)
 
-success-requires : tie.Need-success-requires
-success-requires c κs = search needs
-
-same-length : tie.Need-same-length
-same-length c = search needs
-
 returns-4 : tie.Need-returns-4
 returns-4 c =
     let l = c .before .before .before .before .before in
@@ -71,16 +46,16 @@ pub step-recorder-spec : {M : Type 1} → statement M
 step-recorder-spec =
     tie.close
     (tie.spec
-    refusal-requires
+    (λ c κs. search needs)
     returns
-    refusal-requires-2
+    (λ c κs. search needs)
     returns-2
-    judge-requires
-    unfit-requires
-    first-fault-requires
-    refusal-at-requires
+    (λ c κs. search needs)
+    (λ c κs. search needs)
+    (λ c κs. search needs)
+    (λ c κs. search needs)
     returns-3
     run-devices-requires
-    success-requires
-    same-length
+    (λ c κs. search needs)
+    (λ c. search needs)
     returns-4)

@@ -1,5 +1,4 @@
 -- `stepper::step_through` meets its contract.
--- Assumes nothing.
 use borrow.Author.Needs.{needs}
 use Rattle.request.proofs.Accepted.{read-accepted, read-refused, accepted-valid}
 use Rattle.planner.specs.Promises as P
@@ -11,24 +10,15 @@ use Rattle.stepper.proofs.step_through.Tie as tie
 recorded : (c : tie.Else1) → Reads (c .before .before .before .before .before .before .args .file .now) (c .before .before .read .result .recorder)
 recorded c = read-accepted _ _ (c .before .before .read .ensures) (c .if1 .left)
 
-read-requires : tie.Need-read-requires
-read-requires c κs = search needs
-
-refusal-requires : tie.Need-refusal-requires
-refusal-requires c κs = search needs
-
 returns : tie.Need-returns
 returns c = rw (c .refusal .ensures) (P.OfFile.refused (read-refused _ _ (c .before .before .before .read .ensures) (c .before .if1 .taken)))
 
 step-recorder-requires : tie.Need-step-recorder-requires
 step-recorder-requires c κs = accepted-valid _ _ (recorded (c .before .before))
 
-same-length : tie.Need-same-length
-same-length c = search needs
-
 returns-2 : tie.Need-returns-2
 returns-2 c = P.OfFile.read (recorded (c .before .before .before .before .before)) (c .before .before .step-recorder .ensures)
 
 pub step-through-spec : {M : Type 1} → statement M
 step-through-spec =
-    tie.close (tie.spec read-requires refusal-requires returns step-recorder-requires same-length returns-2)
+    tie.close (tie.spec (λ c κs. search needs) (λ c κs. search needs) returns step-recorder-requires (λ c. search needs) returns-2)

@@ -1,5 +1,4 @@
 -- What the code hands on of 25 and 24: the number that refuses, or 0. Contracts inside the crate cite this.
--- Assumes nothing.
 use mathlib.Core.List.{List}
 use Prim.Native.Nat.{ℕ, _<_}
 use lib.ListN.{getD}

@@ -1,6 +1,5 @@
 -- A device job by job, as the code steps: between two events it goes on as it does, and those ticks pass all at once. Contracts inside the house cite this;
 -- proofs/Laws: it comes to the same as the ticks of specs/Stepping.
--- Assumes nothing.
 use mathlib.Core.Path.{_≡_}
 use mathlib.Core.Bool.{Bool, false, cond}
 use mathlib.Core.List.{List, [], _∷_}

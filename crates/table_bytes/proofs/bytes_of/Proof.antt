@@ -1,14 +1,13 @@
 -- `table_bytes::bytes_of` meets its contract.
--- Assumes nothing.
 use mathlib.Core.Path.{_≡_, ap, _∙_}
 use mathlib.Core.List.{_++_}
-use Prim.Native.Nat.{_+_, _*_, _≤_}
+use Prim.Native.Nat.{_≤_}
 use native.Mathlib.Omega.{arith}
 use lib.ListN.{length, length-append}
 use Rattle.tables.specs.declared.File.{File}
 use Rattle.tables.specs.declared.TableName.the-variants.{Devices, Tasks, Jobs}
 use Rattle.tables.specs.Layout.{joined, recordIn}
-use Rattle.tables.specs.inside.Held.{held, appended}
+use Rattle.tables.specs.inside.Held.{held}
 use Rattle.tables.proofs.Appending.{appended-more}
 use Rattle.tables.proofs.Joining.{length-devices, length-tasks, length-jobs}
 use Rattle.table_bytes.specs.TableBytes.{headOf, tableBytes}
@@ -31,18 +30,6 @@ after-tasks : (c : tie.After-push-records2) → c .push-records2 .result .count 
 after-tasks c =
     let t = c .before .before .before .args .t in
     omega (arith, after-devices (c .before), c .before .before .before .pre .tasks, counted _ _ _ (c .push-records2 .ensures), length-tasks t (t .tasks .count))
-
-cast-head : tie.Need-cast-head
-cast-head c = search needs
-
-cast-head-2 : tie.Need-cast-head-2
-cast-head-2 c = search needs
-
-cast-head-3 : tie.Need-cast-head-3
-cast-head-3 c = search needs
-
-head-requires : tie.Need-head-requires
-head-requires c κs = search needs
 
 push-records-requires : tie.Need-push-records-requires
 push-records-requires c κs =
@@ -79,10 +66,10 @@ pub bytes-of-spec : {M : Type 1} → statement M
 bytes-of-spec =
     tie.close
     (tie.spec
-    cast-head
-    cast-head-2
-    cast-head-3
-    head-requires
+    (λ c. search needs)
+    (λ c. search needs)
+    (λ c. search needs)
+    (λ c κs. search needs)
     push-records-requires
     push-records-requires-2
     push-records-requires-3

@@ -1,16 +1,8 @@
 -- `table_bytes::devices_in` meets its contract.
--- Assumes nothing.
-use Prim.Native.Nat.{_≤_}
 use native.Mathlib.Omega.{arith}
 use borrow.Author.Needs.{needs}
 use Rattle.table_bytes.proofs.devices_in.Statement.{statement}
 use Rattle.table_bytes.proofs.devices_in.Tie as tie
-
-count-at-requires : tie.Need-count-at-requires
-count-at-requires c κs = search needs
-
-least-requires : tie.Need-least-requires
-least-requires c κs = search needs
 
 devices-at-requires : tie.Need-devices-at-requires
 devices-at-requires c κs = rw (c .least .ensures, c .before .count-at .ensures) (omega arith, c .before .before .before .pre .1)
@@ -19,4 +11,4 @@ returns : tie.Need-returns
 returns c = rw (c .before .devices-at .ensures, c .before .before .least .ensures, c .before .before .before .count-at .ensures)
 
 pub devices-in-spec : {M : Type 1} → statement M
-devices-in-spec = tie.close (tie.spec count-at-requires least-requires devices-at-requires returns)
+devices-in-spec = tie.close (tie.spec (λ c κs. search needs) (λ c κs. search needs) devices-at-requires returns)

@@ -1,12 +1,10 @@
 -- `table_bytes::head` meets its contract.
--- Assumes nothing.
 use mathlib.Core.Path.{_≡_, ap, _∙_}
-use mathlib.Core.List.{[], _∷_, _++_}
-use Prim.Native.Nat.{_+_, _≤_}
+use mathlib.Core.List.{[], _∷_}
 use native.Mathlib.Omega.{arith}
 use Rattle.tables.specs.declared.File.{File}
 use Rattle.base.specs.Bytes.{pairBytes}
-use Rattle.tables.specs.inside.Held.{held, appended}
+use Rattle.tables.specs.inside.Held.{held}
 use Rattle.tables.proofs.Appending.{appended-more, held-all}
 use Rattle.table_bytes.specs.TableBytes.{kindByte, headOf}
 use Rattle.table_bytes.proofs.Sizes.{counted}
@@ -30,12 +28,6 @@ five c = omega (arith, three (c .before), counted _ _ _ (c .push-pair2 .ensures)
 
 seven : (c : tie.After-push-pair3) → c .push-pair3 .result .count ≡ 7
 seven c = omega (arith, five (c .before), counted _ _ _ (c .push-pair3 .ensures))
-
-empty-requires : tie.Need-empty-requires
-empty-requires c κs = search needs
-
-kind-byte-requires : tie.Need-kind-byte-requires
-kind-byte-requires c κs = search needs
 
 push-requires : tie.Need-push-requires
 push-requires c κs = omega (arith, none c)
@@ -64,8 +56,8 @@ pub head-spec : {M : Type 1} → statement M
 head-spec =
     tie.close
     (tie.spec
-    empty-requires
-    kind-byte-requires
+    (λ c κs. search needs)
+    (λ c κs. search needs)
     push-requires
     push-pair-requires
     push-pair-requires-2

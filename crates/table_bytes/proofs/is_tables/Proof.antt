@@ -1,5 +1,4 @@
 -- `table_bytes::is_tables` meets its contract.
--- Assumes nothing.
 use mathlib.Core.Path.{_≡_, sym, _∙_}
 use mathlib.Core.Bool.{true≢false}
 use Prim.Native.Nat.{_+_, _*_, min}
@@ -16,32 +15,11 @@ use Rattle.table_bytes.proofs.is_tables.Tie as tie
 returns : tie.Need-returns
 returns c = (λ e. absurd (true≢false (sym e)), λ e t. omega (arith, c .if1 .taken, tables-long (c .before .before .args .s .now) t))
 
-shared-slice-read-if2 : tie.Need-shared-slice-read-if2
-shared-slice-read-if2 c = search needs
-
 returns-2 : tie.Need-returns-2
 returns-2 c = (λ e. absurd (true≢false (sym e)), λ e t. omega (arith, c .if2 .taken, t .kind))
 
-shared-slice-read-if3 : tie.Need-shared-slice-read-if3
-shared-slice-read-if3 c = search needs
-
 returns-3 : tie.Need-returns-3
 returns-3 c = (λ e. absurd (true≢false (sym e)), λ e t. omega (arith, c .if3 .taken, t .kind))
-
-jobs-from-requires : tie.Need-jobs-from-requires
-jobs-from-requires c κs = search needs
-
-count-at-requires : tie.Need-count-at-requires
-count-at-requires c κs = search needs
-
-least-requires : tie.Need-least-requires
-least-requires c κs = search needs
-
-mul-result : tie.Need-mul-result
-mul-result c = search needs
-
-add-result : tie.Need-add-result
-add-result c = search needs
 
 returns-4 : tie.Need-returns-4
 returns-4 c =
@@ -57,13 +35,13 @@ is-tables-spec =
     tie.close
     (tie.spec
     returns
-    shared-slice-read-if2
+    (λ c. search needs)
     returns-2
-    shared-slice-read-if3
+    (λ c. search needs)
     returns-3
-    jobs-from-requires
-    count-at-requires
-    least-requires
-    mul-result
-    add-result
+    (λ c κs. search needs)
+    (λ c κs. search needs)
+    (λ c κs. search needs)
+    (λ c. search needs)
+    (λ c. search needs)
     returns-4)

@@ -1,7 +1,5 @@
 -- `table_bytes::kind_named` meets its contract.
--- Assumes nothing.
 use borrow.Author.Tests.{eq-eqb, ne-eqb}
-use borrow.Author.Needs.{needs}
 use Rattle.table_bytes.proofs.kind_named.Statement.{statement}
 use Rattle.table_bytes.proofs.kind_named.Tie as tie
 

@@ -1,7 +1,5 @@
 -- `table_bytes::tables_from` meets its contract.
--- Assumes nothing.
 use native.Mathlib.Omega.{arith}
-use Prim.Native.Nat.{_≤_}
 use Rattle.table_bytes.proofs.Sizes.{tables-long}
 use borrow.Author.Needs.{needs}
 use Rattle.table_bytes.proofs.tables_from.Statement.{statement}
@@ -9,9 +7,6 @@ use Rattle.table_bytes.proofs.tables_from.Tie as tie
 
 shared-slice-read-kind-named : tie.Need-shared-slice-read-kind-named
 shared-slice-read-kind-named c = omega (arith, tables-long (c .before .before .args .s .now) (c .before .before .pre))
-
-kind-named-requires : tie.Need-kind-named-requires
-kind-named-requires c κs = search needs
 
 devices-in-requires : tie.Need-devices-in-requires
 devices-in-requires c κs = let l = tables-long (c .before .before .before .args .s .now) (c .before .before .before .pre) in rw (c .kind-named .ensures) (l .0, omega (arith, l .1))
@@ -40,7 +35,7 @@ tables-from-spec =
     tie.close
     (tie.spec
     shared-slice-read-kind-named
-    kind-named-requires
+    (λ c κs. search needs)
     devices-in-requires
     tasks-from-requires
     tasks-in-requires

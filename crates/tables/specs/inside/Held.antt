@@ -1,5 +1,4 @@
 -- What the code keeps and knows on the way. Nobody need believe these: no contract of a public operation speaks of them.
--- Assumes nothing.
 use mathlib.Core.Path.{_≡_}
 use mathlib.Core.List.{List, [], _∷_}
 use Prim.Native.Nat.{ℕ, _+_, _*_, _≤_, min}

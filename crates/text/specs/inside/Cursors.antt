@@ -1,8 +1,7 @@
 -- The same text by places, as the code goes along it, two quotes between quotes left as they stand (`rawOf`). Nobody need believe these: no promise speaks of
 -- them. proofs/Scanning: they are the lines, fields and numbers of the definitions.
--- Assumes nothing.
 use mathlib.Core.Bool.{Bool, true, false, cond, _&&_}
-use mathlib.Core.List.{List, [], _∷_, _++_}
+use mathlib.Core.List.{List, [], _∷_}
 use mathlib.Core.Option.{Option, none, some, Option·getD}
 use Prim.Native.Nat.{ℕ, suc, _+_, _-_, _*_, min}
 use lib.ListN.{length, take, drop, getD}

@@ -1,5 +1,4 @@
 -- What a function that puts bytes into lent memory does. Nobody need believe these: no promise speaks of them.
--- Assumes nothing.
 use mathlib.Core.Path.{_≡_}
 use mathlib.Core.List.{List, [], _∷_, _++_}
 use Prim.Native.Nat.{ℕ, _+_}

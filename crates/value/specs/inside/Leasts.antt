@@ -1,19 +1,17 @@
 -- The least extras to come of a vertex: the value that a search may work out in place of a plan.
--- Assumes nothing.
 use mathlib.Core.Path.{_≡_}
-use mathlib.Core.Bool.{true, cond}
+use mathlib.Core.Bool.{cond}
 use mathlib.Core.Option.{Option, some}
-use mathlib.Core.List.{List, [], _∷_}
+use mathlib.Core.List.{List}
 use Prim.Native.Nat.{ℕ, zero, suc, _+_, _-_, _≤_, _<_, min, max}
-use lib.Dec.{leb}
-use Rattle.base.specs.Lists.{In, upFrom, remove}
+use Rattle.base.specs.Lists.{In, upFrom}
 use Rattle.base.specs.Sums.{sum}
 use Rattle.device.specs.declared.Device.{Device}
 use Rattle.schedule.specs.declared.Recorder.{Recorder}
-use Rattle.schedule.specs.Quantities.{release, deadline, run, uses}
+use Rattle.schedule.specs.Quantities.{deadline, run, uses}
 use Rattle.schedule.specs.Listing.{Place}
-use Rattle.schedule.specs.Visiting.{Vertex, child, earliest, starts, since}
-use Rattle.keys.specs.inside.Keys.{extra, unused, leads, closes, needed}
+use Rattle.schedule.specs.Visiting.{Vertex, child, earliest, starts}
+use Rattle.keys.specs.inside.Keys.{extra, unused, leads, closes}
 use Rattle.value.specs.inside.Options.{plus, leastIn}
 
 -- One tick more costs a gap at most n more, from g ticks on and up to h; and at most n less.

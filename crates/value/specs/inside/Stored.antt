@@ -1,6 +1,5 @@
 -- The key as the code stores it: two numbers for a device, neither above its cap, with no mark for a device that is unused or needed no more, since the unplaced jobs
 -- tell both.
--- Assumes nothing.
 use mathlib.Core.Path.{_≡_}
 use mathlib.Core.Bool.{cond}
 use mathlib.Core.List.{List}

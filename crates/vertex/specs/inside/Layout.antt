@@ -1,6 +1,5 @@
 -- A vertex laid out in forty-nine numbers, which the search lends: 0 to 7 the devices' ends, 8 to 15 what they have cost, 16 to 23 their ticks to come, 24 to 39 of
 -- each job 0 as long as it is unplaced, and then one more than its start, 40 to 47 the starts of the devices' first uses, 48 the running times of the unplaced jobs.
--- Assumes nothing.
 use mathlib.Core.Bool.{Bool, not, cond}
 use mathlib.Core.List.{List}
 use Prim.Native.Nat.{ℕ, _+_, _-_, _*_}

@@ -1,5 +1,4 @@
 -- The vertices that a search comes to, by the code's own steps (src/placing): what `root_of` makes, and what `place` makes of a vertex that was come to.
--- Assumes nothing.
 use mathlib.Core.List.{List}
 use Prim.Native.Nat.{ℕ, _+_, _≤_}
 use Rattle.schedule.specs.declared.Recorder.{Recorder}

@@ -1,5 +1,4 @@
 -- The stored sums: what a vertex holds of its unplaced jobs and of its devices, and how late a child of it may end.
--- Assumes nothing.
 use mathlib.Core.Path.{_≡_}
 use mathlib.Core.Bool.{Bool, true, false, cond}
 use mathlib.Core.List.{List}

@@ -1,6 +1,5 @@
 -- A vertex as the search keeps it (rule 40): the sums over its unplaced jobs, cut A (rule 43), what its devices have cost, and its floor (rule 46). These are the
 -- code's steps, and nobody need believe them: visit/proofs/Agreement shows that they are Visiting's.
--- Assumes nothing.
 use mathlib.Core.Bool.{Bool, true, false, cond}
 use mathlib.Core.List.{List, [], _∷_, _++_}
 use Prim.Native.Nat.{ℕ, zero, suc, _+_, _-_, _*_, _≤_, _<_, max}

@@ -1,6 +1,5 @@
 -- `visit::visit`, `visit::enter`, `visit::choices` and `visit::tries` meet their contracts. The number of unplaced jobs falls from visit to visit. The loops'
 -- invariants: the lent tally is what the turns so far made, within the budget.
--- Assumes nothing.
 use mathlib.Core.Path.{_≡_, refl, ap, sym, _∙_, subst}
 use mathlib.Core.Logic.{⊎-elim}
 use Prim.Native.Nat.{ℕ, _+_, _-_, _*_, _≤_, _<_, max}

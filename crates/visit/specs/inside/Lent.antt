@@ -1,5 +1,4 @@
 -- The tally as nineteen numbers, which the search lends: 0 the count, 1 whether there is a best (1), 2 its energy, 3 to 18 its starts. And what a call made of it.
--- Assumes nothing.
 use mathlib.Core.Path.{_≡_}
 use mathlib.Core.Bool.{Bool, cond}
 use mathlib.Core.List.{List}

@@ -1,6 +1,5 @@
 -- The steps of the code's search (src/), without a budget. These are the code's steps, and nobody need believe them: proofs/Agreement shows that they are
 -- Visiting's.
--- Assumes nothing.
 use mathlib.Core.Bool.{Bool, true, false, not, cond}
 use mathlib.Core.List.{List}
 use Prim.Native.Nat.{ℕ, zero, suc, _+_, _-_, max}

@@ -1,5 +1,4 @@
 -- `calls::put` meets its contract.
--- Assumes nothing.
 use mathlib.Core.Path.{_≡_, refl}
 use mathlib.Core.List.{_++_}
 use Prim.Native.Nat.{_≤_, _+_, _-_}

@@ -1,13 +1,9 @@
 -- `calls::cramped` meets its contract.
--- Assumes nothing.
 use Rattle.request.proofs.Accepted.{read-accepted, read-refused}
 use Rattle.calls.specs.inside.Cramped.{Cramped}
 use borrow.Author.Needs.{needs}
 use Rattle.calls.proofs.results.cramped.Statement.{statement}
 use Rattle.calls.proofs.results.cramped.Tie as tie
-
-read-requires : tie.Need-read-requires
-read-requires c κs = search needs
 
 returns : tie.Need-returns
 returns c = Cramped.refused (read-refused _ _ (c .before .before .read .ensures) (c .if1 .taken))
@@ -16,4 +12,4 @@ returns-2 : tie.Need-returns-2
 returns-2 c = Cramped.read (read-accepted _ _ (c .before .before .read .ensures) (c .if1 .left))
 
 pub cramped-spec : {M : Type 1} → statement M
-cramped-spec = tie.close (tie.spec read-requires returns returns-2)
+cramped-spec = tie.close (tie.spec (λ c κs. search needs) returns returns-2)

@@ -1,5 +1,4 @@
 -- `calls::tell` meets its contract: four numbers are put one after the other, or none.
--- Assumes nothing.
 use mathlib.Core.Path.{refl, sym}
 use native.Mathlib.Omega.{arith}
 use lib.Seq.{length-take-le}
@@ -8,62 +7,8 @@ use borrow.Author.Needs.{needs}
 use Rattle.calls.proofs.results.tell.Statement.{statement}
 use Rattle.calls.proofs.results.tell.Tie as tie
 
-slice-relend-prefix-put : tie.Need-slice-relend-prefix-put
-slice-relend-prefix-put c = search needs
-
 slice-aggregate-put : tie.Need-slice-aggregate-put
 slice-aggregate-put c = sym (length-take-le 1 (c .before .before .before .args .result .now) (omega arith))
-
-put-requires : tie.Need-put-requires
-put-requires c κs = search needs
-
-sub-put : tie.Need-sub-put
-sub-put c = search needs
-
-part-put-start : tie.Need-part-put-start
-part-put-start c = search needs
-
-part-put-end : tie.Need-part-put-end
-part-put-end c = search needs
-
-cast-put : tie.Need-cast-put
-cast-put c = search needs
-
-put-requires-2 : tie.Need-put-requires-2
-put-requires-2 c κs = search needs
-
-sub-put-2 : tie.Need-sub-put-2
-sub-put-2 c = search needs
-
-part-put-start-2 : tie.Need-part-put-start-2
-part-put-start-2 c = search needs
-
-part-put-end-2 : tie.Need-part-put-end-2
-part-put-end-2 c = search needs
-
-cast-put-2 : tie.Need-cast-put-2
-cast-put-2 c = search needs
-
-put-requires-3 : tie.Need-put-requires-3
-put-requires-3 c κs = search needs
-
-sub-put-3 : tie.Need-sub-put-3
-sub-put-3 c = search needs
-
-part-put-start-3 : tie.Need-part-put-start-3
-part-put-start-3 c = search needs
-
-part-put-end-3 : tie.Need-part-put-end-3
-part-put-end-3 c = search needs
-
-cast-put-3 : tie.Need-cast-put-3
-cast-put-3 c = search needs
-
-put-requires-4 : tie.Need-put-requires-4
-put-requires-4 c κs = search needs
-
-same-length : tie.Need-same-length
-same-length c = search needs
 
 returns : tie.Need-returns
 returns c =
@@ -77,24 +22,24 @@ pub tell-spec : {M : Type 1} → statement M
 tell-spec =
     tie.close
     (tie.spec
-    slice-relend-prefix-put
+    (λ c. search needs)
     slice-aggregate-put
-    put-requires
-    sub-put
-    part-put-start
-    part-put-end
-    cast-put
-    put-requires-2
-    sub-put-2
-    part-put-start-2
-    part-put-end-2
-    cast-put-2
-    put-requires-3
-    sub-put-3
-    part-put-start-3
-    part-put-end-3
-    cast-put-3
-    put-requires-4
-    same-length
+    (λ c κs. search needs)
+    (λ c. search needs)
+    (λ c. search needs)
+    (λ c. search needs)
+    (λ c. search needs)
+    (λ c κs. search needs)
+    (λ c. search needs)
+    (λ c. search needs)
+    (λ c. search needs)
+    (λ c. search needs)
+    (λ c κs. search needs)
+    (λ c. search needs)
+    (λ c. search needs)
+    (λ c. search needs)
+    (λ c. search needs)
+    (λ c κs. search needs)
+    (λ c. search needs)
     returns
     returns-2)

@@ -1,20 +1,10 @@
 -- `catalogue::look_up::record_of` meets its contract.
--- Assumes nothing.
 use mathlib.Core.Path.{sym, _∙_}
 use native.Mathlib.Omega.{arith}
 use borrow.Author.Needs.{needs}
 use Rattle.catalogue.proofs.Pieces.{found-record, found-within}
 use Rattle.catalogue.proofs.look_up.record_of.Statement.{statement}
 use Rattle.catalogue.proofs.look_up.record_of.Tie as tie
-
-find-requires : tie.Need-find-requires
-find-requires c κs = search needs
-
-mul-first-at : tie.Need-mul-first-at
-mul-first-at c = search needs
-
-add-first-at : tie.Need-add-first-at
-add-first-at c = search needs
 
 first-at-requires : tie.Need-first-at-requires
 first-at-requires c κs =
@@ -32,4 +22,4 @@ returns c =
     c .first-at .ensures ∙ sym (found-record s n (found .result) (start .pre .0) (found .ensures) within)
 
 pub record-of-spec : {M : Type 1} → statement M
-record-of-spec = tie.close (tie.spec find-requires mul-first-at add-first-at first-at-requires returns)
+record-of-spec = tie.close (tie.spec (λ c κs. search needs) (λ c. search needs) (λ c. search needs) first-at-requires returns)

@@ -1,6 +1,5 @@
 -- `catalogue::numbers::is_formed` meets its contract.
--- Assumes nothing.
-use mathlib.Core.Path.{_≡_, sym, _∙_}
+use mathlib.Core.Path.{sym, _∙_}
 use Prim.Native.Nat.{_≤_}
 use native.Mathlib.Omega.{arith}
 use lib.ListN.{length}
@@ -11,9 +10,6 @@ use Rattle.catalogue.proofs.numbers.is_formed.Tie as tie
 
 returns : tie.Need-returns
 returns c = sym (formed-only-eight (c .before .before .args .number .now) (c .if1 .taken))
-
-signs-of-requires : tie.Need-signs-of-requires
-signs-of-requires c κs = search needs
 
 returns-2 : tie.Need-returns-2
 returns-2 c =
@@ -29,12 +25,6 @@ sub-are-spaces c = omega (arith, fits c)
 part-are-spaces-start : tie.Need-part-are-spaces-start
 part-are-spaces-start c = omega (arith, fits c)
 
-part-are-spaces-end : tie.Need-part-are-spaces-end
-part-are-spaces-end c = search needs
-
-are-spaces-requires : tie.Need-are-spaces-requires
-are-spaces-requires c κs = search needs
-
 returns-3 : tie.Need-returns-3
 returns-3 c =
     let signs = c .before .before .before .signs-of in
@@ -46,10 +36,10 @@ is-formed-spec =
     tie.close
     (tie.spec
     returns
-    signs-of-requires
+    (λ c κs. search needs)
     returns-2
     sub-are-spaces
     part-are-spaces-start
-    part-are-spaces-end
-    are-spaces-requires
+    (λ c. search needs)
+    (λ c κs. search needs)
     returns-3)

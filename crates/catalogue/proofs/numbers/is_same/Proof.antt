@@ -1,9 +1,8 @@
 -- `catalogue::numbers::is_same` meets its contract.
--- Assumes nothing.
 use mathlib.Core.Path.{_≡_, refl, sym, _∙_}
 use Prim.Native.Nat.{_-_, _≤_}
 use native.Mathlib.Omega.{arith}
-use lib.ListN.{length, drop}
+use lib.ListN.{drop}
 use borrow.Author.Needs.{needs}
 use Rattle.base.specs.Bytes.{same}
 use Rattle.base.proofs.Comparing.{same-end, same-next, same-stop, same-lengths}

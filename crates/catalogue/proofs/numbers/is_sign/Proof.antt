@@ -1,5 +1,4 @@
 -- `catalogue::numbers::is_sign` meets its contract.
--- Assumes nothing.
 use native.Mathlib.Omega.{arith}
 use borrow.Author.Tests.{le-leb, lt-leb}
 use Rattle.catalogue.proofs.numbers.is_sign.Statement.{statement}

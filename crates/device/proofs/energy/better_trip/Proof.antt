@@ -1,5 +1,4 @@
 -- `device::better_trip` meets its contract. No power is past 65,535, and where the level has room its ticks are those of the gap, so that its cost fits.
--- Assumes nothing.
 use mathlib.Core.Path.{_≡_, refl, ap, sym, _∙_}
 use Prim.Native.Nat.{ℕ, suc, _+_, _-_, _*_, _^_, _≤_, _<_}
 use native.Mathlib.Nat.{mul-le-mul, mul-le-mul-right}
@@ -37,23 +36,8 @@ stays {d} {n} {g} e h = rw add-one (record { level = h .level ∙ sym e; cost = 
 deeper : {d : Device} {n g : ℕ} {t : Trip} → depth d (suc n) g ≡ suc n → t .level ≡ n + 1 → t .cost ≡ tripCost d (suc n) g → Chosen d (n + 1) g t
 deeper {d} {n} {g} e l h = rw add-one (record { level = l ∙ add-one n ∙ sym e; cost = h ∙ ap (λ (m : ℕ). tripCost d m g) (sym e) })
 
-add-level : tie.Need-add-level
-add-level c = search needs
-
-cast-down : tie.Need-cast-down
-cast-down c = search needs
-
-cast-down-2 : tie.Need-cast-down-2
-cast-down-2 c = search needs
-
 mul-down : tie.Need-mul-down
 mul-down c = record { fits = omega (arith, way (c .args .t1 .shut) (c .args .n) (omega (arith, c .good .0)) (omega (arith, c .pre .0 .few-levels))) }
-
-cast-up : tie.Need-cast-up
-cast-up c = search needs
-
-cast-up-2 : tie.Need-cast-up-2
-cast-up-2 c = search needs
 
 mul-up : tie.Need-mul-up
 mul-up c = record { fits = omega (arith, way (c .args .t1 .wake) (c .args .n) (omega (arith, c .good .0)) (omega (arith, c .pre .0 .few-levels))) }
@@ -66,12 +50,6 @@ returns c =
     let a = c .before .args in
     stays (depth-short (a .t1) (a .n) (a .g) (rw add-one at (c .if1 .taken))) (c .before .pre .1 .1)
 
-add-stay : tie.Need-add-stay
-add-stay c = search needs
-
-sub-stay : tie.Need-sub-stay
-sub-stay c = search needs
-
 -- What the level costs, where it has room: without the stay, and with it.
 moving : (c : tie.Else1) → let a = c .before .args in
     a .t1 .pd * (a .t1 .shut * (a .n + 1)) + a .t1 .pu * (a .t1 .wake * (a .n + 1)) < 2 ^ 32
@@ -83,29 +61,14 @@ moving c =
           (omega (arith, c .before .good .0)) (omega (arith, c .before .good .0)) (omega arith) (omega arith) (omega arith),
     )
 
-cast-cost : tie.Need-cast-cost
-cast-cost c = search needs
-
 mul-cost : tie.Need-mul-cost
 mul-cost c = record { fits = omega (arith, moving c) }
-
-cast-cost-2 : tie.Need-cast-cost-2
-cast-cost-2 c = search needs
 
 mul-cost-2 : tie.Need-mul-cost-2
 mul-cost-2 c = record { fits = omega (arith, moving c) }
 
 add-cost : tie.Need-add-cost
 add-cost c = record { fits = omega (arith, moving c) }
-
-mul-cost-3 : tie.Need-mul-cost-3
-mul-cost-3 c = search needs
-
-element-copy-out-cost : tie.Need-element-copy-out-cost
-element-copy-out-cost c = search needs
-
-cast-cost-3 : tie.Need-cast-cost-3
-cast-cost-3 c = search needs
 
 priced : (c : tie.After-cost) → let a = c .before .before .args in
     a .t1 .pd * (a .t1 .shut * (a .n + 1)) + a .t1 .pu * (a .t1 .wake * (a .n + 1)) + getD (a .t1 .powers) (a .n) 0 * (a .g - (a .t1 .shut * (a .n + 1) + a .t1 .wake * (a .n + 1))) < 2 ^ 32
@@ -137,25 +100,25 @@ pub better-trip-spec : {M : Type 1} → statement M
 better-trip-spec =
     tie.close
     (tie.spec
-    add-level
-    cast-down
-    cast-down-2
+    (λ c. search needs)
+    (λ c. search needs)
+    (λ c. search needs)
     mul-down
-    cast-up
-    cast-up-2
+    (λ c. search needs)
+    (λ c. search needs)
     mul-up
     add-if1
     returns
-    add-stay
-    sub-stay
-    cast-cost
+    (λ c. search needs)
+    (λ c. search needs)
+    (λ c. search needs)
     mul-cost
-    cast-cost-2
+    (λ c. search needs)
     mul-cost-2
     add-cost
-    mul-cost-3
-    element-copy-out-cost
-    cast-cost-3
+    (λ c. search needs)
+    (λ c. search needs)
+    (λ c. search needs)
     mul-cost-4
     add-cost-2
     returns-2

@@ -1,5 +1,4 @@
 -- `device::energy_from` meets its contract. The loop's invariant: the sum is the least energy of the ticks from `front` to the end of the last use passed.
--- Assumes nothing.
 use mathlib.Core.Path.{_≡_, refl, ap, sym, _∙_}
 use mathlib.Core.Bool.{false}
 use Prim.Native.Nat.{ℕ, _+_, _-_, _*_, _≤_, _<_}

@@ -1,26 +1,16 @@
 -- `device::energy_of` meets its contract: a round without a use sleeps throughout, and every other row is paid from its front on.
--- Assumes nothing.
 use mathlib.Core.Path.{_≡_, sym, ap, _∙_}
-use mathlib.Core.Bool.{Bool, true, false}
-use Prim.Native.Nat.{ℕ, _+_, _-_, _*_, _≤_}
+use mathlib.Core.Bool.{true, false}
+use Prim.Native.Nat.{ℕ, _*_, _≤_}
 use native.Mathlib.Nat.{mul-le-mul-right}
 use native.Mathlib.Omega.{arith}
 use borrow.Author.Needs.{needs}
-use Rattle.device.specs.Row.{deep, gapCost, energyOf, pattern}
-use Rattle.device.specs.inside.Uses.{usedIn, after, afterFrom, front, idle}
+use Rattle.device.specs.Row.{deep}
+use Rattle.device.specs.inside.Uses.{after, afterFrom, front, idle}
 use Rattle.device.proofs.Chosen.{deep-low}
 use Rattle.device.proofs.Spacing.{front-by, last-front, energy-whole, energy-idle}
 use Rattle.device.proofs.energy.energy_of.Statement.{statement}
 use Rattle.device.proofs.energy.energy_of.Tie as tie
-
-is-idle-requires : tie.Need-is-idle-requires
-is-idle-requires c κs = search needs
-
-deep-power-requires : tie.Need-deep-power-requires
-deep-power-requires c κs = search needs
-
-cast-result : tie.Need-cast-result
-cast-result c = search needs
 
 -- No tick of sleep costs more than 65,535.
 asleep : (c : tie.After-deep-power) → let a = c .before .before .before .args in (c .deep-power .result ≡ deep (a .d)) × (c .deep-power .result * a .h ≤ 65535 * a .h)
@@ -39,9 +29,6 @@ returns c =
     let a = s .args in
     let e : idle (a .round) (a .u) ≡ true = sym (c .before .before .is-idle .ensures) ∙ c .before .if1 .taken in
     (ap (λ (p : ℕ). p * a .h) (asleep c .0) ∙ sym (energy-idle (a .u) (a .h) (s .pre .1) (a .d) (a .round) e), asleep c .1)
-
-front-of-requires : tie.Need-front-of-requires
-front-of-requires c κs = search needs
 
 -- There is a use, or it is no round.
 lasts : (c : tie.After-front-of) → let a = c .before .before .before .args in
@@ -69,11 +56,11 @@ pub energy-of-spec : {M : Type 1} → statement M
 energy-of-spec =
     tie.close
     (tie.spec
-    is-idle-requires
-    deep-power-requires
-    cast-result
+    (λ c κs. search needs)
+    (λ c κs. search needs)
+    (λ c. search needs)
     mul-result
     returns
-    front-of-requires
+    (λ c κs. search needs)
     energy-from-requires
     returns-2)

@@ -1,10 +1,8 @@
 -- `device::gap_energy` meets its contract. No gap costs more than work throughout.
--- Assumes nothing.
 use mathlib.Core.Path.{_≡_, sym, _∙_}
-use Prim.Native.Nat.{ℕ, _*_, _≤_}
+use Prim.Native.Nat.{_≤_}
 use native.Mathlib.Nat.{mul-le-mul-right}
 use native.Mathlib.Omega.{arith}
-use borrow.Author.Needs.{needs}
 use Rattle.device.specs.Row.{gapCost}
 use Rattle.device.proofs.Chosen.{gap-energy, gap-most}
 use Rattle.device.proofs.energy.gap_energy.Statement.{statement}

@@ -1,5 +1,4 @@
 -- `device::last_end` meets its contract.
--- Assumes nothing.
 use mathlib.Core.Path.{_≡_, refl}
 use Prim.Native.Nat.{ℕ, zero, suc, _-_}
 use native.Mathlib.Omega.{arith}
@@ -15,21 +14,9 @@ last-one : (u : Uses) (n : ℕ) → (n ≡ 0 → ⊥) → getD (u .ends) (n - 1)
 last-one u zero h = absurd (h refl)
 last-one u (suc n) h = let e : suc n - 1 ≡ n = omega arith in rw e
 
-sub-result : tie.Need-sub-result
-sub-result c = search needs
-
-mul-result : tie.Need-mul-result
-mul-result c = search needs
-
-element-copy-out-result : tie.Need-element-copy-out-result
-element-copy-out-result c = search needs
-
-returns : tie.Need-returns
-returns c = search needs
-
 returns-2 : tie.Need-returns-2
 returns-2 c = let s = c .before .before in last-one (s .args .t1) (s .args .t1 .count) (c .before .if1 .left)
 
 pub last-end-spec : {M : Type 1} → statement M
 last-end-spec =
-    tie.close (tie.spec sub-result mul-result element-copy-out-result returns returns-2)
+    tie.close (tie.spec (λ c. search needs) (λ c. search needs) (λ c. search needs) (λ c. search needs) returns-2)

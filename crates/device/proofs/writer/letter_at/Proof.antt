@@ -1,5 +1,4 @@
 -- `device::letter_at` meets its contract: a level that is not 0 is one of sleep.
--- Assumes nothing.
 use mathlib.Core.Path.{_≡_, refl}
 use mathlib.Core.Bool.{Bool, true, false}
 use Prim.Native.Nat.{ℕ, zero, suc, _+_}
@@ -17,9 +16,6 @@ asleep : (k : ℕ) (b : Bool) → (k ≡ 0 → ⊥) → b ≡ false → 83 ≡ b
 asleep zero b h e = absurd (h refl)
 asleep (suc k) b h e = rw e
 
-returns : tie.Need-returns
-returns c = search needs
-
 cast-result : tie.Need-cast-result
 cast-result c = omega (arith, c .before .before .pre)
 
@@ -33,4 +29,4 @@ returns-3 : tie.Need-returns-3
 returns-3 c = asleep (c .before .before .args .level) (c .before .before .args .digits) (c .before .if1 .left) (c .if2 .left)
 
 pub letter-at-spec : {M : Type 1} → statement M
-letter-at-spec = tie.close (tie.spec returns cast-result add-result returns-2 returns-3)
+letter-at-spec = tie.close (tie.spec (λ c. search needs) cast-result add-result returns-2 returns-3)

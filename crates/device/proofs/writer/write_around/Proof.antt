@@ -1,7 +1,6 @@
 -- `device::write_around` meets its contract. First the end of the gap over the seam is written. The loop's invariant: after it the row is written up to the end of
 -- the last use passed, and the rest of the buffer is as it was. Then comes the beginning of that gap.
--- Assumes nothing.
-use mathlib.Core.Path.{_≡_, refl, sym, ap, _∙_}
+use mathlib.Core.Path.{_≡_, sym, ap, _∙_}
 use mathlib.Core.Bool.{Bool}
 use mathlib.Core.List.{List, _++_, append-assoc, append-nil, map}
 use Prim.Native.Nat.{ℕ, _+_, _-_, _≤_, _<_}

@@ -1,12 +1,11 @@
 -- `device::write_gap` meets its contract: the level chosen has room, and its trip is the gap's row.
--- Assumes nothing.
 use mathlib.Core.Path.{_≡_, refl, sym, ap, _∙_, subst}
 use mathlib.Core.List.{List, _++_, map}
 use Prim.Native.Nat.{ℕ, _+_, _-_, _*_, _≤_}
 use native.Mathlib.Omega.{arith}
 use borrow.Author.Needs.{needs}
 use lib.ListN.{take, drop}
-use Rattle.device.specs.Row.{byteOf, depth, trip, gapRow}
+use Rattle.device.specs.Row.{byteOf, trip, gapRow}
 use Rattle.device.specs.Row as Row
 use Rattle.device.specs.inside.Trips.{tripBytes}
 use Rattle.device.proofs.Chosen.{chosen}
@@ -18,12 +17,6 @@ use Rattle.device.proofs.writer.write_gap.Tie as tie
 returns : tie.Need-returns
 returns c = rw (c .if1 .taken) (refl, refl)
 
-cast-gap-trip : tie.Need-cast-gap-trip
-cast-gap-trip c = search needs
-
-gap-trip-requires : tie.Need-gap-trip-requires
-gap-trip-requires c κs = search needs
-
 -- The level has room.
 room : (c : tie.After-gap-trip) → let a = c .before .before .before .args in
     a .d .shut * c .gap-trip .result .level + a .d .wake * c .gap-trip .result .level ≤ a .g
@@ -31,14 +24,8 @@ room c =
     let a = c .before .before .before .args in
     subst (λ (m : ℕ). a .d .shut * m + a .d .wake * m ≤ a .g) (sym (c .gap-trip .ensures .level)) (chosen (a .d) (a .d .levels) (a .g) .room)
 
-cast-down : tie.Need-cast-down
-cast-down c = search needs
-
 mul-down : tie.Need-mul-down
 mul-down c = omega (arith, room (c .before))
-
-cast-up : tie.Need-cast-up
-cast-up c = search needs
 
 mul-up : tie.Need-mul-up
 mul-up c = omega (arith, room (c .before .before))
@@ -61,9 +48,6 @@ write-trip-requires c κs =
     let h = room (c .before .before .before .before) in
     (omega arith, (omega arith, omega arith))
 
-same-length : tie.Need-same-length
-same-length c = search needs
-
 returns-2 : tie.Need-returns-2
 returns-2 c =
     let w = c .before .before in
@@ -81,15 +65,15 @@ write-gap-spec =
     tie.close
     (tie.spec
     returns
-    cast-gap-trip
-    gap-trip-requires
-    cast-down
+    (λ c. search needs)
+    (λ c κs. search needs)
+    (λ c. search needs)
     mul-down
-    cast-up
+    (λ c. search needs)
     mul-up
     add-stay
     sub-stay
     letter-at-requires
     write-trip-requires
-    same-length
+    (λ c. search needs)
     returns-2)

@@ -1,15 +1,14 @@
 -- `device::write_row` meets its contract: a round without a use is one run, and every other row is written around its gap over the seam.
--- Assumes nothing.
 use mathlib.Core.Path.{_≡_, sym, ap, _∙_}
 use mathlib.Core.Bool.{true, false}
 use mathlib.Core.List.{List, _++_, map}
-use Prim.Native.Nat.{ℕ, _-_, _≤_}
+use Prim.Native.Nat.{ℕ, _-_}
 use native.Mathlib.Omega.{arith}
 use borrow.Author.Needs.{needs}
 use lib.ListN.{replicate, drop}
 use Rattle.device.specs.Row.{byteOf, rowOf, pattern}
 use Rattle.device.specs.Row as Row
-use Rattle.device.specs.inside.Uses.{usedIn, after, afterFrom, front, idle}
+use Rattle.device.specs.inside.Uses.{usedIn, after, afterFrom, idle}
 use Rattle.device.specs.inside.Trips.{around}
 use Rattle.device.proofs.Prefix.{map-replicate}
 use Rattle.device.proofs.Spacing.{front-by, last-front, row-idle}
@@ -17,20 +16,8 @@ use Rattle.device.proofs.Bytes.{row-around}
 use Rattle.device.proofs.writer.write_row.Statement.{statement}
 use Rattle.device.proofs.writer.write_row.Tie as tie
 
-is-idle-requires : tie.Need-is-idle-requires
-is-idle-requires c κs = search needs
-
-cast-letter-at : tie.Need-cast-letter-at
-cast-letter-at c = search needs
-
 letter-at-requires : tie.Need-letter-at-requires
 letter-at-requires c κs = omega (arith, c .before .before .before .before .before .pre .0 .few-levels)
-
-write-run-requires : tie.Need-write-run-requires
-write-run-requires c κs = search needs
-
-same-length : tie.Need-same-length
-same-length c = search needs
 
 returns : tie.Need-returns
 returns c =
@@ -41,21 +28,6 @@ returns c =
     let row : map (byteOf (a .digits)) (rowOf (a .round) (a .d) (pattern (usedIn (a .u)) 0 (a .h))) ≡ replicate (a .h) (byteOf (a .digits) (Row.at (a .d .levels)))
     = ap (map (byteOf (a .digits))) (row-idle (a .u) (a .h) (s .pre .1 .0) (a .d) (a .round) e) ∙ map-replicate (byteOf (a .digits)) (a .h) (Row.at (a .d .levels)) in
     w .write-run .ensures .1 ∙ ap (λ (l : List ℕ). l ++ drop (a .h) (a .out .now)) (ap (replicate (a .h)) (w .before .letter-at .ensures) ∙ sym row)
-
-front-of-requires : tie.Need-front-of-requires
-front-of-requires c κs = search needs
-
-cast-front : tie.Need-cast-front
-cast-front c = search needs
-
-last-end-requires : tie.Need-last-end-requires
-last-end-requires c κs = search needs
-
-cast-tail : tie.Need-cast-tail
-cast-tail c = search needs
-
-sub-tail : tie.Need-sub-tail
-sub-tail c = search needs
 
 -- There is a use, or it is no round.
 lasts : (c : tie.After-front-of) → let a = c .before .before .before .before .args in
@@ -75,9 +47,6 @@ write-around-requires c κs =
     let ok = s .pre .1 .0 in
     (s .pre .0, (ok, (rw (f .front-of .ensures) (front-by (a .u) (a .h) ok (a .round)), (rw l (ok .within), (rw (l, c .before .last-end .ensures), (omega arith, s .pre .1 .1))))))
 
-same-length-2 : tie.Need-same-length-2
-same-length-2 c = search needs
-
 returns-2 : tie.Need-returns-2
 returns-2 c =
     let w = c .before .before in
@@ -94,17 +63,17 @@ pub write-row-spec : {M : Type 1} → statement M
 write-row-spec =
     tie.close
     (tie.spec
-    is-idle-requires
-    cast-letter-at
+    (λ c κs. search needs)
+    (λ c. search needs)
     letter-at-requires
-    write-run-requires
-    same-length
+    (λ c κs. search needs)
+    (λ c. search needs)
     returns
-    front-of-requires
-    cast-front
-    last-end-requires
-    cast-tail
-    sub-tail
+    (λ c κs. search needs)
+    (λ c. search needs)
+    (λ c κs. search needs)
+    (λ c. search needs)
+    (λ c. search needs)
     write-around-requires
-    same-length-2
+    (λ c. search needs)
     returns-2)

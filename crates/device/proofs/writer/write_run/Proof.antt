@@ -1,11 +1,10 @@
 -- `device::write_run` meets its contract. The loop's invariant: as many bytes as turns are the letter, and the rest are as they were.
--- Assumes nothing.
 use mathlib.Core.Path.{_≡_, _∙_}
 use Prim.Native.Nat.{_≤_, _-_}
 use native.Mathlib.Omega.{arith}
 use borrow.Author.Needs.{needs}
 use lib.ListN.{length, replicate, replicate-append-replicate}
-use Rattle.base.proofs.Filling.{Filled, filled-none, filled-store, filled-length}
+use Rattle.base.proofs.Filling.{Filled, filled-none, filled-store}
 use Rattle.device.proofs.writer.write_run.Statement.{statement}
 use Rattle.device.proofs.writer.write_run.Tie as tie
 

@@ -1,5 +1,4 @@
 -- `device::write_some` meets its contract.
--- Assumes nothing.
 use mathlib.Core.Path.{_≡_, ap, _∙_}
 use mathlib.Core.List.{_++_}
 use Prim.Native.Nat.{ℕ, _-_}
@@ -15,20 +14,8 @@ some : (c : tie.After-beyond2) → let a = c .before .before .before .before .ar
 unfolding shared
 some c = rw (c .before .beyond .ensures, c .beyond2 .ensures)
 
-beyond-requires : tie.Need-beyond-requires
-beyond-requires c κs = search needs
-
-beyond-requires-2 : tie.Need-beyond-requires-2
-beyond-requires-2 c κs = search needs
-
-sub-write-run : tie.Need-sub-write-run
-sub-write-run c = search needs
-
 write-run-requires : tie.Need-write-run-requires
 write-run-requires c κs = omega (arith, some c)
-
-same-length : tie.Need-same-length
-same-length c = search needs
 
 returns : tie.Need-returns
 returns c =
@@ -41,9 +28,9 @@ pub write-some-spec : {M : Type 1} → statement M
 write-some-spec =
     tie.close
     (tie.spec
-    beyond-requires
-    beyond-requires-2
-    sub-write-run
+    (λ c κs. search needs)
+    (λ c κs. search needs)
+    (λ c. search needs)
     write-run-requires
-    same-length
+    (λ c. search needs)
     returns)

@@ -1,11 +1,9 @@
 -- `device::write_trip` meets its contract: of three runs what lies in the part is written one after the other, each at the front of what the one before it left.
--- Assumes nothing.
-use mathlib.Core.Path.{_≡_, ap, _∙_}
-use mathlib.Core.List.{List, _++_}
+use mathlib.Core.Path.{_≡_, _∙_}
 use Prim.Native.Nat.{ℕ, _+_, _-_, _≤_}
 use native.Mathlib.Omega.{arith}
 use borrow.Author.Needs.{needs}
-use lib.ListN.{replicate, length-replicate, drop}
+use lib.ListN.{replicate, length-replicate}
 use Rattle.device.specs.inside.Trips.{shared}
 use Rattle.device.proofs.Bytes.{written-first, written-on, taken-trip, shared-trip}
 use Rattle.device.proofs.writer.write_trip.Statement.{statement}
@@ -27,12 +25,6 @@ all : (s : tie.Start) → let a = s .args in
     shared (a .down) (a .x) (a .x + a .n) + shared (a .stay) (a .x - a .down) (a .x + a .n - a .down) + shared (a .up) (a .x - (a .down + a .stay)) (a .x + a .n - (a .down + a .stay)) ≡ a .n
 all s = let a = s .args in shared-trip (a .down) (a .stay) (a .up) (a .x) (a .n) (s .pre .0)
 
-add-y : tie.Need-add-y
-add-y c = search needs
-
-add-rising : tie.Need-add-rising
-add-rising c = search needs
-
 write-some-requires : tie.Need-write-some-requires
 write-some-requires c κs = (omega arith, omega (arith, all (c .before .before)))
 
@@ -41,15 +33,6 @@ sub-write-some c = omega (arith, all (c .before .before .before .before .before)
 
 part-write-some-start : tie.Need-part-write-some-start
 part-write-some-start c = omega (arith, all (c .before .before .before .before .before))
-
-part-write-some-end : tie.Need-part-write-some-end
-part-write-some-end c = search needs
-
-beyond-requires : tie.Need-beyond-requires
-beyond-requires c κs = search needs
-
-beyond-requires-2 : tie.Need-beyond-requires-2
-beyond-requires-2 c κs = search needs
 
 write-some-requires-2 : tie.Need-write-some-requires-2
 write-some-requires-2 c κs = (rw (c .before .beyond .ensures, c .beyond2 .ensures) (grows _ _ _), omega (arith, second c, all (c .before .before .before .before .before .before .before .before)))
@@ -63,23 +46,11 @@ sub-write-some-2 c = omega (arith, second (c .before .before .before), all (c .b
 part-write-some-start-2 : tie.Need-part-write-some-start-2
 part-write-some-start-2 c = omega (arith, second (c .before .before .before), all (c .before .before .before .before .before .before .before .before .before .before .before))
 
-part-write-some-end-2 : tie.Need-part-write-some-end-2
-part-write-some-end-2 c = search needs
-
-beyond-requires-3 : tie.Need-beyond-requires-3
-beyond-requires-3 c κs = search needs
-
-beyond-requires-4 : tie.Need-beyond-requires-4
-beyond-requires-4 c κs = search needs
-
 write-some-requires-3 : tie.Need-write-some-requires-3
 write-some-requires-3 c κs = (rw (c .before .beyond3 .ensures, c .beyond4 .ensures) (grows _ _ _), omega (arith, third c, second (c .before .before .before .before .before .before), all (c .before .before .before .before .before .before .before .before .before .before .before .before .before .before)))
 
 add-result : tie.Need-add-result
 add-result c = omega (arith, third (c .before .before .before), second (c .before .before .before .before .before .before .before .before .before), all (c .before .before .before .before .before .before .before .before .before .before .before .before .before .before .before .before .before))
-
-same-length : tie.Need-same-length
-same-length c = search needs
 
 returns : tie.Need-returns
 returns c =
@@ -102,22 +73,22 @@ pub write-trip-spec : {M : Type 1} → statement M
 write-trip-spec =
     tie.close
     (tie.spec
-    add-y
-    add-rising
+    (λ c. search needs)
+    (λ c. search needs)
     write-some-requires
     sub-write-some
     part-write-some-start
-    part-write-some-end
-    beyond-requires
-    beyond-requires-2
+    (λ c. search needs)
+    (λ c κs. search needs)
+    (λ c κs. search needs)
     write-some-requires-2
     add-done
     sub-write-some-2
     part-write-some-start-2
-    part-write-some-end-2
-    beyond-requires-3
-    beyond-requires-4
+    (λ c. search needs)
+    (λ c κs. search needs)
+    (λ c κs. search needs)
     write-some-requires-3
     add-result
-    same-length
+    (λ c. search needs)
     returns)

@@ -1,7 +1,5 @@
 -- `doors::door_build::door_build` meets its contract.
--- Assumes nothing.
 use mathlib.Core.Path.{subst}
-use native.Mathlib.Omega.{arith}
 use borrow.Author.Tests.{not-true, not-false}
 use Rattle.tables.specs.declared.Tables.{Tables}
 use Rattle.catalogue.specs.Building.{others, Built}
@@ -10,26 +8,11 @@ use borrow.Author.Needs.{needs}
 use Rattle.doors.proofs.door_build.door_build.Statement.{statement}
 use Rattle.doors.proofs.door_build.door_build.Tie as tie
 
-opens-to-requires : tie.Need-opens-to-requires
-opens-to-requires c κs = search needs
-
 returns : tie.Need-returns
 returns c = shut (c .before .opens-to .ensures .1 (not-true _ (c .if1 .taken)))
 
 tables-from-requires : tie.Need-tables-from-requires
 tables-from-requires c κs = c .before .opens-to .ensures .0 (not-false _ (c .if1 .left)) .0
-
-build-requires : tie.Need-build-requires
-build-requires c κs = search needs
-
-tell-requires : tie.Need-tell-requires
-tell-requires c κs = search needs
-
-same-length : tie.Need-same-length
-same-length c = search needs
-
-same-length-2 : tie.Need-same-length-2
-same-length-2 c = search needs
 
 returns-2 : tie.Need-returns-2
 returns-2 c =
@@ -44,11 +27,11 @@ pub door-build-spec : {M : Type 1} → statement M
 door-build-spec =
     tie.close
     (tie.spec
-    opens-to-requires
+    (λ c κs. search needs)
     returns
     tables-from-requires
-    build-requires
-    tell-requires
-    same-length
-    same-length-2
+    (λ c κs. search needs)
+    (λ c κs. search needs)
+    (λ c. search needs)
+    (λ c. search needs)
     returns-2)

@@ -1,6 +1,5 @@
 -- `doors::door_build::opens_to` meets its contract.
--- Assumes nothing.
-use mathlib.Core.Path.{_≡_, sym, _∙_}
+use mathlib.Core.Path.{sym, _∙_}
 use mathlib.Core.Bool.{true≢false}
 use native.Mathlib.Omega.{arith}
 use borrow.Author.Tests.{not-true, not-false, eqb-true, eqb-false}
@@ -11,9 +10,6 @@ use Rattle.doors.proofs.door_build.opens_to.Tie as tie
 
 returns : tie.Need-returns
 returns c = (λ e. absurd (true≢false (sym e)), λ e o. omega (arith, o .2, c .if1 .taken))
-
-is-tables-requires : tie.Need-is-tables-requires
-is-tables-requires c κs = search needs
 
 returns-2 : tie.Need-returns-2
 returns-2 c = (λ e. absurd (true≢false (sym e)), λ e o. c .before .is-tables .ensures .1 (not-true _ (c .if2 .taken)) (o .0))
@@ -43,7 +39,7 @@ opens-to-spec =
     tie.close
     (tie.spec
     returns
-    is-tables-requires
+    (λ c κs. search needs)
     returns-2
     shared-slice-read-if3
     returns-3

@@ -1,12 +1,10 @@
 -- `doors::door_margins::bits_of` meets its contract.
--- Assumes nothing.
 use mathlib.Core.Path.{ap, _∙_}
 use mir.Syntax.{w32}
 use mir.Val.{SFits, toZ, ofZ}
 use mir.Facts.{toZ-ofZ}
 use Rattle.doors.proofs.Signs.{size-pos, Raised, raised, complement-pos, complement-raised}
 use Rattle.doors.specs.Promises.{complement}
-use borrow.Author.Needs.{needs}
 use Rattle.doors.proofs.door_margins.bits_of.Statement.{statement}
 use Rattle.doors.proofs.door_margins.bits_of.Tie as tie
 

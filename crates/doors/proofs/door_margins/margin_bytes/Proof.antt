@@ -1,5 +1,4 @@
 -- `doors::door_margins::margin_bytes` meets its contract.
--- Assumes nothing.
 use mathlib.Core.Path.{_≡_, sym, subst, _∙_}
 use mathlib.Core.List.{List, _++_}
 use Prim.Native.Nat.{ℕ, _/_, min}
@@ -26,20 +25,8 @@ zeros = replicate 16 (pos 0)
 owned : (c : tie.After-room) → length (take (c .before .least .result) zeros) ≡ min (length (c .before .before .before .before .before .args .out .now) / 4) 16
 owned c = length-take-le (c .before .least .result) zeros (omega (arith, c .before .least .ensures)) ∙ c .before .least .ensures
 
-least-requires : tie.Need-least-requires
-least-requires c κs = search needs
-
-array-borrow-prefix-room : tie.Need-array-borrow-prefix-room
-array-borrow-prefix-room c = search needs
-
 slice-aggregate-margins : tie.Need-slice-aggregate-margins
 slice-aggregate-margins c = sym (length-take-le _ _ (omega (arith, c .before .least .ensures)))
-
-margins-requires : tie.Need-margins-requires
-margins-requires c κs = search needs
-
-least-requires-2 : tie.Need-least-requires-2
-least-requires-2 c κs = search needs
 
 array-share-prefix-room : tie.Need-array-share-prefix-room
 array-share-prefix-room c = front-room zeros (c .before .before .before .before .margins .last .1 .1 .0) (c .before .before .before .before .before .before .least .result) (c .least2 .result) (omega (arith, c .before .before .before .before .before .before .least .ensures)) (omega (arith, c .least2 .ensures)) (c .before .before .before .before .margins .kept .1 .1 .0)
@@ -49,9 +36,6 @@ slice-aggregate-put-margins c = sym (length-take-le _ _ (front-room zeros (c .be
 
 put-margins-requires : tie.Need-put-margins-requires
 put-margins-requires c κs = rw (length-take-le (c .before .before .least2 .result) (c .before .before .before .before .before .before .margins .last .1 .1 .0 ++ drop (c .before .before .before .before .before .before .before .before .least .result) zeros) (front-room zeros (c .before .before .before .before .before .before .margins .last .1 .1 .0) (c .before .before .before .before .before .before .before .before .least .result) (c .before .before .least2 .result) (omega (arith, c .before .before .before .before .before .before .before .before .least .ensures)) (omega (arith, c .before .before .least2 .ensures)) (c .before .before .before .before .before .before .margins .kept .1 .1 .0))) (omega (arith, c .before .before .least2 .ensures, c .before .before .before .before .before .before .before .before .least .ensures))
-
-same-length : tie.Need-same-length
-same-length c = search needs
 
 returns : tie.Need-returns
 returns c =
@@ -79,14 +63,14 @@ pub margin-bytes-spec : {M : Type 1} → statement M
 margin-bytes-spec =
     tie.close
     (tie.spec
-    least-requires
-    array-borrow-prefix-room
+    (λ c κs. search needs)
+    (λ c. search needs)
     slice-aggregate-margins
-    margins-requires
-    least-requires-2
+    (λ c κs. search needs)
+    (λ c κs. search needs)
     array-share-prefix-room
     slice-aggregate-put-margins
     put-margins-requires
-    same-length
+    (λ c. search needs)
     returns
     returns-2)

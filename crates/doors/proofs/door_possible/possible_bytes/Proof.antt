@@ -1,5 +1,4 @@
 -- `doors::door_possible::possible_bytes` meets its contract.
--- Assumes nothing.
 use mathlib.Core.Path.{_≡_, sym, _∙_}
 use mathlib.Core.List.{List}
 use Prim.Native.Nat.{ℕ, _/_, min}
@@ -22,23 +21,8 @@ use Rattle.doors.proofs.door_possible.possible_bytes.Tie as tie
 abbrev zeros : List ℕ
 zeros = replicate 16 0
 
-least-requires : tie.Need-least-requires
-least-requires c κs = search needs
-
-array-borrow-prefix-own : tie.Need-array-borrow-prefix-own
-array-borrow-prefix-own c = search needs
-
 slice-aggregate-any-plan : tie.Need-slice-aggregate-any-plan
 slice-aggregate-any-plan c = sym (length-take-le _ _ (omega (arith, c .before .least .ensures)))
-
-any-plan-requires : tie.Need-any-plan-requires
-any-plan-requires c κs = search needs
-
-read-requires : tie.Need-read-requires
-read-requires c κs = search needs
-
-least-requires-2 : tie.Need-least-requires-2
-least-requires-2 c κs = search needs
 
 array-share-prefix-own : tie.Need-array-share-prefix-own
 array-share-prefix-own c = front-room zeros (c .before .before .before .before .before .any-plan .last .1 .1 .0) (c .before .before .before .before .before .before .before .least .result) (c .least2 .result) (omega (arith, c .before .before .before .before .before .before .before .least .ensures)) (omega (arith, c .least2 .ensures)) (c .before .before .before .before .before .any-plan .kept .1 .1 .0)
@@ -48,9 +32,6 @@ slice-aggregate-put-starts c = sym (length-take-le _ _ (array-share-prefix-own (
 
 put-starts-requires : tie.Need-put-starts-requires
 put-starts-requires c κs = rw (length-take-le _ _ (array-share-prefix-own (c .before .before))) (omega (arith, c .before .before .least2 .ensures, c .before .before .before .before .before .before .before .before .before .least .ensures))
-
-same-length : tie.Need-same-length
-same-length c = search needs
 
 returns : tie.Need-returns
 returns c =
@@ -81,15 +62,15 @@ pub possible-bytes-spec : {M : Type 1} → statement M
 possible-bytes-spec =
     tie.close
     (tie.spec
-    least-requires
-    array-borrow-prefix-own
+    (λ c κs. search needs)
+    (λ c. search needs)
     slice-aggregate-any-plan
-    any-plan-requires
-    read-requires
-    least-requires-2
+    (λ c κs. search needs)
+    (λ c κs. search needs)
+    (λ c κs. search needs)
     array-share-prefix-own
     slice-aggregate-put-starts
     put-starts-requires
-    same-length
+    (λ c. search needs)
     returns
     returns-2)

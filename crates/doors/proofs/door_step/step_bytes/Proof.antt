@@ -1,5 +1,4 @@
 -- `doors::door_step::step_bytes` meets its contract.
--- Assumes nothing.
 use mathlib.Core.Path.{_≡_, sym, _∙_}
 use mathlib.Core.List.{List}
 use Prim.Native.Nat.{ℕ, _/_, min}
@@ -26,23 +25,8 @@ zeros = replicate 8 0
 owned : (c : tie.After-room) → length (take (c .before .least .result) zeros) ≡ min (length (c .before .before .before .before .before .args .out .now) / 4) 8
 owned c = length-take-le (c .before .least .result) zeros (omega (arith, c .before .least .ensures)) ∙ c .before .least .ensures
 
-least-requires : tie.Need-least-requires
-least-requires c κs = search needs
-
-array-borrow-prefix-room : tie.Need-array-borrow-prefix-room
-array-borrow-prefix-room c = search needs
-
 slice-aggregate-step-through : tie.Need-slice-aggregate-step-through
 slice-aggregate-step-through c = sym (length-take-le _ _ (omega (arith, c .before .least .ensures)))
-
-step-through-requires : tie.Need-step-through-requires
-step-through-requires c κs = search needs
-
-read-requires : tie.Need-read-requires
-read-requires c κs = search needs
-
-least-requires-2 : tie.Need-least-requires-2
-least-requires-2 c κs = search needs
 
 array-share-prefix-room : tie.Need-array-share-prefix-room
 array-share-prefix-room c = front-room zeros (c .before .before .before .before .before .step-through .last .1 .1 .0) (c .before .before .before .before .before .before .before .least .result) (c .least2 .result) (omega (arith, c .before .before .before .before .before .before .before .least .ensures)) (omega (arith, c .least2 .ensures)) (c .before .before .before .before .before .step-through .kept .1 .1 .0)
@@ -52,9 +36,6 @@ slice-aggregate-put-energies c = sym (length-take-le _ _ (array-share-prefix-roo
 
 put-energies-requires : tie.Need-put-energies-requires
 put-energies-requires c κs = rw (length-take-le _ _ (array-share-prefix-room (c .before .before))) (omega (arith, c .before .before .least2 .ensures, c .before .before .before .before .before .before .before .before .before .least .ensures))
-
-same-length : tie.Need-same-length
-same-length c = search needs
 
 returns : tie.Need-returns
 returns c =
@@ -83,15 +64,15 @@ pub step-bytes-spec : {M : Type 1} → statement M
 step-bytes-spec =
     tie.close
     (tie.spec
-    least-requires
-    array-borrow-prefix-room
+    (λ c κs. search needs)
+    (λ c. search needs)
     slice-aggregate-step-through
-    step-through-requires
-    read-requires
-    least-requires-2
+    (λ c κs. search needs)
+    (λ c κs. search needs)
+    (λ c κs. search needs)
     array-share-prefix-room
     slice-aggregate-put-energies
     put-energies-requires
-    same-length
+    (λ c. search needs)
     returns
     returns-2)

@@ -1,10 +1,6 @@
 -- `doors::door_tables::listing_bytes` meets its contract.
--- Assumes nothing.
-use mathlib.Core.Path.{_≡_, sym, subst}
-use mathlib.Core.List.{List, _++_}
-use Prim.Native.Nat.{ℕ}
+use mathlib.Core.Path.{sym}
 use native.Mathlib.Omega.{arith}
-use lib.ListN.{length, drop}
 use lib.Seq.{length-take-le}
 use Rattle.planner.specs.Promises.{success}
 use Rattle.table_bytes.specs.TableBytes.{tableBytes}
@@ -15,17 +11,11 @@ use borrow.Author.Needs.{needs}
 use Rattle.doors.proofs.door_tables.listing_bytes.Statement.{statement}
 use Rattle.doors.proofs.door_tables.listing_bytes.Tie as tie
 
-tables-of-requires : tie.Need-tables-of-requires
-tables-of-requires c κs = search needs
-
 returns : tie.Need-returns
 returns c = D.TablesTold.refused (c .before .before .before .tables-of .ensures) (c .before .if1 .taken)
 
 bytes-of-requires : tie.Need-bytes-of-requires
 bytes-of-requires c κs = listed-few (c .before .before .before .before .before .before .args .file .now) (c .before .before .before .tables-of .result) (c .before .before .before .tables-of .ensures) (c .before .if1 .left)
-
-refusal-requires : tie.Need-refusal-requires
-refusal-requires c κs = search needs
 
 returns-2 : tie.Need-returns-2
 returns-2 c =
@@ -46,12 +36,6 @@ copy-requires c κs = rw (length-take-le _ _ (held-room (c .before .before .befo
 cast-success : tie.Need-cast-success
 cast-success c = omega (arith, c .before .before .before .before .before .before .before .bytes-of .ensures .1)
 
-success-requires : tie.Need-success-requires
-success-requires c κs = search needs
-
-same-length : tie.Need-same-length
-same-length c = search needs
-
 returns-3 : tie.Need-returns-3
 returns-3 c =
     let m = c .before .before .before .before .before .before .before .before .bytes-of in
@@ -65,15 +49,15 @@ pub listing-bytes-spec : {M : Type 1} → statement M
 listing-bytes-spec =
     tie.close
     (tie.spec
-    tables-of-requires
+    (λ c κs. search needs)
     returns
     bytes-of-requires
-    refusal-requires
+    (λ c κs. search needs)
     returns-2
     array-share-prefix-bytes
     slice-aggregate-copy
     copy-requires
     cast-success
-    success-requires
-    same-length
+    (λ c κs. search needs)
+    (λ c. search needs)
     returns-3)

@@ -1,5 +1,4 @@
 -- `doors::door_write::door_write` meets its contract.
--- Assumes nothing.
 use mathlib.Core.Path.{subst}
 use native.Mathlib.Omega.{arith}
 use borrow.Author.Tests.{not-true, not-false}
@@ -13,26 +12,11 @@ use Rattle.doors.proofs.door_write.door_write.Tie as tie
 returns : tie.Need-returns
 returns c = shut (λ o. omega (arith, o .1, c .if1 .taken))
 
-is-tables-requires : tie.Need-is-tables-requires
-is-tables-requires c κs = search needs
-
 returns-2 : tie.Need-returns-2
 returns-2 c = shut (λ o. c .before .is-tables .ensures .1 (not-true _ (c .if2 .taken)) (o .0))
 
 tables-from-requires : tie.Need-tables-from-requires
 tables-from-requires c κs = c .before .is-tables .ensures .0 (not-false _ (c .if2 .left))
-
-write-requires : tie.Need-write-requires
-write-requires c κs = search needs
-
-tell-requires : tie.Need-tell-requires
-tell-requires c κs = search needs
-
-same-length : tie.Need-same-length
-same-length c = search needs
-
-same-length-2 : tie.Need-same-length-2
-same-length-2 c = search needs
 
 returns-3 : tie.Need-returns-3
 returns-3 c =
@@ -47,11 +31,11 @@ door-write-spec =
     tie.close
     (tie.spec
     returns
-    is-tables-requires
+    (λ c κs. search needs)
     returns-2
     tables-from-requires
-    write-requires
-    tell-requires
-    same-length
-    same-length-2
+    (λ c κs. search needs)
+    (λ c κs. search needs)
+    (λ c. search needs)
+    (λ c. search needs)
     returns-3)

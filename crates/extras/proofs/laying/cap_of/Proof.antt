@@ -1,5 +1,4 @@
 -- `extras::laying::cap_of` meets its contract. The loop's invariant: from n on all gaps have the same extra.
--- Assumes nothing.
 use mathlib.Core.Path.{_≡_, refl}
 use Prim.Native.Nat.{_≤_}
 use native.Mathlib.Omega.{arith}

@@ -1,5 +1,4 @@
 -- `extras::laying::lay_device` meets its contract.
--- Assumes nothing.
 use mathlib.Core.Path.{_≡_, _∙_, subst}
 use Prim.Native.Nat.{ℕ, _≤_}
 use native.Mathlib.Omega.{arith}
@@ -26,19 +25,10 @@ laid :
     LaidGaps (device R (s .args .k)) (s .args .k) (R .horizon) (s .args .extras .now) (c .lay-gaps .last .1 .1 .1 .1 .0)
 laid c = rw (c .before .before .before .before .device-of .ensures, c .before .before .before .before .before .horizon-of .ensures) at (c .lay-gaps .ensures)
 
-horizon-of-requires : tie.Need-horizon-of-requires
-horizon-of-requires c κs = search needs
-
-device-of-requires : tie.Need-device-of-requires
-device-of-requires c κs = search needs
-
 deep-power-requires : tie.Need-deep-power-requires
 deep-power-requires c κs =
     let s = c .before .before in
     (omega (arith, s .pre .0 .few-devices), s .pre .0 .sound (s .args .k) (s .pre .1 .0))
-
-wide-requires : tie.Need-wide-requires
-wide-requires c κs = search needs
 
 lay-gaps-requires : tie.Need-lay-gaps-requires
 lay-gaps-requires c κs =
@@ -48,51 +38,6 @@ lay-gaps-requires c κs =
       valid .sound (s .args .k) (s .pre .1 .0),
       (c .before .wide .ensures .0 ∙ c .before .before .deep-power .ensures, (omega (arith, valid .few-devices), (valid .few-ticks, s .pre .1 .1))),
     )
-
-wide-requires-2 : tie.Need-wide-requires-2
-wide-requires-2 c κs = search needs
-
-cap-of-requires : tie.Need-cap-of-requires
-cap-of-requires c κs = search needs
-
-wide-requires-3 : tie.Need-wide-requires-3
-wide-requires-3 c κs = search needs
-
-rise-of-requires : tie.Need-rise-of-requires
-rise-of-requires c κs = search needs
-
-wide-requires-4 : tie.Need-wide-requires-4
-wide-requires-4 c κs = search needs
-
-fall-of-requires : tie.Need-fall-of-requires
-fall-of-requires c κs = search needs
-
-add-extras : tie.Need-add-extras
-add-extras c = search needs
-
-mul-extras : tie.Need-mul-extras
-mul-extras c = search needs
-
-element-write-extras : tie.Need-element-write-extras
-element-write-extras c = search needs
-
-add-extras-2 : tie.Need-add-extras-2
-add-extras-2 c = search needs
-
-mul-extras-2 : tie.Need-mul-extras-2
-mul-extras-2 c = search needs
-
-element-write-extras-2 : tie.Need-element-write-extras-2
-element-write-extras-2 c = search needs
-
-add-extras-3 : tie.Need-add-extras-3
-add-extras-3 c = search needs
-
-mul-extras-3 : tie.Need-mul-extras-3
-mul-extras-3 c = search needs
-
-element-write-extras-3 : tie.Need-element-write-extras-3
-element-write-extras-3 c = search needs
 
 returns : tie.Need-returns
 returns c =
@@ -112,24 +57,24 @@ pub lay-device-spec : {M : Type 1} → statement M
 lay-device-spec =
     tie.close
     (tie.spec
-    horizon-of-requires
-    device-of-requires
+    (λ c κs. search needs)
+    (λ c κs. search needs)
     deep-power-requires
-    wide-requires
+    (λ c κs. search needs)
     lay-gaps-requires
-    wide-requires-2
-    cap-of-requires
-    wide-requires-3
-    rise-of-requires
-    wide-requires-4
-    fall-of-requires
-    add-extras
-    mul-extras
-    element-write-extras
-    add-extras-2
-    mul-extras-2
-    element-write-extras-2
-    add-extras-3
-    mul-extras-3
-    element-write-extras-3
+    (λ c κs. search needs)
+    (λ c κs. search needs)
+    (λ c κs. search needs)
+    (λ c κs. search needs)
+    (λ c κs. search needs)
+    (λ c κs. search needs)
+    (λ c. search needs)
+    (λ c. search needs)
+    (λ c. search needs)
+    (λ c. search needs)
+    (λ c. search needs)
+    (λ c. search needs)
+    (λ c. search needs)
+    (λ c. search needs)
+    (λ c. search needs)
     returns)

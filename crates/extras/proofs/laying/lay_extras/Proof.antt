@@ -1,5 +1,4 @@
 -- `extras::laying::lay_extras` meets its contract. The loop's invariant: the devices passed are laid.
--- Assumes nothing.
 use mathlib.Core.Path.{_≡_, subst}
 use Prim.Native.Nat.{ℕ, _-_, _≤_}
 use native.Mathlib.Omega.{arith}

@@ -1,5 +1,4 @@
 -- `extras::laying::rise_of` meets its contract. The loop's invariant: the steepest rise up to g ticks.
--- Assumes nothing.
 use mathlib.Core.Path.{_≡_, subst}
 use Prim.Native.Nat.{ℕ, _-_, _≤_}
 use native.Mathlib.Omega.{arith}

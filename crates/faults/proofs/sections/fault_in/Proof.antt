@@ -1,9 +1,7 @@
 -- `faults::sections::fault_in` meets its contract.
-use borrow.Author.Needs.{needs}
 use mathlib.Core.Path.{_≡_}
 use mathlib.Core.List.{List}
-use Prim.Native.Nat.{ℕ, _≤_}
-use native.Mathlib.Omega.{arith}
+use Prim.Native.Nat.{ℕ}
 use lib.ListN.{length}
 use Rattle.tables.specs.declared.Kind.{Kind}
 use Rattle.tables.specs.Layout.{marker}

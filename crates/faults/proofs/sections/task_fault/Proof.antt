@@ -1,10 +1,8 @@
 -- `faults::sections::task_fault` meets its contract.
 use borrow.Author.Needs.{needs}
-use mathlib.Core.Path.{_≡_, sym, ap, _∙_}
 use native.Mathlib.Omega.{arith}
 use Rattle.base.proofs.Paths.{paths}
 use Rattle.request.proofs.Checked.{tasks-sound}
-use Rattle.faults.specs.declared.PlaceFault.{PlaceFault}
 use Rattle.faults.specs.inside.Walk.{taskWalk}
 use Rattle.faults.proofs.Walking.{walks, clear-records}
 use Rattle.faults.proofs.sections.task_fault.Statement.{statement}

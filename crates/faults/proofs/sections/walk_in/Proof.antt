@@ -1,6 +1,6 @@
 -- `faults::sections::walk_in` meets its contract.
 use borrow.Author.Needs.{needs}
-use mathlib.Core.Path.{_≡_, sym, _∙_}
+use mathlib.Core.Path.{_≡_}
 use native.Mathlib.Omega.{arith}
 use Rattle.base.specs.Bytes.{byteAt}
 use Rattle.base.proofs.Paths.{paths}

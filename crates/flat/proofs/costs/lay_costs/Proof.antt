@@ -1,5 +1,4 @@
 -- `flat::lay_costs` meets its contract. The loop's invariant: the gaps of the devices passed are laid.
--- Assumes nothing.
 use mathlib.Core.Path.{_≡_, subst}
 use Prim.Native.Nat.{ℕ, _-_, _≤_, _<_}
 use native.Mathlib.Omega.{arith}

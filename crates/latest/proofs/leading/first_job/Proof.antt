@@ -1,5 +1,4 @@
 -- `latest::leading::first_job` meets its contract. The loop's invariant: no job passed can go first.
--- Assumes nothing.
 use mathlib.Core.Path.{_≡_}
 use Prim.Native.Nat.{ℕ, _≤_, _<_, _-_, _/_, _^_}
 use native.Mathlib.Omega.{arith}

@@ -1,5 +1,4 @@
 -- `latest::leading::lay_starts` meets its contract. The loop's invariant: what is left can still be run, and its greedy run completes the whole one.
--- Assumes nothing.
 use mathlib.Core.Path.{ap, _∙_}
 use Prim.Native.Nat.{ℕ, max}
 use native.Mathlib.Omega.{arith}

@@ -1,5 +1,4 @@
 -- `least::cells::first_of` meets its contract. (It would be proved with no file; with one a wrong program is refused at the fact itself.)
--- Assumes nothing.
 use borrow.Author.Needs.{needs}
 use Rattle.least.proofs.cells.first_of.Statement.{statement}
 use Rattle.least.proofs.cells.first_of.Tie as tie
@@ -7,8 +6,5 @@ use Rattle.least.proofs.cells.first_of.Tie as tie
 returns : tie.Need-returns
 returns c = search needs
 
-returns-2 : tie.Need-returns-2
-returns-2 c = search needs
-
 pub first-of-spec : {M : Type 1} → statement M
-first-of-spec = tie.close (tie.spec returns returns-2)
+first-of-spec = tie.close (tie.spec returns (λ c. search needs))

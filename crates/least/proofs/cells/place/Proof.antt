@@ -1,5 +1,4 @@
 -- `least::cells::place` meets its contract. The loop's invariant: the job is charged to the first k devices.
--- Assumes nothing.
 use mathlib.Core.Path.{_≡_, sym, _∙_, subst}
 use mathlib.Core.Logic.{⊎-elim}
 use Prim.Native.Nat.{ℕ, _≤_, _<_, _-_}

@@ -1,5 +1,4 @@
 -- `least::cells::root_of` meets its contract. The loop's invariant: the ticks to come of the first k devices are copied.
--- Assumes nothing.
 use mathlib.Core.Path.{_≡_, subst}
 use mathlib.Core.List.{List}
 use Prim.Native.Nat.{ℕ, _≤_, _-_}

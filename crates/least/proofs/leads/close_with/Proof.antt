@@ -1,5 +1,4 @@
 -- `least::leads::close_with` meets its contract.
--- Assumes nothing.
 use mathlib.Core.Path.{_≡_, _∙_}
 use Prim.Native.Nat.{_+_, _-_, _≤_}
 use native.Mathlib.Omega.{arith}
@@ -9,9 +8,6 @@ use Rattle.flat.specs.inside.Flat.{recorderOf}
 use Rattle.keys.specs.inside.Keys.{extra}
 use Rattle.least.proofs.leads.close_with.Statement.{statement}
 use Rattle.least.proofs.leads.close_with.Tie as tie
-
-is-unused-requires : tie.Need-is-unused-requires
-is-unused-requires c κs = search needs
 
 returns : tie.Need-returns
 returns c = (rw (← c .before .is-unused .ensures, c .if1 .taken), omega arith)
@@ -41,4 +37,4 @@ returns-2 c =
     (rw (← c .before .before .is-unused .ensures, c .before .if1 .left) is, omega (arith, is, s .pre .0 .extra-most (a .k) g (s .pre .1 .0) (room s .1)))
 
 pub close-with-spec : {M : Type 1} → statement M
-close-with-spec = tie.close (tie.spec is-unused-requires returns sub-extra-of add-extra-of extra-of-requires returns-2)
+close-with-spec = tie.close (tie.spec (λ c κs. search needs) returns sub-extra-of add-extra-of extra-of-requires returns-2)

@@ -1,5 +1,4 @@
 -- `least::leads::fall_of` meets its contract. A rise and a fall of eight devices just fit 32 bits.
--- Assumes nothing.
 use mathlib.Core.Path.{_≡_, refl, ap, _∙_}
 use Prim.Native.Nat.{ℕ, _+_, _≤_, _<_, _-_, _*_}
 use native.Mathlib.Omega.{arith}

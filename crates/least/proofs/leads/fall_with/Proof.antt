@@ -1,5 +1,4 @@
 -- `least::leads::fall_with` meets its contract.
--- Assumes nothing.
 use Prim.Native.Nat.{_+_, _≤_, _<_}
 use native.Mathlib.Omega.{arith}
 use borrow.Author.Needs.{needs}
@@ -19,27 +18,6 @@ most s = (s .pre .0 .rise-most (s .args .k) (s .pre .1 .0), s .pre .0 .fall-most
 is-used-requires : tie.Need-is-used-requires
 is-used-requires c κs = (few c, c .pre .1 .1)
 
-is-unused-requires : tie.Need-is-unused-requires
-is-unused-requires c κs = search needs
-
-add-result : tie.Need-add-result
-add-result c = search needs
-
-mul-result : tie.Need-mul-result
-mul-result c = search needs
-
-element-copy-out-result : tie.Need-element-copy-out-result
-element-copy-out-result c = search needs
-
-add-result-2 : tie.Need-add-result-2
-add-result-2 c = search needs
-
-mul-result-2 : tie.Need-mul-result-2
-mul-result-2 c = search needs
-
-element-copy-out-result-2 : tie.Need-element-copy-out-result-2
-element-copy-out-result-2 c = search needs
-
 add-result-3 : tie.Need-add-result-3
 add-result-3 c = record { fits = omega (arith, most (c .before .before .before .before .before .before)) }
 
@@ -49,15 +27,6 @@ returns c = (
   rw (← c .before .before .before .before .before .is-used .ensures, c .before .before .before .before .if1 .taken, ← c .before .before .before .is-unused .ensures, c .before .before .if2 .taken),
   omega (arith, most (c .before .before .before .before .before .before)),
 )
-
-add-result-4 : tie.Need-add-result-4
-add-result-4 c = search needs
-
-mul-result-3 : tie.Need-mul-result-3
-mul-result-3 c = search needs
-
-element-copy-out-result-3 : tie.Need-element-copy-out-result-3
-element-copy-out-result-3 c = search needs
 
 returns-2 : tie.Need-returns-2
 unfolding riseAt fallAt
@@ -74,17 +43,17 @@ fall-with-spec =
     tie.close
     (tie.spec
     is-used-requires
-    is-unused-requires
-    add-result
-    mul-result
-    element-copy-out-result
-    add-result-2
-    mul-result-2
-    element-copy-out-result-2
+    (λ c κs. search needs)
+    (λ c. search needs)
+    (λ c. search needs)
+    (λ c. search needs)
+    (λ c. search needs)
+    (λ c. search needs)
+    (λ c. search needs)
     add-result-3
     returns
-    add-result-4
-    mul-result-3
-    element-copy-out-result-3
+    (λ c. search needs)
+    (λ c. search needs)
+    (λ c. search needs)
     returns-2
     returns-3)

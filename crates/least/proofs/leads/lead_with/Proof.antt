@@ -1,5 +1,4 @@
 -- `least::leads::lead_with` meets its contract.
--- Assumes nothing.
 use mathlib.Core.Path.{_≡_, _∙_}
 use Prim.Native.Nat.{_-_, _≤_}
 use native.Mathlib.Omega.{arith}
@@ -12,9 +11,6 @@ use Rattle.least.proofs.leads.lead_with.Tie as tie
 
 is-used-requires : tie.Need-is-used-requires
 is-used-requires c κs = (omega (arith, c .pre .1 .0, c .pre .0 .valid .few-devices), c .pre .1 .1 .0)
-
-is-unused-requires : tie.Need-is-unused-requires
-is-unused-requires c κs = search needs
 
 returns : tie.Need-returns
 returns c = (rw (← c .before .before .before .is-used .ensures, c .before .before .if1 .taken, ← c .before .is-unused .ensures, c .if2 .taken), omega arith)
@@ -47,7 +43,7 @@ lead-with-spec =
     tie.close
     (tie.spec
     is-used-requires
-    is-unused-requires
+    (λ c κs. search needs)
     returns
     sub-extra-of
     extra-of-requires

@@ -1,5 +1,4 @@
 -- `least::leads::wait_of` meets its contract.
--- Assumes nothing.
 use mathlib.Core.Path.{_≡_}
 use mathlib.Core.Logic.{⊎-elim}
 use Prim.Native.Nat.{ℕ, _≤_, _<_, _-_, min}

@@ -1,5 +1,4 @@
 -- `least::memory::clear` meets its contract. The loop's invariant: the places passed hold 0.
--- Assumes nothing.
 use mathlib.Core.Path.{_≡_, refl, _∙_}
 use mathlib.Core.List.{List}
 use mathlib.Core.Logic.{by-cases}

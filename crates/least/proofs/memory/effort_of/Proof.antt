@@ -1,5 +1,4 @@
 -- `least::memory::effort_of` meets its contract. The loop's invariant: the effort is at most 7.
--- Assumes nothing.
 use Prim.Native.Nat.{_-_, _≤_}
 use native.Mathlib.Omega.{arith}
 use borrow.Author.Tests.{ltb-true}

@@ -1,5 +1,4 @@
 -- `least::memory::look` meets its contract. The loop's invariant: the four entries are in the memory, and i is one of them.
--- Assumes nothing.
 use mathlib.Core.Path.{refl}
 use mathlib.Core.Logic.{inl, inr}
 use Prim.Native.Nat.{_+_, _-_, _*_, _≤_}

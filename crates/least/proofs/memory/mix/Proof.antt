@@ -1,5 +1,4 @@
 -- `least::memory::mix` is safe: its sums and products fit.
--- Assumes nothing.
 use Prim.Native.Nat.{ℕ, _+_, _*_, _/_, _%_, _^_, _<_}
 use native.Mathlib.Omega.{arith}
 use borrow.Author.Needs.{needs}
@@ -13,20 +12,8 @@ sum-fits y x h = small (y % 4294967296 * 2654435769) x h (omega arith)
     small : (a x : ℕ) → x < 2 ^ 64 → a < 2 ^ 64 → a / 65536 + x / 4294967296 < 2 ^ 64
     small a x h k = omega arith
 
-add-a : tie.Need-add-a
-add-a c = search needs
-
-mul-a : tie.Need-mul-a
-mul-a c = search needs
-
 add-result : tie.Need-add-result
 add-result c = record { fits = sum-fits (c .args .h / 65536 + c .args .x % 4294967296) (c .args .x) (omega arith) }
 
-mul-result : tie.Need-mul-result
-mul-result c = search needs
-
-returns : tie.Need-returns
-returns c = search needs
-
 pub mix-spec : {M : Type 1} → statement M
-mix-spec = tie.close (tie.spec add-a mul-a add-result mul-result returns)
+mix-spec = tie.close (tie.spec (λ c. search needs) (λ c. search needs) add-result (λ c. search needs) (λ c. search needs))

@@ -1,5 +1,4 @@
 -- `least::first_child` meets its contract. The loop's invariant: no job that is passed has a start with the goal.
--- Assumes nothing.
 use mathlib.Core.Path.{_≡_, refl, ap}
 use Prim.Native.Nat.{_-_, _/_, _^_, _≤_}
 use native.Mathlib.Omega.{arith}

@@ -1,5 +1,4 @@
 -- `least::first_start` meets its contract. The loop's invariant: no start that is passed has the goal.
--- Assumes nothing.
 use mathlib.Core.Path.{_≡_, refl, ap, _∙_, subst}
 use Prim.Native.Nat.{ℕ, _-_, _≤_, _<_, max}
 use native.Mathlib.Omega.{arith}

@@ -1,6 +1,4 @@
 -- `least::hits` meets its contract.
--- Assumes nothing.
-use Prim.Native.Nat.{_-_}
 use native.Mathlib.Omega.{arith}
 use Rattle.least.specs.inside.Outcome.{told}
 use Rattle.least.proofs.Counting.{came-stop, came-go, came-small}

@@ -1,5 +1,4 @@
 -- `least::least_starts` meets its contract.
--- Assumes nothing.
 use mathlib.Core.Path.{refl, ap, _∙_}
 use Prim.Native.Nat.{ℕ, _-_, _^_}
 use native.Mathlib.Omega.{arith}
@@ -16,17 +15,11 @@ use Rattle.least.proofs.reading.least_starts.Tie as tie
 root-of-requires : tie.Need-root-of-requires
 root-of-requires c κs = c .before .pre .0 .tabled .valid
 
-job-count-requires : tie.Need-job-count-requires
-job-count-requires c κs = search needs
-
 power-requires : tie.Need-power-requires
 power-requires c κs = omega (arith, c .job-count .ensures, c .before .before .before .pre .0 .tabled .valid .few-jobs)
 
 sub-all : tie.Need-sub-all
 sub-all c = omega (arith, c .power .ensures, pow-pos (c .before .job-count .result))
-
-lift-of-requires : tie.Need-lift-of-requires
-lift-of-requires c κs = search needs
 
 least-requires : tie.Need-least-requires
 least-requires c κs =
@@ -70,10 +63,10 @@ least-starts-spec =
     tie.close
     (tie.spec
     root-of-requires
-    job-count-requires
+    (λ c κs. search needs)
     power-requires
     sub-all
-    lift-of-requires
+    (λ c κs. search needs)
     least-requires
     same-length
     returns

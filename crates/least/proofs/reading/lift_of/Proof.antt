@@ -1,5 +1,4 @@
 -- `least::lift_of` meets its contract: any number will do.
--- Assumes nothing.
 use Prim.Native.Nat.{_≤_, _-_}
 use native.Mathlib.Omega.{arith}
 use borrow.Author.Needs.{needs}

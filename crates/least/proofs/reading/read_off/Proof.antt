@@ -1,5 +1,4 @@
 -- `least::read_off` meets its contract. The loop's invariant: part of the schedule is read off.
--- Assumes nothing.
 use mathlib.Core.Path.{_≡_, refl, ap, _∙_}
 use Prim.Native.Nat.{ℕ, _+_, _-_, _%_, _≤_}
 use native.Mathlib.Omega.{arith}

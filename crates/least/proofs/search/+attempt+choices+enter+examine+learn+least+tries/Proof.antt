@@ -1,6 +1,5 @@
 -- `least`, `learn`, `examine`, `choices`, `tries`, `attempt` and `enter` meet their contracts. A number falls from call to call: the set of the unplaced jobs, and where it stays
 -- the time that is left. The loops' invariants: what is passed is answered for.
--- Assumes nothing.
 use mathlib.Core.Path.{_≡_, refl, sym, ap, _∙_, subst}
 use mathlib.Core.Logic.{⊎-elim}
 use Prim.Native.Nat.{ℕ, suc, _+_, _-_, _*_, _/_, _^_, _≤_, _<_, max}

@@ -1,5 +1,4 @@
 -- `least::is_enough` meets its contract.
--- Assumes nothing.
 use mathlib.Core.Path.{refl}
 use borrow.Author.Tests.{eq-eqb, ne-eqb}
 use Rattle.least.proofs.search.is_enough.Statement.{statement}

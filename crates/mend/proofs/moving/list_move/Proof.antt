@@ -1,5 +1,4 @@
 -- `mend::moving::list_move` meets its contract.
--- Assumes nothing.
 use native.Mathlib.Omega.{arith}
 use lib.ListN.{length-set}
 use borrow.Author.Needs.{needs}
@@ -12,41 +11,11 @@ returns : tie.Need-returns
 unfolding listWith
 returns c = let e = eq-eqb (c .before .args .given) (c .before .args .new) (c .if1 .taken) in (rw e, rw e)
 
-mul-at : tie.Need-mul-at
-mul-at c = search needs
-
-cast-moved : tie.Need-cast-moved
-cast-moved c = search needs
-
-mul-moved : tie.Need-mul-moved
-mul-moved c = search needs
-
-slice-write-moved : tie.Need-slice-write-moved
-slice-write-moved c = search needs
-
-add-moved : tie.Need-add-moved
-add-moved c = search needs
-
-mul-moved-2 : tie.Need-mul-moved-2
-mul-moved-2 c = search needs
-
 slice-write-moved-2 : tie.Need-slice-write-moved-2
 slice-write-moved-2 c = simp length-set (omega arith)
 
-add-moved-2 : tie.Need-add-moved-2
-add-moved-2 c = search needs
-
-mul-moved-3 : tie.Need-mul-moved-3
-mul-moved-3 c = search needs
-
 slice-write-moved-3 : tie.Need-slice-write-moved-3
 slice-write-moved-3 c = simp length-set (omega arith)
-
-add-result : tie.Need-add-result
-add-result c = search needs
-
-same-length : tie.Need-same-length
-same-length c = search needs
 
 returns-2 : tie.Need-returns-2
 unfolding listWith
@@ -57,16 +26,16 @@ list-move-spec =
     tie.close
     (tie.spec
     returns
-    mul-at
-    cast-moved
-    mul-moved
-    slice-write-moved
-    add-moved
-    mul-moved-2
+    (λ c. search needs)
+    (λ c. search needs)
+    (λ c. search needs)
+    (λ c. search needs)
+    (λ c. search needs)
+    (λ c. search needs)
     slice-write-moved-2
-    add-moved-2
-    mul-moved-3
+    (λ c. search needs)
+    (λ c. search needs)
     slice-write-moved-3
-    add-result
-    same-length
+    (λ c. search needs)
+    (λ c. search needs)
     returns-2)

@@ -1,5 +1,4 @@
 -- `mend::settling::is_late` meets its contract.
--- Assumes nothing.
 use native.Mathlib.Omega.{arith}
 use borrow.Author.Needs.{needs}
 use Rattle.mend.proofs.settling.is_late.Statement.{statement}
@@ -8,8 +7,5 @@ use Rattle.mend.proofs.settling.is_late.Tie as tie
 add-result : tie.Need-add-result
 add-result c = omega arith
 
-returns : tie.Need-returns
-returns c = search needs
-
 pub is-late-spec : {M : Type 1} → statement M
-is-late-spec = tie.close (tie.spec add-result returns)
+is-late-spec = tie.close (tie.spec add-result (λ c. search needs))

@@ -1,10 +1,8 @@
 -- `request::checks::device_check` meets its contract: with one level there is no 26.
--- Assumes nothing.
 use borrow.Author.Needs.{needs}
 use mathlib.Core.Path.{_≡_}
 use mathlib.Core.Bool.{false, cond}
-use Prim.Native.Nat.{ℕ}
-use lib.Dec.{eqb, ltb}
+use lib.Dec.{eqb}
 use Rattle.base.specs.Refusals.{firstThat}
 use Rattle.base.proofs.Paths.{paths}
 use Rattle.tables.specs.declared.DeviceRecord.{DeviceRecord}
@@ -23,11 +21,8 @@ returns c = rw (one (c .before .before .args .d) (c .before .before .pre)) (sear
 returns-2 : tie.Need-returns-2
 returns-2 c = rw (one (c .before .before .before .before .args .d) (c .before .before .before .before .pre)) (search paths)
 
-powers-check-requires : tie.Need-powers-check-requires
-powers-check-requires c κs = search needs
-
 returns-3 : tie.Need-returns-3
 returns-3 c = rw (one (c .before .before .before .before .before .args .d) (c .before .before .before .before .before .pre)) (search paths)
 
 pub device-check-spec : {M : Type 1} → statement M
-device-check-spec = tie.close (tie.spec returns returns-2 powers-check-requires returns-3)
+device-check-spec = tie.close (tie.spec returns returns-2 (λ c κs. search needs) returns-3)

@@ -1,8 +1,7 @@
 -- `request::checks::device_fault` meets its contract: in the first two kinds all of the record is called for at once, and it has one level.
--- Assumes nothing.
 use borrow.Author.Needs.{needs}
 use mathlib.Core.Path.{_≡_, refl, sym, ap, _∙_}
-use mathlib.Core.Bool.{Bool, true, false, true≢false}
+use mathlib.Core.Bool.{Bool, false, true≢false}
 use mathlib.Core.List.{List}
 use Prim.Native.Nat.{ℕ, _+_, _-_, _≤_}
 use native.Mathlib.Omega.{arith}
@@ -36,9 +35,6 @@ judged k e s at r d room f g =
     let whole : ltb (length s - at) (deviceSize k s at) ≡ false = le-ltb (length s - at) (deviceSize k s at) (omega (arith, at-once k e s at)) in
     f ∙ ap (λ (x : DeviceRecord). firstThat (deviceTable false x)) g ∙ ap (λ (b : Bool). firstThat (deviceTable b (deviceAt k s at))) (sym whole)
 
-enum-told : tie.Need-enum-told
-enum-told c = search needs
-
 device-at-requires : tie.Need-device-at-requires
 device-at-requires c κs =
     let a = c .before .before .before .args in
@@ -49,9 +45,6 @@ device-check-requires c κs =
     let a = c .before .before .before .before .args in
     ap (λ (d : DeviceRecord). d .levels) (c .device-at .ensures) ∙ one-level (a .kind) (ap digitsIn (c .before .enum-told .given .1)) (a .s .now) (a .at)
 
-enum-told-2 : tie.Need-enum-told-2
-enum-told-2 c = search needs
-
 device-at-requires-2 : tie.Need-device-at-requires-2
 device-at-requires-2 c κs =
     let a = c .before .before .before .args in
@@ -61,9 +54,6 @@ device-check-requires-2 : tie.Need-device-check-requires-2
 device-check-requires-2 c κs =
     let a = c .before .before .before .before .args in
     ap (λ (d : DeviceRecord). d .levels) (c .device-at2 .ensures) ∙ one-level (a .kind) (ap digitsIn (c .before .enum-told2 .given .1)) (a .s .now) (a .at)
-
-enum-told-3 : tie.Need-enum-told-3
-enum-told-3 c = search needs
 
 third-fault-requires : tie.Need-third-fault-requires
 third-fault-requires c κs = rw (c .enum-told3 .given .1) at (c .before .before .before .pre)
@@ -85,13 +75,13 @@ pub device-fault-spec : {M : Type 1} → statement M
 device-fault-spec =
     tie.close
     (tie.spec
-    enum-told
+    (λ c. search needs)
     device-at-requires
     device-check-requires
-    enum-told-2
+    (λ c. search needs)
     device-at-requires-2
     device-check-requires-2
-    enum-told-3
+    (λ c. search needs)
     third-fault-requires
     returns
     returns-2

@@ -1,5 +1,4 @@
 -- `request::checks::no_lower` meets its contract.
--- Assumes nothing.
 use borrow.Author.Tests.{lt-ltb, le-ltb}
 use Rattle.request.specs.Format.{noLower}
 use Rattle.request.proofs.checks.no_lower.Statement.{statement}

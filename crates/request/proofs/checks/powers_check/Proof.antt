@@ -1,5 +1,4 @@
 -- `request::checks::powers_check` meets its contract.
--- Assumes nothing.
 use borrow.Author.Needs.{needs}
 use Rattle.request.specs.Format.{powersTable}
 use Rattle.base.proofs.Paths.{paths}
@@ -14,29 +13,17 @@ returns-2 : tie.Need-returns-2
 unfolding powersTable
 returns-2 c = search paths depth 13
 
-no-lower-requires : tie.Need-no-lower-requires
-no-lower-requires c κs = search needs
-
 returns-3 : tie.Need-returns-3
 unfolding powersTable
 returns-3 c = search paths depth 13
-
-no-lower-requires-2 : tie.Need-no-lower-requires-2
-no-lower-requires-2 c κs = search needs
 
 returns-4 : tie.Need-returns-4
 unfolding powersTable
 returns-4 c = search paths depth 13
 
-no-lower-requires-3 : tie.Need-no-lower-requires-3
-no-lower-requires-3 c κs = search needs
-
 returns-5 : tie.Need-returns-5
 unfolding powersTable
 returns-5 c = search paths depth 13
-
-no-lower-requires-4 : tie.Need-no-lower-requires-4
-no-lower-requires-4 c κs = search needs
 
 returns-6 : tie.Need-returns-6
 unfolding powersTable
@@ -52,12 +39,12 @@ powers-check-spec =
     (tie.spec
     returns
     returns-2
-    no-lower-requires
+    (λ c κs. search needs)
     returns-3
-    no-lower-requires-2
+    (λ c κs. search needs)
     returns-4
-    no-lower-requires-3
+    (λ c κs. search needs)
     returns-5
-    no-lower-requires-4
+    (λ c κs. search needs)
     returns-6
     returns-7)

@@ -1,5 +1,4 @@
 -- `request::checks::set_lacks` meets its contract.
--- Assumes nothing.
 use mathlib.Core.Path.{sym}
 use Prim.Native.Nat.{_≤_, _<_, _^_}
 use native.Mathlib.Omega.{arith}
@@ -17,12 +16,9 @@ returns c =
     let small : c .before .args .set < 2 ^ c .before .args .n = omega arith in
     sym (lt-leb _ _ small)
 
-power-requires : tie.Need-power-requires
-power-requires c κs = search needs
-
 returns-2 : tie.Need-returns-2
 unfolding lacks
 returns-2 c = rw (c .power .ensures)
 
 pub set-lacks-spec : {M : Type 1} → statement M
-set-lacks-spec = tie.close (tie.spec returns power-requires returns-2)
+set-lacks-spec = tie.close (tie.spec returns (λ c κs. search needs) returns-2)

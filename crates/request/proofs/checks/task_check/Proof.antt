@@ -1,5 +1,4 @@
 -- `request::checks::task_check` meets its contract.
--- Assumes nothing.
 use Rattle.request.specs.Format.{taskTable}
 use Rattle.base.proofs.Paths.{paths}
 use borrow.Author.Needs.{needs}
@@ -22,9 +21,6 @@ returns-4 : tie.Need-returns-4
 unfolding taskTable
 returns-4 c = search paths depth 9
 
-set-lacks-requires : tie.Need-set-lacks-requires
-set-lacks-requires c κs = search needs
-
 returns-5 : tie.Need-returns-5
 unfolding taskTable
 returns-5 c = search paths depth 9
@@ -36,4 +32,4 @@ returns-6 c = search paths depth 9
 pub task-check-spec : {M : Type 1} → statement M
 task-check-spec =
     tie.close
-    (tie.spec returns returns-2 returns-3 returns-4 set-lacks-requires returns-5 returns-6)
+    (tie.spec returns returns-2 returns-3 returns-4 (λ c κs. search needs) returns-5 returns-6)

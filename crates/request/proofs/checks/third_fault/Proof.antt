@@ -1,5 +1,4 @@
 -- `request::checks::third_fault` meets its contract: both moves have one time, so that the second test for 4 says nothing new.
--- Assumes nothing.
 use borrow.Author.Needs.{needs}
 use mathlib.Core.Path.{_≡_, refl, ap, _∙_}
 use mathlib.Core.Bool.{Bool, true, false, cond}
@@ -60,21 +59,6 @@ module _ (s : List ℕ) (at : ℕ) where
     judged : {r : ℕ} → size ≤ length s - at → r ≡ powers → r ≡ there
     judged h f = lt-else (length s - at) (deviceSize Third s at) 1 powers (rw e at h) f
 
-shared-slice-read-time : tie.Need-shared-slice-read-time
-shared-slice-read-time c = search needs
-
-add-levels : tie.Need-add-levels
-add-levels c = search needs
-
-shared-slice-read-levels : tie.Need-shared-slice-read-levels
-shared-slice-read-levels c = search needs
-
-device-size-requires : tie.Need-device-size-requires
-device-size-requires c κs = search needs
-
-sub-there : tie.Need-sub-there
-sub-there c = search needs
-
 returns : tie.Need-returns
 returns c = let a = c .before .before .before .before .before .args in by (a .s .now) (a .at) (search paths)
 
@@ -92,9 +76,6 @@ returns-4 c =
 device-at-requires : tie.Need-device-at-requires
 device-at-requires c κs = omega (arith, c .before .before .before .before .device-size .ensures)
 
-powers-check-requires : tie.Need-powers-check-requires
-powers-check-requires c κs = search needs
-
 returns-5 : tie.Need-returns-5
 returns-5 c =
     let a = c .before .before .before .before .before .before .before .before .before .before .args in
@@ -105,15 +86,15 @@ pub third-fault-spec : {M : Type 1} → statement M
 third-fault-spec =
     tie.close
     (tie.spec
-    shared-slice-read-time
-    add-levels
-    shared-slice-read-levels
-    device-size-requires
-    sub-there
+    (λ c. search needs)
+    (λ c. search needs)
+    (λ c. search needs)
+    (λ c κs. search needs)
+    (λ c. search needs)
     returns
     returns-2
     returns-3
     returns-4
     device-at-requires
-    powers-check-requires
+    (λ c κs. search needs)
     returns-5)

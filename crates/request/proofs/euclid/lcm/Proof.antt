@@ -1,14 +1,10 @@
 -- `request::euclid::lcm` meets its contract.
--- Assumes nothing.
 use borrow.Author.Needs.{needs}
 use native.Mathlib.Omega.{arith}
 use native.Mathlib.Nat.{mul-le-mul, div-le-self, le-trans}
 use Rattle.request.proofs.Multiples.{gcd-pos}
 use Rattle.request.proofs.euclid.lcm.Statement.{statement}
 use Rattle.request.proofs.euclid.lcm.Tie as tie
-
-gcd-requires : tie.Need-gcd-requires
-gcd-requires c κs = search needs
 
 div-result : tie.Need-div-result
 div-result c = rw (c .gcd .ensures) (gcd-pos _ _ (c .before .pre .2))
@@ -22,4 +18,4 @@ returns : tie.Need-returns
 returns c = rw (c .gcd .ensures)
 
 pub lcm-spec : {M : Type 1} → statement M
-lcm-spec = tie.close (tie.spec gcd-requires div-result mul-result returns)
+lcm-spec = tie.close (tie.spec (λ c κs. search needs) div-result mul-result returns)

@@ -1,22 +1,9 @@
 -- `request::horizon::horizon_of` meets its contract.
--- Assumes nothing.
 use borrow.Author.Tests.{eq-eqb, ne-eqb}
 use Rattle.request.specs.Format.{horizonOf}
 use borrow.Author.Needs.{needs}
 use Rattle.request.proofs.horizon.horizon_of.Statement.{statement}
 use Rattle.request.proofs.horizon.horizon_of.Tie as tie
-
-pair-at-requires : tie.Need-pair-at-requires
-pair-at-requires c κs = search needs
-
-cast-capped : tie.Need-cast-capped
-cast-capped c = search needs
-
-capped-requires : tie.Need-capped-requires
-capped-requires c κs = search needs
-
-task-horizon-requires : tie.Need-task-horizon-requires
-task-horizon-requires c κs = search needs
 
 returns : tie.Need-returns
 unfolding horizonOf
@@ -29,4 +16,4 @@ returns-2 c = rw (ne-eqb _ _ (c .before .if1 .left)) (c .task-horizon .ensures)
 pub horizon-of-spec : {M : Type 1} → statement M
 horizon-of-spec =
     tie.close
-    (tie.spec pair-at-requires cast-capped capped-requires task-horizon-requires returns returns-2)
+    (tie.spec (λ c κs. search needs) (λ c. search needs) (λ c κs. search needs) (λ c κs. search needs) returns returns-2)

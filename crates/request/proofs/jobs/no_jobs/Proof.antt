@@ -1,5 +1,4 @@
 -- `request::jobs::no_jobs` meets its contract.
--- Assumes nothing.
 use mathlib.Core.Path.{refl}
 use Rattle.base.specs.Lists.{padded}
 use Rattle.request.specs.inside.Held.{packed}

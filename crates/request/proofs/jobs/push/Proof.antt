@@ -1,13 +1,9 @@
 -- `request::jobs::push` meets its contract.
--- Assumes nothing.
 use Rattle.base.proofs.Paths.{paths}
 use Rattle.request.specs.inside.Held.{pushed}
 use borrow.Author.Needs.{needs}
 use Rattle.request.proofs.jobs.push.Statement.{statement}
 use Rattle.request.proofs.jobs.push.Tie as tie
-
-place-requires : tie.Need-place-requires
-place-requires c κs = search needs
 
 returns : tie.Need-returns
 unfolding pushed
@@ -18,4 +14,4 @@ unfolding pushed
 returns-2 c = search paths
 
 pub push-spec : {M : Type 1} → statement M
-push-spec = tie.close (tie.spec place-requires returns returns-2)
+push-spec = tie.close (tie.spec (λ c κs. search needs) returns returns-2)

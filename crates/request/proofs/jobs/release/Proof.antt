@@ -1,5 +1,4 @@
 -- `request::jobs::release` meets its contract.
--- Assumes nothing.
 use borrow.Author.Needs.{needs}
 use borrow.Author.Tests.{eq-eqb, ne-eqb}
 use mathlib.Core.Path.{_≡_, ap, _∙_}
@@ -8,20 +7,11 @@ use Rattle.request.specs.inside.Held.{releasedTo}
 use Rattle.request.proofs.jobs.release.Statement.{statement}
 use Rattle.request.proofs.jobs.release.Tie as tie
 
-task-of-requires : tie.Need-task-of-requires
-task-of-requires c κs = search needs
-
-cast-if1 : tie.Need-cast-if1
-cast-if1 c = search needs
-
 rem-if1 : tie.Need-rem-if1
 rem-if1 c = rw (c .before .task-of .ensures) (c .before .before .before .pre .1)
 
 job-of-requires : tie.Need-job-of-requires
 job-of-requires c κs = rw (c .before .before .task-of .ensures) (c .before .before .before .before .pre .2)
-
-push-requires : tie.Need-push-requires
-push-requires c κs = search needs
 
 returns : tie.Need-returns
 unfolding releasedTo
@@ -42,4 +32,4 @@ returns-2 c =
 pub release-spec : {M : Type 1} → statement M
 release-spec =
     tie.close
-    (tie.spec task-of-requires cast-if1 rem-if1 job-of-requires push-requires returns returns-2)
+    (tie.spec (λ c κs. search needs) (λ c. search needs) rem-if1 job-of-requires (λ c κs. search needs) returns returns-2)

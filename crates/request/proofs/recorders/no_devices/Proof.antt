@@ -1,5 +1,4 @@
 -- `request::recorders::no_devices` meets its contract.
--- Assumes nothing.
 use mathlib.Core.Path.{refl}
 use Rattle.base.specs.Lists.{padded}
 use Rattle.request.proofs.recorders.no_devices.Statement.{statement}

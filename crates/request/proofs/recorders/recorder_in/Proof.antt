@@ -1,5 +1,4 @@
 -- `request::recorders::recorder_in` meets its contract.
--- Assumes nothing.
 use borrow.Author.Needs.{needs}
 use mathlib.Core.Path.{_≡_}
 use Prim.Native.Nat.{_+_, _≤_}
@@ -77,12 +76,6 @@ jobs-of-requires c κs =
     let h = same (c .before) in
     rw (c .before .before .before .device-place .ensures) (sound (c .before .before .before .before), omega (arith, k .jobs), h, room)
 
-cast-t16 : tie.Need-cast-t16
-cast-t16 c = search needs
-
-has-digits-requires : tie.Need-has-digits-requires
-has-digits-requires c κs = search needs
-
 returns : tie.Need-returns
 unfolding recorderAs
 returns c =
@@ -107,6 +100,6 @@ recorder-in-spec =
     mul-jobs-of
     add-jobs-of-3
     jobs-of-requires
-    cast-t16
-    has-digits-requires
+    (λ c. search needs)
+    (λ c κs. search needs)
     returns)

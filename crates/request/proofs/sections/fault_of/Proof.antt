@@ -1,5 +1,4 @@
 -- `request::sections::fault_of` meets its contract.
--- Assumes nothing.
 use borrow.Author.Needs.{needs}
 use Rattle.base.proofs.Paths.{paths}
 use mathlib.Core.Path.{_≡_, sym, _∙_}
@@ -21,18 +20,12 @@ returns : tie.Need-returns
 unfolding faultAs
 returns c = search paths
 
-shared-slice-read-n : tie.Need-shared-slice-read-n
-shared-slice-read-n c = search needs
-
 cast-n : tie.Need-cast-n
 cast-n c = omega (arith, c .shared-slice-known2 .given 2)
 
 returns-2 : tie.Need-returns-2
 unfolding faultAs
 returns-2 c = search paths
-
-records-fault-requires : tie.Need-records-fault-requires
-records-fault-requires c κs = search needs
 
 returns-3 : tie.Need-returns-3
 unfolding faultAs
@@ -56,10 +49,10 @@ fault-of-spec =
     tie.close
     (tie.spec
     returns
-    shared-slice-read-n
+    (λ c. search needs)
     cast-n
     returns-2
-    records-fault-requires
+    (λ c κs. search needs)
     returns-3
     device-place-requires
     task-section-requires

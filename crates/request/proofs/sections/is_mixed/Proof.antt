@@ -1,5 +1,4 @@
 -- `request::sections::is_mixed` meets its contract.
--- Assumes nothing.
 use borrow.Author.Needs.{needs}
 use borrow.Author.Tests.{eq-eqb, ne-eqb}
 use Rattle.request.specs.Format.{mixed}
@@ -10,15 +9,9 @@ returns : tie.Need-returns
 unfolding mixed
 returns c = rw (eq-eqb _ _ (c .if1 .taken))
 
-pair-at-requires : tie.Need-pair-at-requires
-pair-at-requires c κs = search needs
-
 returns-2 : tie.Need-returns-2
 unfolding mixed
 returns-2 c = rw (ne-eqb _ _ (c .before .before .if1 .left), ← c .before .pair-at .ensures, ne-eqb _ _ (c .if2 .taken))
-
-shared-slice-read-result : tie.Need-shared-slice-read-result
-shared-slice-read-result c = search needs
 
 returns-3 : tie.Need-returns-3
 unfolding mixed
@@ -26,4 +19,4 @@ returns-3 c = rw (ne-eqb _ _ (c .before .before .before .if1 .left), ← c .befo
 
 pub is-mixed-spec : {M : Type 1} → statement M
 is-mixed-spec =
-    tie.close (tie.spec returns pair-at-requires returns-2 shared-slice-read-result returns-3)
+    tie.close (tie.spec returns (λ c κs. search needs) returns-2 (λ c. search needs) returns-3)

@@ -1,5 +1,4 @@
 -- `request::sections::job_count` meets its contract.
--- Assumes nothing.
 use borrow.Author.Tests.{eq-eqb, ne-eqb}
 use native.Mathlib.Omega.{arith}
 use Rattle.request.specs.Format.{countOf}
@@ -12,12 +11,9 @@ returns : tie.Need-returns
 unfolding countOf packed
 returns c = rw (eq-eqb _ _ (c .if1 .taken))
 
-unfold-requires : tie.Need-unfold-requires
-unfold-requires c κs = search needs
-
 returns-2 : tie.Need-returns-2
 unfolding countOf packed
 returns-2 c = rw (ne-eqb _ _ (c .before .if1 .left), c .unfold .ensures) (omega arith)
 
 pub job-count-spec : {M : Type 1} → statement M
-job-count-spec = tie.close (tie.spec returns unfold-requires returns-2)
+job-count-spec = tie.close (tie.spec returns (λ c κs. search needs) returns-2)

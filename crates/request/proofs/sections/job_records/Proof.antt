@@ -1,5 +1,4 @@
 -- `request::sections::job_records` meets its contract.
--- Assumes nothing.
 use borrow.Author.Needs.{needs}
 use native.Mathlib.Omega.{arith}
 use Rattle.base.proofs.Paths.{paths}
@@ -8,31 +7,16 @@ use Rattle.request.proofs.Limits.{limits}
 use Rattle.request.proofs.sections.job_records.Statement.{statement}
 use Rattle.request.proofs.sections.job_records.Tie as tie
 
-shared-slice-read-count : tie.Need-shared-slice-read-count
-shared-slice-read-count c = search needs
-
 cast-count : tie.Need-cast-count
 cast-count c = omega (arith, c .shared-slice-known2 .given (c .before .before .args .at))
-
-job-count-requires : tie.Need-job-count-requires
-job-count-requires c κs = search needs
 
 returns : tie.Need-returns
 unfolding jobRecords
 returns c = search (paths, limits)
 
-add-records-fault : tie.Need-add-records-fault
-add-records-fault c = search needs
-
-records-fault-requires : tie.Need-records-fault-requires
-records-fault-requires c κs = search needs
-
 returns-2 : tie.Need-returns-2
 unfolding jobRecords
 returns-2 c = search (paths, limits)
-
-add-if3 : tie.Need-add-if3
-add-if3 c = search needs
 
 mul-if3 : tie.Need-mul-if3
 mul-if3 c = omega (arith, c .before .before .before .before .shared-slice-known2 .given (c .before .before .before .before .before .before .args .at))
@@ -52,14 +36,14 @@ pub job-records-spec : {M : Type 1} → statement M
 job-records-spec =
     tie.close
     (tie.spec
-    shared-slice-read-count
+    (λ c. search needs)
     cast-count
-    job-count-requires
+    (λ c κs. search needs)
     returns
-    add-records-fault
-    records-fault-requires
+    (λ c. search needs)
+    (λ c κs. search needs)
     returns-2
-    add-if3
+    (λ c. search needs)
     mul-if3
     add-if3-2
     returns-3

@@ -1,5 +1,4 @@
 -- `request::sections::task_section` meets its contract.
--- Assumes nothing.
 use Rattle.base.proofs.Paths.{paths}
 use native.Mathlib.Omega.{arith}
 use Rattle.request.specs.Format.{taskSection}
@@ -13,9 +12,6 @@ returns : tie.Need-returns
 unfolding taskSection
 returns c = search paths
 
-shared-slice-read-tasks : tie.Need-shared-slice-read-tasks
-shared-slice-read-tasks c = search needs
-
 cast-tasks : tie.Need-cast-tasks
 cast-tasks c = omega (arith, c .shared-slice-known2 .given (c .before .before .before .args .at))
 
@@ -23,27 +19,9 @@ returns-2 : tie.Need-returns-2
 unfolding taskSection
 returns-2 c = search paths
 
-add-records-fault : tie.Need-add-records-fault
-add-records-fault c = search needs
-
-records-fault-requires : tie.Need-records-fault-requires
-records-fault-requires c κs = search needs
-
 returns-3 : tie.Need-returns-3
 unfolding taskSection
 returns-3 c = search paths
-
-add-job-section : tie.Need-add-job-section
-add-job-section c = search needs
-
-add-job-section-2 : tie.Need-add-job-section-2
-add-job-section-2 c = search needs
-
-mul-job-section : tie.Need-mul-job-section
-mul-job-section c = search needs
-
-add-job-section-3 : tie.Need-add-job-section-3
-add-job-section-3 c = search needs
 
 job-section-requires : tie.Need-job-section-requires
 job-section-requires c κs =
@@ -59,15 +37,15 @@ task-section-spec =
     tie.close
     (tie.spec
     returns
-    shared-slice-read-tasks
+    (λ c. search needs)
     cast-tasks
     returns-2
-    add-records-fault
-    records-fault-requires
+    (λ c. search needs)
+    (λ c κs. search needs)
     returns-3
-    add-job-section
-    add-job-section-2
-    mul-job-section
-    add-job-section-3
+    (λ c. search needs)
+    (λ c. search needs)
+    (λ c. search needs)
+    (λ c. search needs)
     job-section-requires
     returns-4)

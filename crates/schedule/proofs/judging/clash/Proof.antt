@@ -1,5 +1,4 @@
 -- `schedule::judging::clash` meets its contract.
--- Assumes nothing.
 use borrow.Author.Needs.{needs}
 use Rattle.base.proofs.Paths.{paths}
 use Rattle.schedule.specs.inside.Judging.{clashes}
@@ -10,12 +9,6 @@ returns : tie.Need-returns
 unfolding clashes
 returns c = search paths
 
-add-if2 : tie.Need-add-if2
-add-if2 c = search needs
-
-add-result : tie.Need-add-result
-add-result c = search needs
-
 returns-2 : tie.Need-returns-2
 unfolding clashes
 returns-2 c = search paths
@@ -25,4 +18,4 @@ unfolding clashes
 returns-3 c = search paths
 
 pub clash-spec : {M : Type 1} → statement M
-clash-spec = tie.close (tie.spec returns add-if2 add-result returns-2 returns-3)
+clash-spec = tie.close (tie.spec returns (λ c. search needs) (λ c. search needs) returns-2 returns-3)

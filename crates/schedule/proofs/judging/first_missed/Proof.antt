@@ -1,5 +1,4 @@
 -- `schedule::judging::first_missed` meets its contract.
--- Assumes nothing.
 use Prim.Native.Nat.{_≤_, _-_}
 use native.Mathlib.Omega.{arith}
 use borrow.Author.Count.{below-none, below-more}

@@ -1,5 +1,4 @@
 -- `schedule::judging::first_overlap` meets its contract.
--- Assumes nothing.
 use Prim.Native.Nat.{ℕ, _≤_, _<_, _-_}
 use native.Mathlib.Omega.{arith}
 use borrow.Author.Count.{below-none, below-more}

@@ -1,12 +1,8 @@
 -- `schedule::judging::judge` meets its contract.
--- Assumes nothing.
 use Rattle.schedule.proofs.Judgements.{windows-met, windows-missed}
 use borrow.Author.Needs.{needs}
 use Rattle.schedule.proofs.judging.judge.Statement.{statement}
 use Rattle.schedule.proofs.judging.judge.Tie as tie
-
-first-missed-requires : tie.Need-first-missed-requires
-first-missed-requires c κs = search needs
 
 returns : tie.Need-returns
 returns c = windows-missed _ _ (c .before .before .first-missed .ensures) (search needs)
@@ -14,8 +10,5 @@ returns c = windows-missed _ _ (c .before .before .first-missed .ensures) (searc
 first-overlap-requires : tie.Need-first-overlap-requires
 first-overlap-requires c κs = let p = c .before .before .before .before .pre in (p .0, p .1, windows-met _ _ (c .before .before .first-missed .ensures) (search needs))
 
-returns-2 : tie.Need-returns-2
-returns-2 c = search needs
-
 pub judge-spec : {M : Type 1} → statement M
-judge-spec = tie.close (tie.spec first-missed-requires returns first-overlap-requires returns-2)
+judge-spec = tie.close (tie.spec (λ c κs. search needs) returns first-overlap-requires (λ c. search needs))

@@ -1,5 +1,4 @@
 -- `schedule::judging::window_fault` meets its contract.
--- Assumes nothing.
 use borrow.Author.Needs.{needs}
 use Rattle.base.proofs.Paths.{paths}
 use Rattle.schedule.specs.inside.Judging.{windowFault}
@@ -10,9 +9,6 @@ returns : tie.Need-returns
 unfolding windowFault
 returns c = search paths
 
-add-if2 : tie.Need-add-if2
-add-if2 c = search needs
-
 returns-2 : tie.Need-returns-2
 unfolding windowFault
 returns-2 c = search paths
@@ -22,4 +18,4 @@ unfolding windowFault
 returns-3 c = search paths
 
 pub window-fault-spec : {M : Type 1} → statement M
-window-fault-spec = tie.close (tie.spec returns add-if2 returns-2 returns-3)
+window-fault-spec = tie.close (tie.spec returns (λ c. search needs) returns-2 returns-3)

@@ -1,5 +1,4 @@
 -- `schedule::margins::margin_of` meets its contract.
--- Assumes nothing.
 use mathlib.Core.Path.{_∙_}
 use Prim.Native.Nat.{_+_, _<_, _^_}
 use native.Mathlib.Omega.{arith}
@@ -8,15 +7,6 @@ use Rattle.schedule.proofs.Signs.{difference, difference-fits}
 use borrow.Author.Needs.{needs}
 use Rattle.schedule.proofs.margins.margin_of.Statement.{statement}
 use Rattle.schedule.proofs.margins.margin_of.Tie as tie
-
-add-end : tie.Need-add-end
-add-end c = search needs
-
-cast-result : tie.Need-cast-result
-cast-result c = search needs
-
-cast-result-2 : tie.Need-cast-result-2
-cast-result-2 c = search needs
 
 sub-result : tie.Need-sub-result
 sub-result c =
@@ -31,4 +21,4 @@ returns c =
     toZ-ofZ (sub-result c) ∙ difference (c .args .deadline) (c .args .start + c .args .run) d e
 
 pub margin-of-spec : {M : Type 1} → statement M
-margin-of-spec = tie.close (tie.spec add-end cast-result cast-result-2 sub-result returns)
+margin-of-spec = tie.close (tie.spec (λ c. search needs) (λ c. search needs) (λ c. search needs) sub-result returns)

@@ -1,5 +1,4 @@
 -- `schedule::margins::write_margins` meets its contract.
--- Assumes nothing.
 use mathlib.Core.Path.{_≡_, _∙_}
 use Prim.Native.Nat.{_≤_, _<_, _+_, _-_, _^_}
 use native.Mathlib.Omega.{arith}

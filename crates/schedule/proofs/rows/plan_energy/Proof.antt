@@ -1,5 +1,4 @@
 -- `schedule::rows::plan_energy` meets its contract.
--- Assumes nothing.
 use mathlib.Core.Path.{_≡_, subst}
 use Prim.Native.Nat.{ℕ, _+_, _≤_, _-_}
 use native.Mathlib.Omega.{arith}

@@ -1,5 +1,4 @@
 -- `schedule::rows::write_rows` meets its contract.
--- Assumes nothing.
 use mathlib.Core.Path.{_≡_, ap, subst, _∙_}
 use mathlib.Core.Bool.{Bool}
 use mathlib.Core.List.{List, _++_, map}

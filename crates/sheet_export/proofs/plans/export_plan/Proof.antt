@@ -1,5 +1,4 @@
 -- `sheet_export::plans::export_plan` meets its contract.
--- Assumes nothing.
 use mathlib.Core.Path.{refl, sym, subst}
 use mathlib.Core.List.{List, map}
 use lib.IntN.{ℤ, pos, natAbs}
@@ -14,23 +13,8 @@ use borrow.Author.Needs.{needs}
 use Rattle.sheet_export.proofs.plans.export_plan.Statement.{statement}
 use Rattle.sheet_export.proofs.plans.export_plan.Tie as tie
 
-verdict-requires : tie.Need-verdict-requires
-verdict-requires c κs = search needs
-
 returns : tie.Need-returns
 returns c = P.ExportedPlan.refused (c .before .before .verdict .ensures) (c .if1 .taken)
-
-slice-aggregate-margins : tie.Need-slice-aggregate-margins
-slice-aggregate-margins c = search needs
-
-margins-requires : tie.Need-margins-requires
-margins-requires c κs = search needs
-
-slice-aggregate-put-plan-lines : tie.Need-slice-aggregate-put-plan-lines
-slice-aggregate-put-plan-lines c = search needs
-
-slice-aggregate-put-plan-lines-2 : tie.Need-slice-aggregate-put-plan-lines-2
-slice-aggregate-put-plan-lines-2 c = search needs
 
 put-plan-lines-requires : tie.Need-put-plan-lines-requires
 put-plan-lines-requires c κs =
@@ -48,12 +32,6 @@ array-share-prefix-own c = search needs
 
 slice-aggregate-give : tie.Need-slice-aggregate-give
 slice-aggregate-give c = sym (length-take-le _ _ (array-share-prefix-own (c .before)))
-
-give-requires : tie.Need-give-requires
-give-requires c κs = search needs
-
-same-length : tie.Need-same-length
-same-length c = search needs
 
 returns-2 : tie.Need-returns-2
 returns-2 c =
@@ -74,15 +52,15 @@ pub export-plan-spec : {M : Type 1} → statement M
 export-plan-spec =
     tie.close
     (tie.spec
-    verdict-requires
+    (λ c κs. search needs)
     returns
-    slice-aggregate-margins
-    margins-requires
-    slice-aggregate-put-plan-lines
-    slice-aggregate-put-plan-lines-2
+    (λ c. search needs)
+    (λ c κs. search needs)
+    (λ c. search needs)
+    (λ c. search needs)
     put-plan-lines-requires
     array-share-prefix-own
     slice-aggregate-give
-    give-requires
-    same-length
+    (λ c κs. search needs)
+    (λ c. search needs)
     returns-2)

@@ -1,5 +1,4 @@
 -- `sheet_export::plans::put_plan_lines` meets its contract.
--- Assumes nothing.
 use mathlib.Core.Path.{_≡_, sym, ap, _∙_}
 use native.Mathlib.Omega.{arith}
 use mathlib.Core.List.{map}

@@ -1,5 +1,4 @@
 -- `sheet_export::plans::spare_of` meets its contract.
--- Assumes nothing.
 use mir.Facts.{toZ-ofZ}
 use Rattle.sheet_export.proofs.Spares.{spare-fits}
 use borrow.Author.Needs.{needs}
@@ -9,8 +8,5 @@ use Rattle.sheet_export.proofs.plans.spare_of.Tie as tie
 cast-result : tie.Need-cast-result
 cast-result c = rw (toZ-ofZ (c .fits .margin)) (spare-fits (c .args .margin) (c .pre))
 
-returns : tie.Need-returns
-returns c = search needs
-
 pub spare-of-spec : {M : Type 1} → statement M
-spare-of-spec = tie.close (tie.spec cast-result returns)
+spare-of-spec = tie.close (tie.spec cast-result (λ c. search needs))

@@ -1,5 +1,4 @@
 -- `sheet_export::printing::put_part_line` meets its contract.
--- Assumes nothing.
 use mathlib.Core.Path.{sym}
 use native.Mathlib.Omega.{arith}
 use lib.ListN.{take}
@@ -26,12 +25,6 @@ put-quoted-requires c κs =
     let front-few = front-eight s (start .pre .1) in
     omega (arith, start .pre .0)
 
-first-at-requires : tie.Need-first-at-requires
-first-at-requires c κs = search needs
-
-cast-put-four : tie.Need-cast-put-four
-cast-put-four c = search needs
-
 put-four-requires : tie.Need-put-four-requires
 put-four-requires c κs =
     let start = c .before .before .before .before .before .before .before .before .before .before in
@@ -40,9 +33,6 @@ put-four-requires c κs =
     let front-few = front-eight s (start .pre .1) in
     let d = c .before .before .first-at .result in
     omega (arith, start .pre .0, quoted-long (take 8 s), c .before .before .before .before .before .put-quoted .ensures .next, four-few (d .wake) (d .pw) (d .ps) (d .pwake))
-
-same-length : tie.Need-same-length
-same-length c = search needs
 
 returns : tie.Need-returns
 returns c =
@@ -61,8 +51,8 @@ put-part-line-spec =
     (tie.spec
     slice-aggregate-put-quoted
     put-quoted-requires
-    first-at-requires
-    cast-put-four
+    (λ c κs. search needs)
+    (λ c. search needs)
     put-four-requires
-    same-length
+    (λ c. search needs)
     returns)

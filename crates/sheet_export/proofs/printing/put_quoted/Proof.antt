@@ -1,5 +1,4 @@
 -- `sheet_export::printing::put_quoted` meets its contract.
--- Assumes nothing.
 use mathlib.Core.Path.{sym}
 use Prim.Native.Nat.{_≤_}
 use native.Mathlib.Omega.{arith}
@@ -11,12 +10,6 @@ use Rattle.sheet_export.proofs.Printed.{take-front}
 use borrow.Author.Needs.{needs}
 use Rattle.sheet_export.proofs.printing.put_quoted.Statement.{statement}
 use Rattle.sheet_export.proofs.printing.put_quoted.Tie as tie
-
-signs-of-requires : tie.Need-signs-of-requires
-signs-of-requires c κs = search needs
-
-put-byte-requires : tie.Need-put-byte-requires
-put-byte-requires c κs = search needs
 
 slice-aggregate-put-bytes : tie.Need-slice-aggregate-put-bytes
 slice-aggregate-put-bytes c =
@@ -58,9 +51,6 @@ put-byte-requires-3 c κs =
     let some = length-take-le (c .before .before .before .before .before .before .before .before .before .before .before .before .before .before .signs-of .result) n few in
     omega (arith, start .pre, c .before .before .before .before .before .before .before .before .before .before .before .before .put-byte .ensures .next, c .before .before .before .before .before .before .before .put-bytes .ensures .next, c .before .before .before .put-byte2 .ensures .next)
 
-same-length : tie.Need-same-length
-same-length c = search needs
-
 returns : tie.Need-returns
 returns c =
     let start = c .before .before .before .before .before .before .before .before .before .before .before .before .before .before .before .before .before .before .before .before in
@@ -81,11 +71,11 @@ pub put-quoted-spec : {M : Type 1} → statement M
 put-quoted-spec =
     tie.close
     (tie.spec
-    signs-of-requires
-    put-byte-requires
+    (λ c κs. search needs)
+    (λ c κs. search needs)
     slice-aggregate-put-bytes
     put-bytes-requires
     put-byte-requires-2
     put-byte-requires-3
-    same-length
+    (λ c. search needs)
     returns)

@@ -1,5 +1,4 @@
 -- `sheet_import::judging::devices_fault` meets its contract.
--- Assumes nothing.
 use mathlib.Core.Path.{sym, _∙_}
 use native.Mathlib.Omega.{arith}
 use Rattle.base.proofs.Paths.{paths}
@@ -10,14 +9,8 @@ use borrow.Author.Needs.{needs}
 use Rattle.sheet_import.proofs.judging.devices_fault.Statement.{statement}
 use Rattle.sheet_import.proofs.judging.devices_fault.Tie as tie
 
-lines-fault-requires : tie.Need-lines-fault-requires
-lines-fault-requires c κs = search needs
-
 returns : tie.Need-returns
 returns c = search paths
-
-count-lines-requires : tie.Need-count-lines-requires
-count-lines-requires c κs = search needs
 
 returns-2 : tie.Need-returns-2
 returns-2 c =
@@ -41,9 +34,9 @@ pub devices-fault-spec : {M : Type 1} → statement M
 devices-fault-spec =
     tie.close
     (tie.spec
-    lines-fault-requires
+    (λ c κs. search needs)
     returns
-    count-lines-requires
+    (λ c κs. search needs)
     returns-2
     has-bad-number-requires
     returns-3

@@ -1,5 +1,4 @@
 -- `sheet_import::lines::line_fault` meets its contract.
--- Assumes nothing.
 use mathlib.Core.Path.{sym, _∙_}
 use native.Mathlib.Omega.{arith}
 use Rattle.sheet_import.proofs.Faults.{few-texts, fault-27, fault-28, fault-29, fault-none, counted-read}
@@ -7,14 +6,8 @@ use borrow.Author.Needs.{needs}
 use Rattle.sheet_import.proofs.lines.line_fault.Statement.{statement}
 use Rattle.sheet_import.proofs.lines.line_fault.Tie as tie
 
-count-fields-requires : tie.Need-count-fields-requires
-count-fields-requires c κs = search needs
-
 returns : tie.Need-returns
 returns c = let a = c .before .before .before .args in fault-27 (a .rows) (a .line .now) (sym (c .before .count-fields .ensures) ∙ c .if1 .taken)
-
-texts-requires : tie.Need-texts-requires
-texts-requires c κs = search needs
 
 add-if2 : tie.Need-add-if2
 add-if2 c = omega (arith, c .texts .ensures, few-texts (c .before .before .before .before .args .rows))
@@ -46,9 +39,9 @@ pub line-fault-spec : {M : Type 1} → statement M
 line-fault-spec =
     tie.close
     (tie.spec
-    count-fields-requires
+    (λ c κs. search needs)
     returns
-    texts-requires
+    (λ c κs. search needs)
     add-if2
     returns-2
     are-numbers-requires

@@ -1,15 +1,8 @@
 -- `sheet_import::lines::most` meets its contract.
--- Assumes nothing.
 use Rattle.sheet_import.proofs.Faults.{wide-devices, wide-jobs}
 use borrow.Author.Needs.{needs}
 use Rattle.sheet_import.proofs.lines.most.Statement.{statement}
 use Rattle.sheet_import.proofs.lines.most.Tie as tie
-
-enum-told : tie.Need-enum-told
-enum-told c = search needs
-
-enum-told-2 : tie.Need-enum-told-2
-enum-told-2 c = search needs
 
 returns : tie.Need-returns
 returns c = rw (c .before .enum-told .given .1, c .if1 .taken)
@@ -24,4 +17,4 @@ returns-4 : tie.Need-returns-4
 returns-4 c = rw (c .before .enum-told2 .given .1) (wide-jobs (c .before .before .before .args .k) (c .before .before .before .pre) (c .if2 .left))
 
 pub most-spec : {M : Type 1} → statement M
-most-spec = tie.close (tie.spec enum-told enum-told-2 returns returns-2 returns-3 returns-4)
+most-spec = tie.close (tie.spec (λ c. search needs) (λ c. search needs) returns returns-2 returns-3 returns-4)

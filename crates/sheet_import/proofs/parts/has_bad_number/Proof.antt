@@ -1,5 +1,4 @@
 -- `sheet_import::parts::has_bad_number` meets its contract.
--- Assumes nothing.
 use mathlib.Core.Path.{_≡_, sym, ap, _∙_}
 use native.Mathlib.Omega.{arith}
 use mathlib.Core.Bool.{Bool, true, not}

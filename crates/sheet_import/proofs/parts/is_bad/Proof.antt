@@ -1,5 +1,4 @@
 -- `sheet_import::parts::is_bad` meets its contract.
--- Assumes nothing.
 use mathlib.Core.Path.{sym, ap, _∙_}
 use native.Mathlib.Omega.{arith}
 use mathlib.Core.Bool.{not}
@@ -13,9 +12,6 @@ use borrow.Author.Needs.{needs}
 use Rattle.sheet_import.proofs.parts.is_bad.Statement.{statement}
 use Rattle.sheet_import.proofs.parts.is_bad.Tie as tie
 
-field-requires : tie.Need-field-requires
-field-requires c κs = search needs
-
 returns : tie.Need-returns
 returns c =
     let f = fieldAt (rawOf (c .before .before .before .args .line .now)) 0 in
@@ -24,12 +20,6 @@ returns c =
 
 eight-of-requires : tie.Need-eight-of-requires
 eight-of-requires c κs = search needs
-
-slice-aggregate-is-formed : tie.Need-slice-aggregate-is-formed
-slice-aggregate-is-formed c = search needs
-
-is-formed-requires : tie.Need-is-formed-requires
-is-formed-requires c κs = search needs
 
 returns-2 : tie.Need-returns-2
 returns-2 c =
@@ -40,9 +30,9 @@ pub is-bad-spec : {M : Type 1} → statement M
 is-bad-spec =
     tie.close
     (tie.spec
-    field-requires
+    (λ c κs. search needs)
     returns
     eight-of-requires
-    slice-aggregate-is-formed
-    is-formed-requires
+    (λ c. search needs)
+    (λ c κs. search needs)
     returns-2)

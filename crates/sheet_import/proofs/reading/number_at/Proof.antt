@@ -1,5 +1,4 @@
 -- `sheet_import::reading::number_at` meets its contract.
--- Assumes nothing.
 use mathlib.Core.Path.{ap, _∙_}
 use native.Mathlib.Omega.{arith}
 use Rattle.text.specs.inside.Cursors.{numberOf, fieldAt, rawOf}
@@ -7,12 +6,6 @@ use Rattle.sheet_import.proofs.RowLines.{number-is}
 use borrow.Author.Needs.{needs}
 use Rattle.sheet_import.proofs.reading.number_at.Statement.{statement}
 use Rattle.sheet_import.proofs.reading.number_at.Tie as tie
-
-field-requires : tie.Need-field-requires
-field-requires c κs = search needs
-
-number-of-requires : tie.Need-number-of-requires
-number-of-requires c κs = search needs
 
 cast-result : tie.Need-cast-result
 cast-result c =
@@ -28,4 +21,4 @@ returns c =
     c .number-of .ensures ∙ ap numberOf (c .before .field .ensures) ∙ number-is 65535 f (omega arith) (start .pre .1) .0
 
 pub number-at-spec : {M : Type 1} → statement M
-number-at-spec = tie.close (tie.spec field-requires number-of-requires cast-result returns)
+number-at-spec = tie.close (tie.spec (λ c κs. search needs) (λ c κs. search needs) cast-result returns)

@@ -1,13 +1,9 @@
 -- `sheet_import::reading::put_device` meets its contract.
--- Assumes nothing.
 use native.Mathlib.Omega.{arith}
 use Rattle.text.proofs.Puts.{put-more}
 use borrow.Author.Needs.{needs}
 use Rattle.sheet_import.proofs.reading.put_device.Statement.{statement}
 use Rattle.sheet_import.proofs.reading.put_device.Tie as tie
-
-put-byte-requires : tie.Need-put-byte-requires
-put-byte-requires c κs = search needs
 
 put-pair-requires : tie.Need-put-pair-requires
 put-pair-requires c κs = omega (arith, c .before .before .before .before .before .before .pre, c .before .before .before .put-byte .ensures .next)
@@ -17,9 +13,6 @@ put-pair-requires-2 c κs = omega (arith, c .before .before .before .before .bef
 
 put-pair-requires-3 : tie.Need-put-pair-requires-3
 put-pair-requires-3 c κs = omega (arith, c .before .before .before .before .before .before .before .before .before .before .before .before .before .before .pre, c .before .before .before .before .before .before .before .before .before .before .before .put-byte .ensures .next, c .before .before .before .before .before .before .before .put-pair .ensures .next, c .before .before .before .put-pair2 .ensures .next)
-
-same-length : tie.Need-same-length
-same-length c = search needs
 
 returns : tie.Need-returns
 returns c =
@@ -36,9 +29,9 @@ pub put-device-spec : {M : Type 1} → statement M
 put-device-spec =
     tie.close
     (tie.spec
-    put-byte-requires
+    (λ c κs. search needs)
     put-pair-requires
     put-pair-requires-2
     put-pair-requires-3
-    same-length
+    (λ c. search needs)
     returns)

@@ -1,5 +1,4 @@
 -- `sheet_import::reading::put_part` meets its contract.
--- Assumes nothing.
 use mathlib.Core.Path.{ap, _∙_}
 use native.Mathlib.Omega.{arith}
 use lib.ListN.{length}
@@ -20,9 +19,6 @@ eight-of-requires : tie.Need-eight-of-requires
 eight-of-requires c κs =
     let start = c .before .before .before in
     rw (c .field .ensures) (formed-short (fieldAt (rawOf (start .args .line .now)) 0) (start .pre .1 .1))
-
-slice-aggregate-put-bytes : tie.Need-slice-aggregate-put-bytes
-slice-aggregate-put-bytes c = search needs
 
 put-bytes-requires : tie.Need-put-bytes-requires
 put-bytes-requires c κs =
@@ -52,9 +48,6 @@ put-device-requires c κs =
     let long = ap length eight ∙ formed (padded 8 space f) (start .pre .1 .1) .0 in
     omega (arith, start .pre .0, c .before .before .before .before .before .before .before .put-bytes .ensures .next)
 
-same-length : tie.Need-same-length
-same-length c = search needs
-
 returns : tie.Need-returns
 returns c =
     let start = c .before .before .before .before .before .before .before .before .before .before .before .before .before .before .before .before .before in
@@ -72,12 +65,12 @@ put-part-spec =
     (tie.spec
     field-requires
     eight-of-requires
-    slice-aggregate-put-bytes
+    (λ c. search needs)
     put-bytes-requires
     byte-at-requires
     number-at-requires
     number-at-requires-2
     number-at-requires-3
     put-device-requires
-    same-length
+    (λ c. search needs)
     returns)

@@ -1,5 +1,4 @@
 -- `sheet_import::reading::put_record` meets its contract.
--- Assumes nothing.
 use native.Mathlib.Omega.{arith}
 use Rattle.text.proofs.Puts.{put-more}
 use borrow.Author.Needs.{needs}
@@ -30,9 +29,6 @@ byte-at-requires c κs = (c .before .before .before .before .before .before .bef
 put-byte-requires : tie.Need-put-byte-requires
 put-byte-requires c κs = omega (arith, c .before .before .before .before .before .before .before .before .before .before .before .before .before .before .before .before .before .before .before .pre .0, c .before .before .before .before .before .before .before .before .before .before .before .before .before .before .put-pair .ensures .next, c .before .before .before .before .before .before .before .before .before .put-pair2 .ensures .next, c .before .before .before .before .put-pair3 .ensures .next)
 
-same-length : tie.Need-same-length
-same-length c = search needs
-
 returns : tie.Need-returns
 returns c =
     let start = c .before .before .before .before .before .before .before .before .before .before .before .before .before .before .before .before .before .before .before .before .before .before in
@@ -57,5 +53,5 @@ put-record-spec =
     put-pair-requires-3
     byte-at-requires
     put-byte-requires
-    same-length
+    (λ c. search needs)
     returns)

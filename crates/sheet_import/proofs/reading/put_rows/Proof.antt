@@ -1,5 +1,4 @@
 -- `sheet_import::reading::put_rows` meets its contract.
--- Assumes nothing.
 use mathlib.Core.Path.{_≡_, sym, ap, _∙_}
 use mathlib.Core.List.{[], map}
 use Prim.Native.Nat.{ℕ, _-_, _*_, _≤_, _<_}

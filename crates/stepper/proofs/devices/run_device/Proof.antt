@@ -1,20 +1,10 @@
 -- `stepper::devices::run_device` meets its contract.
--- Assumes nothing.
 use mathlib.Core.Path.{_∙_}
 use borrow.Author.Needs.{needs}
 use Rattle.stepper.proofs.Finding.{running-spaced}
 use Rattle.steps.proofs.Agreeing.{stepped-by}
 use Rattle.stepper.proofs.devices.run_device.Statement.{statement}
 use Rattle.stepper.proofs.devices.run_device.Tie as tie
-
-mul-d : tie.Need-mul-d
-mul-d c = search needs
-
-element-copy-out-d : tie.Need-element-copy-out-d
-element-copy-out-d c = search needs
-
-order-of-requires : tie.Need-order-of-requires
-order-of-requires c κs = search needs
 
 run-requires : tie.Need-run-requires
 run-requires c κs =
@@ -27,4 +17,4 @@ returns c =
     (c .run .ensures .0 ∙ stepped-by (s .args .r) (s .pre .0) (s .args .starts .now) (s .pre .1) (s .args .k) (c .before .order-of .result) (c .before .order-of .ensures), c .run .ensures .1)
 
 pub run-device-spec : {M : Type 1} → statement M
-run-device-spec = tie.close (tie.spec mul-d element-copy-out-d order-of-requires run-requires returns)
+run-device-spec = tie.close (tie.spec (λ c. search needs) (λ c. search needs) (λ c κs. search needs) run-requires returns)

@@ -1,5 +1,4 @@
 -- `stepper::devices::run_devices` meets its contract. No device spends more than 65,535 × 4,096.
--- Assumes nothing.
 use mathlib.Core.Path.{_≡_, refl, ap, _∙_}
 use mathlib.Core.List.{_++_}
 use Prim.Native.Nat.{ℕ, _+_, _-_, _*_, _≤_}

@@ -1,5 +1,4 @@
 -- `stepper::fitness::unfit` meets its contract.
--- Assumes nothing.
 use mathlib.Core.Path.{sym, _∙_}
 use borrow.Author.Needs.{needs}
 use Rattle.schedule.proofs.Judgements.{decided, denied}
@@ -13,20 +12,11 @@ use Rattle.stepper.proofs.fitness.unfit.Tie as tie
 passes : (c : tie.Else2) → Unfit (c .before .before .before .before .before .args .file .now) (c .before .before .before .before .before .args .r) → ⊥
 passes c = none-unfit _ _ (sym (c .before .before .before .is-marked .ensures) ∙ c .before .before .if1 .left) (denied (c .before .has-unlike .ensures) (c .if2 .left))
 
-is-marked-requires : tie.Need-is-marked-requires
-is-marked-requires c κs = search needs
-
 returns : tie.Need-returns
 returns c = F.Fitness.unfit (mark-unfit _ _ (sym (c .before .is-marked .ensures) ∙ c .if1 .taken))
 
-has-unlike-requires : tie.Need-has-unlike-requires
-has-unlike-requires c κs = search needs
-
 returns-2 : tie.Need-returns-2
 returns-2 c = F.Fitness.unfit (unlike-unfit _ _ (decided (c .before .has-unlike .ensures) (c .if2 .taken)))
-
-has-brief-requires : tie.Need-has-brief-requires
-has-brief-requires c κs = search needs
 
 returns-3 : tie.Need-returns-3
 returns-3 c = F.Fitness.brief (passes (c .before .before)) (decided (c .before .has-brief .ensures) (c .if3 .taken))
@@ -38,10 +28,10 @@ pub unfit-spec : {M : Type 1} → statement M
 unfit-spec =
     tie.close
     (tie.spec
-    is-marked-requires
+    (λ c κs. search needs)
     returns
-    has-unlike-requires
+    (λ c κs. search needs)
     returns-2
-    has-brief-requires
+    (λ c κs. search needs)
     returns-3
     returns-4)

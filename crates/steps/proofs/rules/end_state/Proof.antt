@@ -1,25 +1,9 @@
 -- `steps::rules::end_state` meets its contract.
--- Assumes nothing.
 use borrow.Author.Needs.{needs}
 use mathlib.Core.Path.{refl}
 use Rattle.base.proofs.Paths.{yes-then, no-else}
 use Rattle.steps.proofs.rules.end_state.Statement.{statement}
 use Rattle.steps.proofs.rules.end_state.Tie as tie
-
-enum-told : tie.Need-enum-told
-enum-told c = search needs
-
-falls-at-end-requires : tie.Need-falls-at-end-requires
-falls-at-end-requires c κs = search needs
-
-enum-told-2 : tie.Need-enum-told-2
-enum-told-2 c = search needs
-
-enum-known-st : tie.Need-enum-known-st
-enum-known-st c = search needs
-
-enum-known-st-2 : tie.Need-enum-known-st-2
-enum-known-st-2 c = search needs
 
 returns : tie.Need-returns
 returns c = rw (c .before .before .enum-told .given .1) (yes-then _ _ _ _ (c .before .falls-at-end .ensures) (c .if1 .taken) refl)
@@ -29,9 +13,6 @@ returns-2 c = rw (c .before .before .enum-told .given .1) (no-else _ _ _ _ (c .b
 
 returns-3 : tie.Need-returns-3
 returns-3 c = rw (c .before .enum-told2 .given .1, c .if2 .taken)
-
-returns-4 : tie.Need-returns-4
-returns-4 c = search needs
 
 returns-5 : tie.Need-returns-5
 returns-5 c = rw (c .before .st .given .1)
@@ -43,14 +24,14 @@ pub end-state-spec : {M : Type 1} → statement M
 end-state-spec =
     tie.close
     (tie.spec
-    enum-told
-    falls-at-end-requires
-    enum-told-2
-    enum-known-st
-    enum-known-st-2
+    (λ c. search needs)
+    (λ c κs. search needs)
+    (λ c. search needs)
+    (λ c. search needs)
+    (λ c. search needs)
     returns
     returns-2
     returns-3
-    returns-4
+    (λ c. search needs)
     returns-5
     returns-6)

@@ -1,5 +1,4 @@
 -- `steps::rules::has_room` meets its contract.
--- Assumes nothing.
 use mathlib.Core.Path.{refl}
 use Rattle.steps.proofs.rules.has_room.Statement.{statement}
 use Rattle.steps.proofs.rules.has_room.Tie as tie

@@ -1,5 +1,4 @@
 -- `steps::rules::rises_at_start` meets its contract.
--- Assumes nothing.
 use borrow.Author.Needs.{needs}
 use Rattle.steps.proofs.rules.rises_at_start.Statement.{statement}
 use Rattle.steps.proofs.rules.rises_at_start.Tie as tie
@@ -7,8 +6,5 @@ use Rattle.steps.proofs.rules.rises_at_start.Tie as tie
 returns : tie.Need-returns
 returns c = rw (c .if1 .taken)
 
-returns-2 : tie.Need-returns-2
-returns-2 c = search needs
-
 pub rises-at-start-spec : {M : Type 1} → statement M
-rises-at-start-spec = tie.close (tie.spec returns returns-2)
+rises-at-start-spec = tie.close (tie.spec returns (λ c. search needs))

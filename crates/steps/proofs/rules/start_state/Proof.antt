@@ -1,28 +1,9 @@
 -- `steps::rules::start_state` meets its contract.
--- Assumes nothing.
 use borrow.Author.Needs.{needs}
 use mathlib.Core.Path.{refl}
 use Rattle.base.proofs.Paths.{yes-then, no-else}
 use Rattle.steps.proofs.rules.start_state.Statement.{statement}
 use Rattle.steps.proofs.rules.start_state.Tie as tie
-
-enum-told : tie.Need-enum-told
-enum-told c = search needs
-
-falls-at-start-requires : tie.Need-falls-at-start-requires
-falls-at-start-requires c κs = search needs
-
-enum-told-2 : tie.Need-enum-told-2
-enum-told-2 c = search needs
-
-rises-at-start-requires : tie.Need-rises-at-start-requires
-rises-at-start-requires c κs = search needs
-
-enum-known-st : tie.Need-enum-known-st
-enum-known-st c = search needs
-
-enum-known-st-2 : tie.Need-enum-known-st-2
-enum-known-st-2 c = search needs
 
 returns : tie.Need-returns
 returns c = rw (c .before .before .enum-told .given .1) (yes-then _ _ _ _ (c .before .falls-at-start .ensures) (c .if1 .taken) refl)
@@ -46,12 +27,12 @@ pub start-state-spec : {M : Type 1} → statement M
 start-state-spec =
     tie.close
     (tie.spec
-    enum-told
-    falls-at-start-requires
-    enum-told-2
-    rises-at-start-requires
-    enum-known-st
-    enum-known-st-2
+    (λ c. search needs)
+    (λ c κs. search needs)
+    (λ c. search needs)
+    (λ c κs. search needs)
+    (λ c. search needs)
+    (λ c. search needs)
     returns
     returns-2
     returns-3

@@ -1,14 +1,10 @@
 -- `steps::stepping::on_end` meets its contract.
--- Assumes nothing.
 use borrow.Author.Needs.{needs}
 use Rattle.steps.proofs.stepping.on_end.Statement.{statement}
 use Rattle.steps.proofs.stepping.on_end.Tie as tie
-
-end-state-requires : tie.Need-end-state-requires
-end-state-requires c κs = search needs
 
 returns : tie.Need-returns
 returns c = rw (c .end-state .ensures)
 
 pub on-end-spec : {M : Type 1} → statement M
-on-end-spec = tie.close (tie.spec end-state-requires returns)
+on-end-spec = tie.close (tie.spec (λ c κs. search needs) returns)

@@ -1,14 +1,10 @@
 -- `steps::stepping::on_start` meets its contract.
--- Assumes nothing.
 use borrow.Author.Needs.{needs}
 use Rattle.steps.proofs.stepping.on_start.Statement.{statement}
 use Rattle.steps.proofs.stepping.on_start.Tie as tie
-
-start-state-requires : tie.Need-start-state-requires
-start-state-requires c κs = search needs
 
 returns : tie.Need-returns
 returns c = rw (c .start-state .ensures)
 
 pub on-start-spec : {M : Type 1} → statement M
-on-start-spec = tie.close (tie.spec start-state-requires returns)
+on-start-spec = tie.close (tie.spec (λ c κs. search needs) returns)

@@ -1,5 +1,4 @@
 -- `steps::run` meets its contract. The loop's invariant: the record is that after the jobs passed.
--- Assumes nothing.
 use mathlib.Core.Path.{_≡_, refl}
 use Prim.Native.Nat.{_-_, _*_, _≤_, _<_}
 use native.Mathlib.Numerals.{add-one}

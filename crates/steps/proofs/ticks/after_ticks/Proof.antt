@@ -1,5 +1,4 @@
 -- `steps::ticks::after_ticks` meets its contract.
--- Assumes nothing.
 use borrow.Author.Needs.{needs}
 use mathlib.Core.Path.{sym}
 use native.Mathlib.Omega.{arith}
@@ -12,36 +11,6 @@ use Rattle.steps.proofs.ticks.after_ticks.Tie as tie
 returns : tie.Need-returns
 unfolding later
 returns c = rw (c .if1 .taken)
-
-enum-told : tie.Need-enum-told
-enum-told c = search needs
-
-enum-told-2 : tie.Need-enum-told-2
-enum-told-2 c = search needs
-
-enum-known-st : tie.Need-enum-known-st
-enum-known-st c = search needs
-
-cast-l : tie.Need-cast-l
-cast-l c = search needs
-
-sub-t11 : tie.Need-sub-t11
-sub-t11 c = search needs
-
-cast-t12 : tie.Need-cast-t12
-cast-t12 c = search needs
-
-enum-known-st-2 : tie.Need-enum-known-st-2
-enum-known-st-2 c = search needs
-
-cast-l-2 : tie.Need-cast-l-2
-cast-l-2 c = search needs
-
-sub-t15 : tie.Need-sub-t15
-sub-t15 c = search needs
-
-cast-t16 : tie.Need-cast-t16
-cast-t16 c = search needs
 
 returns-2 : tie.Need-returns-2
 returns-2 c = rw (c .enum-told .given .1, later-work)
@@ -66,16 +35,16 @@ after-ticks-spec =
     tie.close
     (tie.spec
     returns
-    enum-told
-    enum-told-2
-    enum-known-st
-    cast-l
-    sub-t11
-    cast-t12
-    enum-known-st-2
-    cast-l-2
-    sub-t15
-    cast-t16
+    (λ c. search needs)
+    (λ c. search needs)
+    (λ c. search needs)
+    (λ c. search needs)
+    (λ c. search needs)
+    (λ c. search needs)
+    (λ c. search needs)
+    (λ c. search needs)
+    (λ c. search needs)
+    (λ c. search needs)
     returns-2
     returns-3
     returns-4

@@ -1,5 +1,4 @@
 -- `steps::ticks::energy_ticks` meets its contract.
--- Assumes nothing.
 use borrow.Author.Needs.{needs}
 use mathlib.Core.Path.{_∙_}
 use native.Mathlib.Omega.{arith}
@@ -8,40 +7,13 @@ use Rattle.steps.proofs.Bounds.{product}
 use Rattle.steps.proofs.ticks.energy_ticks.Statement.{statement}
 use Rattle.steps.proofs.ticks.energy_ticks.Tie as tie
 
-element-copy-out-asleep : tie.Need-element-copy-out-asleep
-element-copy-out-asleep c = search needs
-
-enum-told : tie.Need-enum-told
-enum-told c = search needs
-
-cast-result : tie.Need-cast-result
-cast-result c = search needs
-
 mul-result : tie.Need-mul-result
 mul-result c = record { fits = product (omega arith) (omega arith) }
-
-enum-told-2 : tie.Need-enum-told-2
-enum-told-2 c = search needs
-
-cast-result-2 : tie.Need-cast-result-2
-cast-result-2 c = search needs
 
 mul-result-2 : tie.Need-mul-result-2
 mul-result-2 c =
     let s = c .before .before .before in
     record { fits = product (omega (arith, s .pre .falls 0 (s .pre .some-level), s .good .0)) (omega arith) }
-
-enum-known-st : tie.Need-enum-known-st
-enum-known-st c = search needs
-
-moving-energy-requires : tie.Need-moving-energy-requires
-moving-energy-requires c κs = search needs
-
-enum-known-st-2 : tie.Need-enum-known-st-2
-enum-known-st-2 c = search needs
-
-moving-energy-requires-2 : tie.Need-moving-energy-requires-2
-moving-energy-requires-2 c κs = search needs
 
 returns : tie.Need-returns
 returns c = rw (c .enum-told .given .1) (energy-work (c .before .before .before .args .t1) (c .before .before .before .args .n))
@@ -59,17 +31,17 @@ pub energy-ticks-spec : {M : Type 1} → statement M
 energy-ticks-spec =
     tie.close
     (tie.spec
-    element-copy-out-asleep
-    enum-told
-    cast-result
+    (λ c. search needs)
+    (λ c. search needs)
+    (λ c. search needs)
     mul-result
-    enum-told-2
-    cast-result-2
+    (λ c. search needs)
+    (λ c. search needs)
     mul-result-2
-    enum-known-st
-    moving-energy-requires
-    enum-known-st-2
-    moving-energy-requires-2
+    (λ c. search needs)
+    (λ c κs. search needs)
+    (λ c. search needs)
+    (λ c κs. search needs)
     returns
     returns-2
     returns-3

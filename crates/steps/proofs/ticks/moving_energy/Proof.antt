@@ -1,5 +1,4 @@
 -- `steps::ticks::moving_energy` meets its contract.
--- Assumes nothing.
 use borrow.Author.Needs.{needs}
 use mathlib.Core.Path.{_≡_}
 use Prim.Native.Nat.{ℕ, _+_, _-_, _*_, _^_, _≤_, _<_, min}
@@ -32,9 +31,6 @@ returns c = all (c .before .args .p0) (c .before .args .p) (c .before .args .n) 
 mul-result-2 : tie.Need-mul-result-2
 mul-result-2 c = record { fits = product (omega arith) (omega arith) }
 
-sub-result : tie.Need-sub-result
-sub-result c = search needs
-
 mul-result-3 : tie.Need-mul-result-3
 mul-result-3 c = record { fits = product (omega arith) (omega arith) }
 
@@ -47,4 +43,4 @@ returns-2 c = part (c .before .args .p0) (c .before .args .p) (c .before .args .
 pub moving-energy-spec : {M : Type 1} → statement M
 moving-energy-spec =
     tie.close
-    (tie.spec mul-result returns mul-result-2 sub-result mul-result-3 add-result returns-2)
+    (tie.spec mul-result returns mul-result-2 (λ c. search needs) mul-result-3 add-result returns-2)

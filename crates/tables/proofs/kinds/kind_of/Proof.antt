@@ -1,18 +1,15 @@
 -- `tables::kinds::kind_of` meets its contract.
--- Assumes nothing.
 use borrow.Author.Needs.{needs}
-use mathlib.Core.Path.{_≡_, refl, sym}
-use mathlib.Core.Bool.{cond}
+use mathlib.Core.Path.{_≡_, refl}
 use mathlib.Core.List.{List}
-use Prim.Native.Nat.{ℕ, _<_, _≤_}
+use Prim.Native.Nat.{ℕ, _<_}
 use native.Mathlib.Omega.{arith}
 use lib.ListN.{length, List·getD-eq-default}
 use lib.Dec.{eqb}
-use borrow.Author.Tests.{eq-eqb, ne-eqb}
 use Rattle.base.specs.Bytes.{byteAt}
 use Rattle.base.proofs.Paths.{paths}
 use Rattle.base.proofs.Cases.{cond-cases}
-use Rattle.tables.specs.declared.Kind.the-variants.{First, Second}
+use Rattle.tables.specs.declared.Kind.the-variants.{First}
 use Rattle.tables.specs.Layout.{kindOf}
 use Rattle.tables.proofs.kinds.kind_of.Statement.{statement}
 use Rattle.tables.proofs.kinds.kind_of.Tie as tie
@@ -27,22 +24,13 @@ short s h =
 returns : tie.Need-returns
 returns c = short (c .before .args .s .now) (c .if1 .taken)
 
-shared-slice-read-if2 : tie.Need-shared-slice-read-if2
-shared-slice-read-if2 c = search needs
-
 returns-2 : tie.Need-returns-2
 unfolding kindOf
 returns-2 c = search paths
 
-shared-slice-read-if3 : tie.Need-shared-slice-read-if3
-shared-slice-read-if3 c = search needs
-
 returns-3 : tie.Need-returns-3
 unfolding kindOf
 returns-3 c = search paths
-
-shared-slice-read-if4 : tie.Need-shared-slice-read-if4
-shared-slice-read-if4 c = search needs
 
 returns-4 : tie.Need-returns-4
 unfolding kindOf
@@ -57,10 +45,10 @@ kind-of-spec =
     tie.close
     (tie.spec
     returns
-    shared-slice-read-if2
+    (λ c. search needs)
     returns-2
-    shared-slice-read-if3
+    (λ c. search needs)
     returns-3
-    shared-slice-read-if4
+    (λ c. search needs)
     returns-4
     returns-5)

@@ -1,5 +1,4 @@
 -- `tables::kinds::third_size` meets its contract: where the level count is not there, it reads as 0.
--- Assumes nothing.
 use borrow.Author.Needs.{needs}
 use mathlib.Core.Path.{_≡_}
 use mathlib.Core.List.{List}
@@ -16,26 +15,11 @@ none s at h = omega (arith, List·getD-eq-default s 0 {n = at + 5} h)
 returns : tie.Need-returns
 returns c = none (c .before .args .s .now) (c .before .args .at) (omega arith)
 
-sub-if2 : tie.Need-sub-if2
-sub-if2 c = search needs
-
 returns-2 : tie.Need-returns-2
 returns-2 c = none (c .before .before .args .s .now) (c .before .before .args .at) (omega arith)
 
-add-levels : tie.Need-add-levels
-add-levels c = search needs
-
-shared-slice-read-levels : tie.Need-shared-slice-read-levels
-shared-slice-read-levels c = search needs
-
 cast-levels : tie.Need-cast-levels
 cast-levels c = omega (arith, c .shared-slice-known .given (c .before .before .before .args .at + 5))
-
-mul-result : tie.Need-mul-result
-mul-result c = search needs
-
-add-result : tie.Need-add-result
-add-result c = search needs
 
 returns-3 : tie.Need-returns-3
 returns-3 c = omega arith
@@ -48,12 +32,12 @@ third-size-spec =
     tie.close
     (tie.spec
     returns
-    sub-if2
+    (λ c. search needs)
     returns-2
-    add-levels
-    shared-slice-read-levels
+    (λ c. search needs)
+    (λ c. search needs)
     cast-levels
-    mul-result
-    add-result
+    (λ c. search needs)
+    (λ c. search needs)
     returns-3
     returns-4)

@@ -1,5 +1,4 @@
 -- `tables::laying::at_most` meets its contract. (The search would find this; it stands here so that a wrong bound is refused at it.)
--- Assumes nothing.
 use native.Mathlib.Omega.{arith}
 use Rattle.tables.proofs.laying.at_most.Statement.{statement}
 use Rattle.tables.proofs.laying.at_most.Tie as tie

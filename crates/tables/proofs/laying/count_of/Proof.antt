@@ -1,27 +1,8 @@
 -- `tables::laying::count_of` meets its contract.
--- Assumes nothing.
 use borrow.Author.Needs.{needs}
 use Rattle.tables.specs.inside.Held.{cut}
 use Rattle.tables.proofs.laying.count_of.Statement.{statement}
 use Rattle.tables.proofs.laying.count_of.Tie as tie
-
-enum-told : tie.Need-enum-told
-enum-told c = search needs
-
-at-most-requires : tie.Need-at-most-requires
-at-most-requires c κs = search needs
-
-enum-told-2 : tie.Need-enum-told-2
-enum-told-2 c = search needs
-
-at-most-requires-2 : tie.Need-at-most-requires-2
-at-most-requires-2 c κs = search needs
-
-enum-told-3 : tie.Need-enum-told-3
-enum-told-3 c = search needs
-
-at-most-requires-3 : tie.Need-at-most-requires-3
-at-most-requires-3 c κs = search needs
 
 returns : tie.Need-returns
 unfolding cut
@@ -39,12 +20,12 @@ pub count-of-spec : {M : Type 1} → statement M
 count-of-spec =
     tie.close
     (tie.spec
-    enum-told
-    at-most-requires
-    enum-told-2
-    at-most-requires-2
-    enum-told-3
-    at-most-requires-3
+    (λ c. search needs)
+    (λ c κs. search needs)
+    (λ c. search needs)
+    (λ c κs. search needs)
+    (λ c. search needs)
+    (λ c κs. search needs)
     returns
     returns-2
     returns-3)

@@ -1,5 +1,4 @@
 -- `tables::laying::device_of` meets its contract.
--- Assumes nothing.
 use borrow.Author.Needs.{needs}
 use mathlib.Core.Path.{_≡_, refl, sym, _∙_}
 use mathlib.Core.List.{List, [], _∷_}
@@ -11,15 +10,6 @@ use Rattle.tables.specs.Records.{blankDevice}
 use Rattle.tables.proofs.DeviceRecord.{the-field as device-field}
 use Rattle.tables.proofs.laying.device_of.Statement.{statement}
 use Rattle.tables.proofs.laying.device_of.Tie as tie
-
-mul-result : tie.Need-mul-result
-mul-result c = search needs
-
-element-copy-out-result : tie.Need-element-copy-out-result
-element-copy-out-result c = search needs
-
-blank-device-requires : tie.Need-blank-device-requires
-blank-device-requires c κs = search needs
 
 -- A place within the list does not look at what stands for those past its end.
 within : (l : List DeviceRecord) (d d′ : DeviceRecord) (i : ℕ) → i < length l → getD l i d ≡ getD l i d′
@@ -41,4 +31,4 @@ returns-2 c =
 
 pub device-of-spec : {M : Type 1} → statement M
 device-of-spec =
-    tie.close (tie.spec mul-result element-copy-out-result blank-device-requires returns returns-2)
+    tie.close (tie.spec (λ c. search needs) (λ c. search needs) (λ c κs. search needs) returns returns-2)

@@ -1,5 +1,4 @@
 -- `tables::laying::empty` meets its contract.
--- Assumes nothing.
 use mathlib.Core.Path.{refl}
 use Rattle.base.specs.Lists.{padded}
 use Rattle.tables.specs.inside.Held.{held}

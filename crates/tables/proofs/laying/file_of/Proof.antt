@@ -1,11 +1,9 @@
 -- The mark of the kind, the horizon field, then the three tables.
--- Assumes nothing.
 use borrow.Author.Needs.{needs}
-use mathlib.Core.Path.{_≡_, ap, _∙_}
-use mathlib.Core.List.{List, [], _++_}
-use Prim.Native.Nat.{_+_, _≤_}
+use mathlib.Core.Path.{ap, _∙_}
+use mathlib.Core.List.{[]}
+use Prim.Native.Nat.{_≤_}
 use native.Mathlib.Omega.{arith}
-use lib.ListN.{length}
 use Rattle.tables.specs.declared.File.{File}
 use Rattle.tables.specs.declared.TableName.the-variants.{Devices, Tasks, Jobs}
 use Rattle.base.specs.Bytes.{pairBytes}
@@ -38,9 +36,6 @@ after-tasks c =
     let t = c .before .before .before .before .before .args .t in
     omega (arith, after-devices (c .before), ap (λ (f : File). f .count) (c .push-section2 .ensures), appended-count (c .before .push-section .result) (sectionOf (cut t) Tasks), tasks-short t)
 
-empty-requires : tie.Need-empty-requires
-empty-requires c κs = search needs
-
 push-marker-requires : tie.Need-push-marker-requires
 unfolding held
 push-marker-requires c κs = rw (c .empty .ensures) (omega arith)
@@ -71,7 +66,7 @@ pub file-of-spec : {M : Type 1} → statement M
 file-of-spec =
     tie.close
     (tie.spec
-    empty-requires
+    (λ c κs. search needs)
     push-marker-requires
     push-pair-requires
     push-section-requires

@@ -1,23 +1,13 @@
 -- `tables::laying::push_device` meets its contract.
--- Assumes nothing.
 use borrow.Author.Needs.{needs}
 use Rattle.tables.proofs.laying.push_device.Statement.{statement}
 use Rattle.tables.proofs.laying.push_device.Tie as tie
 
-enum-told : tie.Need-enum-told
-enum-told c = search needs
-
 push-first-requires : tie.Need-push-first-requires
 push-first-requires c κs = rw (c .enum-told .given .1) at (c .before .before .pre)
 
-enum-told-2 : tie.Need-enum-told-2
-enum-told-2 c = search needs
-
 push-second-requires : tie.Need-push-second-requires
 push-second-requires c κs = rw (c .enum-told2 .given .1) at (c .before .before .pre)
-
-enum-told-3 : tie.Need-enum-told-3
-enum-told-3 c = search needs
 
 push-third-requires : tie.Need-push-third-requires
 push-third-requires c κs = rw (c .enum-told3 .given .1) at (c .before .before .pre)
@@ -35,11 +25,11 @@ pub push-device-spec : {M : Type 1} → statement M
 push-device-spec =
     tie.close
     (tie.spec
-    enum-told
+    (λ c. search needs)
     push-first-requires
-    enum-told-2
+    (λ c. search needs)
     push-second-requires
-    enum-told-3
+    (λ c. search needs)
     push-third-requires
     returns
     returns-2

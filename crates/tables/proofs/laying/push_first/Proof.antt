@@ -1,13 +1,9 @@
 -- `tables::laying::push_first` meets its contract.
--- Assumes nothing.
 use borrow.Author.Needs.{needs}
 use native.Mathlib.Omega.{arith}
 use Rattle.tables.specs.inside.Held.{appended}
 use Rattle.tables.proofs.laying.push_first.Statement.{statement}
 use Rattle.tables.proofs.laying.push_first.Tie as tie
-
-push-requires : tie.Need-push-requires
-push-requires c κs = search needs
 
 push-pair-requires : tie.Need-push-pair-requires
 unfolding appended
@@ -29,7 +25,7 @@ pub push-first-spec : {M : Type 1} → statement M
 push-first-spec =
     tie.close
     (tie.spec
-    push-requires
+    (λ c κs. search needs)
     push-pair-requires
     push-pair-requires-2
     push-pair-requires-3

@@ -1,13 +1,9 @@
 -- `tables::laying::push_job` meets its contract.
--- Assumes nothing.
 use borrow.Author.Needs.{needs}
 use native.Mathlib.Omega.{arith}
 use Rattle.tables.specs.inside.Held.{appended}
 use Rattle.tables.proofs.laying.push_job.Statement.{statement}
 use Rattle.tables.proofs.laying.push_job.Tie as tie
-
-push-pair-requires : tie.Need-push-pair-requires
-push-pair-requires c κs = search needs
 
 push-pair-requires-2 : tie.Need-push-pair-requires-2
 unfolding appended
@@ -28,4 +24,4 @@ returns c = rw (c .push .ensures, c .before .push-pair3 .ensures, c .before .bef
 pub push-job-spec : {M : Type 1} → statement M
 push-job-spec =
     tie.close
-    (tie.spec push-pair-requires push-pair-requires-2 push-pair-requires-3 push-requires returns)
+    (tie.spec (λ c κs. search needs) push-pair-requires-2 push-pair-requires-3 push-requires returns)

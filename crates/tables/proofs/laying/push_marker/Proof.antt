@@ -1,31 +1,13 @@
 -- `tables::laying::push_marker` meets its contract.
--- Assumes nothing.
 use borrow.Author.Needs.{needs}
 use native.Mathlib.Omega.{arith}
 use Rattle.tables.specs.inside.Held.{appended}
-use mathlib.Core.Path.{refl}
-use Rattle.tables.specs.Layout.{marker}
 use Rattle.tables.proofs.laying.push_marker.Statement.{statement}
 use Rattle.tables.proofs.laying.push_marker.Tie as tie
-
-enum-told : tie.Need-enum-told
-enum-told c = search needs
-
-enum-told-2 : tie.Need-enum-told-2
-enum-told-2 c = search needs
-
-push-requires : tie.Need-push-requires
-push-requires c κs = search needs
 
 push-requires-2 : tie.Need-push-requires-2
 unfolding appended
 push-requires-2 c κs = rw (c .push .ensures) (omega arith)
-
-enum-told-3 : tie.Need-enum-told-3
-enum-told-3 c = search needs
-
-push-requires-3 : tie.Need-push-requires-3
-push-requires-3 c κs = search needs
 
 push-requires-4 : tie.Need-push-requires-4
 unfolding appended
@@ -47,12 +29,12 @@ pub push-marker-spec : {M : Type 1} → statement M
 push-marker-spec =
     tie.close
     (tie.spec
-    enum-told
-    enum-told-2
-    push-requires
+    (λ c. search needs)
+    (λ c. search needs)
+    (λ c κs. search needs)
     push-requires-2
-    enum-told-3
-    push-requires-3
+    (λ c. search needs)
+    (λ c κs. search needs)
     push-requires-4
     returns
     returns-2

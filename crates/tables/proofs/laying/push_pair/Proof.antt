@@ -1,19 +1,9 @@
 -- `tables::laying::push_pair` meets its contract.
--- Assumes nothing.
 use borrow.Author.Needs.{needs}
 use native.Mathlib.Omega.{arith}
 use Rattle.tables.specs.inside.Held.{appended}
 use Rattle.tables.proofs.laying.push_pair.Statement.{statement}
 use Rattle.tables.proofs.laying.push_pair.Tie as tie
-
-cast-push : tie.Need-cast-push
-cast-push c = search needs
-
-push-requires : tie.Need-push-requires
-push-requires c κs = search needs
-
-cast-push-2 : tie.Need-cast-push-2
-cast-push-2 c = search needs
 
 push-requires-2 : tie.Need-push-requires-2
 unfolding appended
@@ -24,4 +14,4 @@ unfolding appended
 returns c = rw (c .push2 .ensures, c .before .push .ensures)
 
 pub push-pair-spec : {M : Type 1} → statement M
-push-pair-spec = tie.close (tie.spec cast-push push-requires cast-push-2 push-requires-2 returns)
+push-pair-spec = tie.close (tie.spec (λ c. search needs) (λ c κs. search needs) (λ c. search needs) push-requires-2 returns)

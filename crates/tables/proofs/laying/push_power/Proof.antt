@@ -1,5 +1,4 @@
 -- `tables::laying::push_power` meets its contract.
--- Assumes nothing.
 use borrow.Author.Tests.{lt-ltb, le-ltb}
 use Rattle.tables.specs.inside.Held.{appended}
 use Rattle.tables.proofs.laying.push_power.Statement.{statement}

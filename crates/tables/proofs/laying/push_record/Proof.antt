@@ -1,32 +1,13 @@
 -- `tables::laying::push_record` meets its contract.
--- Assumes nothing.
 use borrow.Author.Needs.{needs}
 use Rattle.tables.proofs.laying.push_record.Statement.{statement}
 use Rattle.tables.proofs.laying.push_record.Tie as tie
 
-enum-told : tie.Need-enum-told
-enum-told c = search needs
-
-device-of-requires : tie.Need-device-of-requires
-device-of-requires c κs = search needs
-
 push-device-requires : tie.Need-push-device-requires
 push-device-requires c κs = rw (c .device-of .ensures) (rw (c .before .before .enum-told .given .1) at (c .before .before .before .before .pre))
 
-enum-told-2 : tie.Need-enum-told-2
-enum-told-2 c = search needs
-
-task-of-requires : tie.Need-task-of-requires
-task-of-requires c κs = search needs
-
 push-task-requires : tie.Need-push-task-requires
 push-task-requires c κs = rw (c .before .before .enum-told2 .given .1) at (c .before .before .before .before .pre)
-
-enum-told-3 : tie.Need-enum-told-3
-enum-told-3 c = search needs
-
-job-of-requires : tie.Need-job-of-requires
-job-of-requires c κs = search needs
 
 push-job-requires : tie.Need-push-job-requires
 push-job-requires c κs = rw (c .before .before .enum-told3 .given .1) at (c .before .before .before .before .pre)
@@ -44,14 +25,14 @@ pub push-record-spec : {M : Type 1} → statement M
 push-record-spec =
     tie.close
     (tie.spec
-    enum-told
-    device-of-requires
+    (λ c. search needs)
+    (λ c κs. search needs)
     push-device-requires
-    enum-told-2
-    task-of-requires
+    (λ c. search needs)
+    (λ c κs. search needs)
     push-task-requires
-    enum-told-3
-    job-of-requires
+    (λ c. search needs)
+    (λ c κs. search needs)
     push-job-requires
     returns
     returns-2

@@ -1,13 +1,9 @@
 -- `tables::laying::push_second` meets its contract.
--- Assumes nothing.
 use borrow.Author.Needs.{needs}
 use native.Mathlib.Omega.{arith}
 use Rattle.tables.specs.inside.Held.{appended}
 use Rattle.tables.proofs.laying.push_second.Statement.{statement}
 use Rattle.tables.proofs.laying.push_second.Tie as tie
-
-push-requires : tie.Need-push-requires
-push-requires c κs = search needs
 
 push-requires-2 : tie.Need-push-requires-2
 unfolding appended
@@ -37,7 +33,7 @@ pub push-second-spec : {M : Type 1} → statement M
 push-second-spec =
     tie.close
     (tie.spec
-    push-requires
+    (λ c κs. search needs)
     push-requires-2
     push-pair-requires
     push-pair-requires-2

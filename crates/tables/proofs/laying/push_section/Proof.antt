@@ -1,21 +1,17 @@
 -- A table is its count and its records.
--- Assumes nothing.
 use borrow.Author.Needs.{needs}
-use mathlib.Core.Path.{_≡_, ap, _∙_}
+use mathlib.Core.Path.{_≡_, ap}
 use mathlib.Core.List.{[], _∷_}
 use Prim.Native.Nat.{_+_}
 use native.Mathlib.Omega.{arith}
 use lib.ListN.{length}
-use Rattle.tables.specs.inside.Held.{cut, appended}
+use Rattle.tables.specs.inside.Held.{cut}
 use Rattle.tables.specs.declared.File.{File}
-use Rattle.tables.specs.Layout.{joined, sectionOf, countIn, recordIn}
+use Rattle.tables.specs.Layout.{joined, sectionOf, recordIn}
 use Rattle.tables.proofs.Appending.{appended-count, appended-more}
 use Rattle.tables.proofs.Joining.{length-section, record-cut, count-cut}
 use Rattle.tables.proofs.laying.push_section.Statement.{statement}
 use Rattle.tables.proofs.laying.push_section.Tie as tie
-
-count-of-requires : tie.Need-count-of-requires
-count-of-requires c κs = search needs
 
 cast-push : tie.Need-cast-push
 cast-push c = omega (arith, c .count-of .ensures, count-cut (c .before .args .t) (c .before .args .part))
@@ -39,4 +35,4 @@ returns c =
     rw (c .push-records .ensures, c .before .push .ensures, n .ensures, ← record-cut (a .t) (a .part), appended-more)
 
 pub push-section-spec : {M : Type 1} → statement M
-push-section-spec = tie.close (tie.spec count-of-requires cast-push push-requires push-records-requires returns)
+push-section-spec = tie.close (tie.spec (λ c κs. search needs) cast-push push-requires push-records-requires returns)

@@ -1,13 +1,9 @@
 -- `tables::laying::push_third` meets its contract.
--- Assumes nothing.
 use borrow.Author.Needs.{needs}
 use native.Mathlib.Omega.{arith}
 use Rattle.tables.specs.inside.Held.{appended}
 use Rattle.tables.proofs.laying.push_third.Statement.{statement}
 use Rattle.tables.proofs.laying.push_third.Tie as tie
-
-push-requires : tie.Need-push-requires
-push-requires c κs = search needs
 
 push-pair-requires : tie.Need-push-pair-requires
 unfolding appended
@@ -33,7 +29,7 @@ pub push-third-spec : {M : Type 1} → statement M
 push-third-spec =
     tie.close
     (tie.spec
-    push-requires
+    (λ c κs. search needs)
     push-pair-requires
     push-pair-requires-2
     push-requires-2

@@ -1,24 +1,13 @@
 -- `tables::listing::device_at` meets its contract.
--- Assumes nothing.
 use borrow.Author.Needs.{needs}
-use native.Mathlib.Omega.{arith}
 use Rattle.tables.proofs.listing.device_at.Statement.{statement}
 use Rattle.tables.proofs.listing.device_at.Tie as tie
-
-enum-told : tie.Need-enum-told
-enum-told c = search needs
 
 first-at-requires : tie.Need-first-at-requires
 first-at-requires c κs = rw (c .enum-told .given .1) at (c .before .before .before .pre)
 
-enum-told-2 : tie.Need-enum-told-2
-enum-told-2 c = search needs
-
 second-at-requires : tie.Need-second-at-requires
 second-at-requires c κs = rw (c .enum-told2 .given .1) at (c .before .before .before .pre)
-
-enum-told-3 : tie.Need-enum-told-3
-enum-told-3 c = search needs
 
 third-at-requires : tie.Need-third-at-requires
 third-at-requires c κs = rw (c .enum-told3 .given .1) at (c .before .before .before .pre)
@@ -36,11 +25,11 @@ pub device-at-spec : {M : Type 1} → statement M
 device-at-spec =
     tie.close
     (tie.spec
-    enum-told
+    (λ c. search needs)
     first-at-requires
-    enum-told-2
+    (λ c. search needs)
     second-at-requires
-    enum-told-3
+    (λ c. search needs)
     third-at-requires
     returns
     returns-2

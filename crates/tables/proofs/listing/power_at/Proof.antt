@@ -1,5 +1,4 @@
 -- `tables::listing::power_at` meets its contract.
--- Assumes nothing.
 use borrow.Author.Tests.{lt-ltb, le-ltb}
 use Rattle.tables.proofs.listing.power_at.Statement.{statement}
 use Rattle.tables.proofs.listing.power_at.Tie as tie

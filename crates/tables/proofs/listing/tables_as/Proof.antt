@@ -1,7 +1,5 @@
 -- `tables::listing::tables_as` meets its contract.
--- Assumes nothing.
 use borrow.Author.Needs.{needs}
-use Prim.Native.Nat.{_+_, _*_}
 use native.Mathlib.Omega.{arith}
 use Rattle.base.specs.Bytes.{byteAt}
 use Rattle.base.proofs.Records.{after-from}
@@ -13,20 +11,8 @@ use Rattle.tables.proofs.listing.tables_as.Tie as tie
 shared-slice-read-n : tie.Need-shared-slice-read-n
 shared-slice-read-n c = omega (arith, after-from (deviceSize (c .before .before .args .kind) (c .before .before .args .s .now)) (byteAt (c .before .before .args .s .now) 2) 3)
 
-cast-n : tie.Need-cast-n
-cast-n c = search needs
-
-device-place-requires : tie.Need-device-place-requires
-device-place-requires c κs = search needs
-
-shared-slice-read-m : tie.Need-shared-slice-read-m
-shared-slice-read-m c = search needs
-
 cast-m : tie.Need-cast-m
 cast-m c = rw (c .before .device-place .ensures) (omega (arith, c .before .before .before .before .pre))
-
-add-place : tie.Need-add-place
-add-place c = search needs
 
 mul-place : tie.Need-mul-place
 mul-place c = rw (c .before .device-place .ensures) (omega (arith, c .before .before .before .before .pre))
@@ -40,12 +26,6 @@ shared-slice-read-count c = rw (c .before .before .device-place .ensures) (omega
 cast-count : tie.Need-cast-count
 cast-count c = rw (c .before .before .device-place .ensures) (omega (arith, c .before .before .before .before .before .pre))
 
-devices-at-requires : tie.Need-devices-at-requires
-devices-at-requires c κs = search needs
-
-add-tasks-at : tie.Need-add-tasks-at
-add-tasks-at c = search needs
-
 tasks-at-requires : tie.Need-tasks-at-requires
 tasks-at-requires c κs = rw (c .before .before .before .device-place .ensures) (omega (arith, c .before .before .before .before .before .before .pre))
 
@@ -54,9 +34,6 @@ add-jobs-at c = rw (c .before .before .before .before .device-place .ensures) (o
 
 jobs-at-requires : tie.Need-jobs-at-requires
 jobs-at-requires c κs = rw (c .before .before .before .before .device-place .ensures) (omega (arith, c .before .before .before .before .before .before .before .pre))
-
-pair-at-requires : tie.Need-pair-at-requires
-pair-at-requires c κs = search needs
 
 returns : tie.Need-returns
 unfolding tablesAs
@@ -67,19 +44,19 @@ tables-as-spec =
     tie.close
     (tie.spec
     shared-slice-read-n
-    cast-n
-    device-place-requires
-    shared-slice-read-m
+    (λ c. search needs)
+    (λ c κs. search needs)
+    (λ c. search needs)
     cast-m
-    add-place
+    (λ c. search needs)
     mul-place
     add-place-2
     shared-slice-read-count
     cast-count
-    devices-at-requires
-    add-tasks-at
+    (λ c κs. search needs)
+    (λ c. search needs)
     tasks-at-requires
     add-jobs-at
     jobs-at-requires
-    pair-at-requires
+    (λ c κs. search needs)
     returns)

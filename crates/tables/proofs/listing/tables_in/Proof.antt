@@ -1,8 +1,7 @@
 -- `tables::listing::tables_in` meets its contract.
--- Assumes nothing.
 use borrow.Author.Needs.{needs}
 use native.Mathlib.Omega.{arith}
-use mathlib.Core.Path.{_≡_, ap, _∙_}
+use mathlib.Core.Path.{_≡_}
 use mathlib.Core.List.{List}
 use Prim.Native.Nat.{ℕ, _-_, _≤_}
 use lib.ListN.{length, take, drop}
@@ -23,12 +22,6 @@ whole-part s k n e m w = rw (part-rest s n, m, e) w
 by-its-own : (s : List ℕ) (k : Kind) (n : ℕ) (r : Tables) → k ≡ kindOf s → n ≡ length (marker k) → r ≡ tablesAs k (take (length s - n) (drop n s)) → r ≡ tablesOf s
 by-its-own s k n r e m h = rw (part-rest s n, m, e) at h
 
-kind-of-requires : tie.Need-kind-of-requires
-kind-of-requires c κs = search needs
-
-marker-size-requires : tie.Need-marker-size-requires
-marker-size-requires c κs = search needs
-
 sub-tables-as : tie.Need-sub-tables-as
 sub-tables-as c = fits c
 
@@ -48,8 +41,8 @@ pub tables-in-spec : {M : Type 1} → statement M
 tables-in-spec =
     tie.close
     (tie.spec
-    kind-of-requires
-    marker-size-requires
+    (λ c κs. search needs)
+    (λ c κs. search needs)
     sub-tables-as
     part-tables-as-start
     part-tables-as-end

@@ -1,5 +1,4 @@
 -- `text::fields::by_byte` meets its contract.
--- Assumes nothing.
 use Rattle.base.proofs.Paths.{paths}
 use Rattle.text.proofs.fields.by_byte.Statement.{statement}
 use Rattle.text.proofs.fields.by_byte.Tie as tie

@@ -1,23 +1,12 @@
 -- `text::fields::first_field` meets its contract.
--- Assumes nothing.
-use mathlib.Core.Path.{_≡_, refl, sym, ap, _∙_}
-use mathlib.Core.Bool.{true, false}
-use Prim.Native.Nat.{ℕ, _+_, _-_, _≤_, _<_}
+use mathlib.Core.Path.{sym, ap, _∙_}
 use native.Mathlib.Omega.{arith}
-use lib.ListN.{length, take, drop, getD}
 use lib.Seq.{length-take-le}
 use Rattle.text.specs.declared.Cut.{Cut}
-use Rattle.text.specs.inside.Cursors.{cutOf, firstField}
-use Rattle.text.proofs.Cutting.{cut-within, read-whole, bare-field, quoted-field, quoted-size}
+use Rattle.text.proofs.Cutting.{cut-within, bare-field, quoted-field, quoted-size}
 use borrow.Author.Needs.{needs}
 use Rattle.text.proofs.fields.first_field.Statement.{statement}
 use Rattle.text.proofs.fields.first_field.Tie as tie
-
-cut-requires : tie.Need-cut-requires
-cut-requires c κs = search needs
-
-slice-aggregate-result : tie.Need-slice-aggregate-result
-slice-aggregate-result c = search needs
 
 returns : tie.Need-returns
 returns c =
@@ -34,9 +23,6 @@ shared-slice-read-if2 c =
     let size = ap (λ (x : Cut). x .size) (c .before .before .cut .ensures) in
     let within = cut-within s in
     omega arith
-
-sub-end : tie.Need-sub-end
-sub-end c = search needs
 
 sub-result : tie.Need-sub-result
 sub-result c =
@@ -94,11 +80,11 @@ pub first-field-spec : {M : Type 1} → statement M
 first-field-spec =
     tie.close
     (tie.spec
-    cut-requires
-    slice-aggregate-result
+    (λ c κs. search needs)
+    (λ c. search needs)
     returns
     shared-slice-read-if2
-    sub-end
+    (λ c. search needs)
     sub-result
     part-result-start
     part-result-end

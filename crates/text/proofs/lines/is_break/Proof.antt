@@ -1,28 +1,15 @@
 -- `text::lines::is_break` meets its contract.
--- Assumes nothing.
 use native.Mathlib.Omega.{arith}
 use borrow.Author.Needs.{needs}
 use Rattle.text.proofs.Scanning.{no-cr, at-end, by-lf}
 use Rattle.text.proofs.lines.is_break.Statement.{statement}
 use Rattle.text.proofs.lines.is_break.Tie as tie
 
-shared-slice-read-if1 : tie.Need-shared-slice-read-if1
-shared-slice-read-if1 c = search needs
-
 returns : tie.Need-returns
 returns c = let a = c .before .before .args in no-cr (a .s .now) (a .i) (c .if1 .taken)
 
-add-if2 : tie.Need-add-if2
-add-if2 c = search needs
-
 returns-2 : tie.Need-returns-2
 returns-2 c = let a = c .before .before .before .args in at-end (a .s .now) (a .i) (omega arith)
-
-add-result : tie.Need-add-result
-add-result c = search needs
-
-shared-slice-read-result : tie.Need-shared-slice-read-result
-shared-slice-read-result c = search needs
 
 returns-3 : tie.Need-returns-3
 returns-3 c = let a = c .before .before .before .before .args in by-lf (a .s .now) (a .i) (c .before .before .if1 .left)
@@ -31,10 +18,10 @@ pub is-break-spec : {M : Type 1} → statement M
 is-break-spec =
     tie.close
     (tie.spec
-    shared-slice-read-if1
+    (λ c. search needs)
     returns
-    add-if2
+    (λ c. search needs)
     returns-2
-    add-result
-    shared-slice-read-result
+    (λ c. search needs)
+    (λ c. search needs)
     returns-3)

@@ -1,5 +1,4 @@
 -- `text::numbers::at_most` meets its contract.
--- Assumes nothing.
 use native.Mathlib.Omega.{arith}
 use Rattle.text.proofs.numbers.at_most.Statement.{statement}
 use Rattle.text.proofs.numbers.at_most.Tie as tie

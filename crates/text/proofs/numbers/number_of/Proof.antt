@@ -1,9 +1,8 @@
 -- `text::numbers::number_of` meets its contract.
--- Assumes nothing.
-use mathlib.Core.Path.{_≡_, sym, ap, _∙_}
-use Prim.Native.Nat.{_+_, _-_, _*_, _≤_, min}
+use mathlib.Core.Path.{_≡_, sym, _∙_}
+use Prim.Native.Nat.{_-_, _≤_}
 use native.Mathlib.Omega.{arith}
-use lib.ListN.{length, drop, getD}
+use lib.ListN.{drop, getD}
 use borrow.Author.Needs.{needs}
 use Rattle.text.specs.inside.Cursors.{numberFrom, numberOf}
 use Rattle.text.proofs.Scanning.{number-none, number-some, number-next, number-below, number-above, digit-is, number-done}

@@ -1,5 +1,4 @@
 -- `text::putting::put_number` meets its contract: the number falls at each call.
--- Assumes nothing.
 use mathlib.Core.Path.{ap, _∙_}
 use mathlib.Core.List.{[], _∷_}
 use Prim.Native.Nat.{ℕ, _<_, _+_, _/_, _%_}

@@ -1,11 +1,8 @@
 -- `text::putting::put_bytes` meets its contract.
--- Assumes nothing.
-use mathlib.Core.Path.{_≡_, refl, sym, ap, subst, _∙_}
-use mathlib.Core.List.{List}
-use Prim.Native.Nat.{ℕ, _+_, _-_, _≤_, _<_}
+use Prim.Native.Nat.{_-_, _≤_}
 use native.Mathlib.Omega.{arith}
 use native.Mathlib.Numerals.{add-one}
-use lib.ListN.{length, take, getD}
+use lib.ListN.{take}
 use lib.Seq.{take-suc, take-all, length-take-le}
 use Rattle.text.specs.inside.Putting.{Put}
 use Rattle.text.proofs.Puts.{put-none, put-more, put-length}

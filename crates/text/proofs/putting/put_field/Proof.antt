@@ -1,6 +1,4 @@
 -- `text::putting::put_field` meets its contract.
--- Assumes nothing.
-use mathlib.Core.List.{[], _∷_}
 use native.Mathlib.Omega.{arith}
 use Rattle.text.proofs.Puts.{put-more, length-field}
 use borrow.Author.Needs.{needs}
@@ -15,9 +13,6 @@ put-byte-requires c κs =
     let start = c .before .before .before .before .before .before in
     omega (arith, length-field (start .args .number), start .pre, c .before .before .before .put-number .ensures .next)
 
-same-length : tie.Need-same-length
-same-length c = search needs
-
 returns : tie.Need-returns
 returns c =
     let start = c .before .before .before .before .before .before .before .before .before in
@@ -26,4 +21,4 @@ returns c =
     put-more first second (omega (arith, length-field (start .args .number), start .pre, first .next, second .next))
 
 pub put-field-spec : {M : Type 1} → statement M
-put-field-spec = tie.close (tie.spec put-number-requires put-byte-requires same-length returns)
+put-field-spec = tie.close (tie.spec put-number-requires put-byte-requires (λ c. search needs) returns)

@@ -1,5 +1,4 @@
 -- `text::putting::put_four` meets its contract.
--- Assumes nothing.
 use mathlib.Core.List.{[], _∷_}
 use native.Mathlib.Omega.{arith}
 use Rattle.text.proofs.Puts.{put-more, length-more, line-more}
@@ -19,9 +18,6 @@ put-three-requires c κs =
     let a = start .args in
     omega (arith, length-more (a .a) (a .b) (a .c ∷ a .d ∷ []), start .pre, c .before .before .before .put-field .ensures .next)
 
-same-length : tie.Need-same-length
-same-length c = search needs
-
 returns : tie.Need-returns
 returns c =
     let start = c .before .before .before .before .before .before .before .before .before in
@@ -32,4 +28,4 @@ returns c =
     rw (line-more (a .a) (a .b) (a .c ∷ a .d ∷ [])) (put-more first second (omega (arith, start .pre, first .next, second .next)))
 
 pub put-four-spec : {M : Type 1} → statement M
-put-four-spec = tie.close (tie.spec put-field-requires put-three-requires same-length returns)
+put-four-spec = tie.close (tie.spec put-field-requires put-three-requires (λ c. search needs) returns)

@@ -1,6 +1,4 @@
 -- `text::putting::put_last` meets its contract.
--- Assumes nothing.
-use mathlib.Core.List.{[], _∷_}
 use native.Mathlib.Omega.{arith}
 use Rattle.text.proofs.Puts.{put-more, length-last, line-last}
 use borrow.Author.Needs.{needs}
@@ -20,9 +18,6 @@ put-byte-requires-2 c κs =
     let start = c .before .before .before .before .before .before .before .before .before .before in
     omega (arith, length-last (start .args .number), start .pre, c .before .before .before .before .before .before .before .put-number .ensures .next, c .before .before .before .put-byte .ensures .next)
 
-same-length : tie.Need-same-length
-same-length c = search needs
-
 returns : tie.Need-returns
 returns c =
     let start = c .before .before .before .before .before .before .before .before .before .before .before .before .before in
@@ -35,4 +30,4 @@ returns c =
 pub put-last-spec : {M : Type 1} → statement M
 put-last-spec =
     tie.close
-    (tie.spec put-number-requires put-byte-requires put-byte-requires-2 same-length returns)
+    (tie.spec put-number-requires put-byte-requires put-byte-requires-2 (λ c. search needs) returns)

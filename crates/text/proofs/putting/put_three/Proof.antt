@@ -1,5 +1,4 @@
 -- `text::putting::put_three` meets its contract.
--- Assumes nothing.
 use mathlib.Core.List.{[], _∷_}
 use native.Mathlib.Omega.{arith}
 use Rattle.text.proofs.Puts.{put-more, length-more, line-more}
@@ -25,9 +24,6 @@ put-last-requires c κs =
     let a = start .args in
     omega (arith, length-more (a .a) (a .b) (a .c ∷ []), length-more (a .b) (a .c) [], start .pre, c .before .before .before .before .before .before .before .put-field .ensures .next, c .before .before .before .put-field2 .ensures .next)
 
-same-length : tie.Need-same-length
-same-length c = search needs
-
 returns : tie.Need-returns
 returns c =
     let start = c .before .before .before .before .before .before .before .before .before .before .before .before .before in
@@ -43,4 +39,4 @@ returns c =
 pub put-three-spec : {M : Type 1} → statement M
 put-three-spec =
     tie.close
-    (tie.spec put-field-requires put-field-requires-2 put-last-requires same-length returns)
+    (tie.spec put-field-requires put-field-requires-2 put-last-requires (λ c. search needs) returns)

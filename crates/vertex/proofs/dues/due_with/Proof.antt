@@ -1,5 +1,4 @@
 -- `vertex::dues::due_with` meets its contract.
--- Assumes nothing.
 use borrow.Author.Tests.{lt-ltb, le-ltb}
 use Rattle.vertex.specs.inside.Sums.{dueWith}
 use borrow.Author.Needs.{needs}
@@ -10,12 +9,9 @@ returns : tie.Need-returns
 unfolding dueWith
 returns c = simp (lt-ltb _ _ (c .if1 .taken))
 
-sooner-requires : tie.Need-sooner-requires
-sooner-requires c κs = search needs
-
 returns-2 : tie.Need-returns-2
 unfolding dueWith
 returns-2 c = simp (le-ltb _ _ (c .before .before .if1 .left), c .sooner .ensures)
 
 pub due-with-spec : {M : Type 1} → statement M
-due-with-spec = tie.close (tie.spec returns sooner-requires returns-2)
+due-with-spec = tie.close (tie.spec returns (λ c κs. search needs) returns-2)

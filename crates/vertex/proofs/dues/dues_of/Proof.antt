@@ -1,5 +1,4 @@
 -- `vertex::dues::dues_of` meets its contract.
--- Assumes nothing.
 use mathlib.Core.Path.{sym, _∙_, subst}
 use mathlib.Core.Logic.{⊎-elim}
 use Prim.Native.Nat.{_≤_, _-_}

@@ -1,11 +1,10 @@
 -- `vertex::floors::device_close` meets its contract. No tick costs more than 65,535.
--- Assumes nothing.
 use mathlib.Core.Path.{_≡_, _∙_}
-use Prim.Native.Nat.{ℕ, _+_, _-_, _*_, _≤_, _<_}
+use Prim.Native.Nat.{_+_, _-_, _*_, _≤_, _<_}
 use native.Mathlib.Nat.{mul-le-mul-right}
 use native.Mathlib.Omega.{arith}
 use borrow.Author.Needs.{needs}
-use Rattle.device.specs.Row.{deep, gapCost}
+use Rattle.device.specs.Row.{gapCost}
 use Rattle.device.proofs.Least.{gap-most}
 use Rattle.schedule.specs.Quantities.{device}
 use Rattle.schedule.proofs.Bounds.{device-most}
@@ -20,9 +19,6 @@ few s = (omega (arith, s .pre .1 .0, s .pre .0 .valid .few-devices), omega (arit
 
 deep-power-requires : tie.Need-deep-power-requires
 deep-power-requires c κs = (few c .0, c .pre .0 .valid .sound (c .args .k) (c .pre .1 .0))
-
-wide-requires : tie.Need-wide-requires
-wide-requires c κs = search needs
 
 sub-result : tie.Need-sub-result
 sub-result c = omega (arith, c .before .before .before .pre .1 .1 .0)
@@ -108,7 +104,7 @@ device-close-spec =
     tie.close
     (tie.spec
     deep-power-requires
-    wide-requires
+    (λ c κs. search needs)
     sub-result
     mul-result
     add-result

@@ -1,5 +1,4 @@
 -- `vertex::floors::device_floor` meets its contract.
--- Assumes nothing.
 use Prim.Native.Nat.{ℕ, _+_, _-_, _*_, _≤_, _<_}
 use native.Mathlib.Omega.{arith}
 use borrow.Author.Needs.{needs}
@@ -8,22 +7,10 @@ use Rattle.vertex.proofs.Charging.{flooring-fits, product-fits}
 use Rattle.vertex.proofs.floors.device_floor.Statement.{statement}
 use Rattle.vertex.proofs.floors.device_floor.Tie as tie
 
-sub-idle : tie.Need-sub-idle
-sub-idle c = search needs
-
-sub-idle-2 : tie.Need-sub-idle-2
-sub-idle-2 c = search needs
-
-wide-requires : tie.Need-wide-requires
-wide-requires c κs = search needs
-
 mul-result : tie.Need-mul-result
 mul-result c =
     let a = c .before .args in
     record { fits = omega (arith, product-fits (c .wide .result) (a .ahead) (omega arith) (omega arith), product-fits (c .wide .result) (a .h - a .end - a .ahead) (omega arith) (omega arith)) }
-
-wide-requires-2 : tie.Need-wide-requires-2
-wide-requires-2 c κs = search needs
 
 -- Each part fits by itself, whichever power goes with whichever ticks: at most a whole round at the highest power.
 small :
@@ -62,11 +49,11 @@ pub device-floor-spec : {M : Type 1} → statement M
 device-floor-spec =
     tie.close
     (tie.spec
-    sub-idle
-    sub-idle-2
-    wide-requires
+    (λ c. search needs)
+    (λ c. search needs)
+    (λ c κs. search needs)
     mul-result
-    wide-requires-2
+    (λ c κs. search needs)
     mul-result-2
     add-result
     add-result-2

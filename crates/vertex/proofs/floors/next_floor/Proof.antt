@@ -1,7 +1,5 @@
 -- `vertex::floors::next_floor` meets its contract.
--- Assumes nothing.
-use mathlib.Core.Path.{_≡_}
-use Prim.Native.Nat.{ℕ, _+_, _*_, _≤_}
+use Prim.Native.Nat.{_+_, _*_, _≤_}
 use native.Mathlib.Omega.{arith}
 use borrow.Author.Needs.{needs}
 use Rattle.schedule.specs.Quantities.{device}
@@ -17,9 +15,6 @@ work-power-requires c κs = omega (arith, c .pre .1 .0, c .pre .0 .valid .few-de
 
 deep-power-requires : tie.Need-deep-power-requires
 deep-power-requires c κs = let s = c .before in (omega (arith, s .pre .1 .0, s .pre .0 .valid .few-devices), s .pre .0 .valid .sound (s .args .k) (s .pre .1 .0))
-
-is-unused-requires : tie.Need-is-unused-requires
-is-unused-requires c κs = search needs
 
 lead-of-requires : tie.Need-lead-of-requires
 lead-of-requires c κs =
@@ -70,7 +65,7 @@ next-floor-spec =
     (tie.spec
     work-power-requires
     deep-power-requires
-    is-unused-requires
+    (λ c κs. search needs)
     lead-of-requires
     add-device-floor
     device-floor-requires

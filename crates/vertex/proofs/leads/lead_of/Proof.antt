@@ -1,7 +1,6 @@
 -- `vertex::leads::lead_of` meets its contract.
--- Assumes nothing.
-use mathlib.Core.Path.{_≡_, _∙_}
-use Prim.Native.Nat.{ℕ, _-_, _*_, _≤_, _<_}
+use mathlib.Core.Path.{_∙_}
+use Prim.Native.Nat.{_-_, _≤_, _<_}
 use native.Mathlib.Omega.{arith}
 use borrow.Author.Needs.{needs}
 use Rattle.vertex.specs.inside.Vertices.{leadOf}
@@ -15,9 +14,6 @@ few s = (omega (arith, s .pre .1 .0, s .pre .0 .valid .few-devices), omega (arit
 
 deep-power-requires : tie.Need-deep-power-requires
 deep-power-requires c κs = let s = c .before in (few s .0, s .pre .0 .valid .sound (s .args .k) (s .pre .1 .0))
-
-wide-requires : tie.Need-wide-requires
-wide-requires c κs = search needs
 
 mul-result : tie.Need-mul-result
 mul-result c =
@@ -46,7 +42,7 @@ lead-of-spec =
     tie.close
     (tie.spec
     deep-power-requires
-    wide-requires
+    (λ c κs. search needs)
     mul-result
     returns
     sub-gap-cost

@@ -1,5 +1,4 @@
 -- `vertex::placing::place` meets its contract. The loop's invariant: the first k devices are charged.
--- Assumes nothing.
 use mathlib.Core.Path.{_≡_, refl, sym, ap, _∙_}
 use mathlib.Core.Logic.{⊎-elim}
 use Prim.Native.Nat.{ℕ, _≤_, _<_, _-_}

@@ -1,5 +1,4 @@
 -- `visit::tally::count_one` meets its contract.
--- Assumes nothing.
 use native.Mathlib.Omega.{arith}
 use lib.ListN.{length-set}
 use Rattle.visit.proofs.Bests.{tally-counted}
@@ -8,17 +7,11 @@ use borrow.Author.Needs.{needs}
 use Rattle.visit.proofs.tally.count_one.Statement.{statement}
 use Rattle.visit.proofs.tally.count_one.Tie as tie
 
-element-copy-out-tally : tie.Need-element-copy-out-tally
-element-copy-out-tally c = search needs
-
 add-tally : tie.Need-add-tally
 add-tally c = omega (arith, count-is (c .before .args .tally .now), c .before .pre .1)
-
-element-write-tally : tie.Need-element-write-tally
-element-write-tally c = search needs
 
 returns : tie.Need-returns
 returns c = (tally-counted _ (c .before .pre .0), rw length-set (c .before .pre .0))
 
 pub count-one-spec : {M : Type 1} → statement M
-count-one-spec = tie.close (tie.spec element-copy-out-tally add-tally element-write-tally returns)
+count-one-spec = tie.close (tie.spec (λ c. search needs) add-tally (λ c. search needs) returns)
