@@ -8,12 +8,13 @@ use std::collections::BTreeSet;
 use std::fs;
 use std::path::{Path, PathBuf};
 
-const PAPERS: [&str; 11] = [
+const PAPERS: [&str; 12] = [
     "README.md",
     "CHANGELOG.md",
     "docs/CONTRIBUTING.md",
     "docs/DECISIONS.md",
     "docs/FILE.md",
+    "docs/GLOSSARY.md",
     "docs/LIBRARY.md",
     "docs/MANUAL.md",
     "docs/PROMISES.md",
