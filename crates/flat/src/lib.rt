@@ -9,7 +9,6 @@ ghost use Rattle.device.specs.Row.{Sound, deep};
 ghost use Rattle.schedule.specs.Quantities.{Valid, device, jobs, release, deadline, run, uses};
 ghost use Rattle.flat.specs.inside.Flat.{recorderOf, jobNumber, deviceNumber, ownNumber, numberOf};
 
-pub mod costs; // costs.rt: what each gap costs
 pub mod numbers; // numbers.rt: sums past sixteen bits
 
 pub type Flat = [u16; 320];

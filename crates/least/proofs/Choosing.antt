@@ -4,12 +4,11 @@ use mathlib.Core.Bool.{true, false}
 use mathlib.Core.List.{List}
 use mathlib.Core.Option.{Option, none}
 use mathlib.Core.Bool.{cond}
-use Prim.Native.Nat.{ℕ, suc, _+_, _-_, _*_, _/_, _%_, _^_, _≤_, _<_}
+use Prim.Native.Nat.{ℕ, suc, _+_, _-_, _*_, _≤_, _<_}
 use native.Mathlib.Nat.{mul-le-mul-right}
 use native.Mathlib.Numerals.{add-one}
 use native.Mathlib.Omega.{arith}
 use lib.Pow.{pow-pos}
-use borrow.Author.Tests.{eq-eqb, ne-eqb}
 use Rattle.base.specs.Lists.{upFrom}
 use Rattle.schedule.specs.declared.Recorder.{Recorder}
 use Rattle.schedule.specs.Quantities.{jobs, Valid}
@@ -23,7 +22,7 @@ use Rattle.value.proofs.Tries.{ChosenTo, choosing-start, choosing-placed, choos
 use Rattle.least.specs.inside.Shown.{Shows, Held}
 use Rattle.least.specs.Effort.{mostOf}
 use Rattle.least.specs.inside.Outcome.{Came, told, stopped}
-use Rattle.least.proofs.Showing.{set-some, job-in, in-job}
+use Rattle.vertex.proofs.Showing.{set-some, job-in, in-job}
 use Rattle.least.proofs.Counting.{came-stop, came-small, came-from}
 
 -- A vertex that is held with jobs unplaced.
@@ -118,11 +117,3 @@ module _ (R : Recorder) (valid : Valid R) (l : List ℕ) (a time until limit bud
       let d = subst (λ (i : ℕ). (e ≤ start + i * ((until - time) * mostOf R m 0)) × ChosenTo (before R m u until) (has a) limit i best) q p in
       told (c .small) (d .0)
       (choosing-done (before R m u until) (has a) limit (u .unplaced) (jobs R) best (in-job R valid l a (suc m) u h) (job-in R valid l a (suc m) u h) (d .1))
-
--- ---- the bit of a job
-
-pub bit-is : (a j n : ℕ) → n ≡ a / 2 ^ j → n % 2 ≡ 1 → has a j ≡ true
-bit-is a j n e q = eq-eqb (a / 2 ^ j % 2) 1 (subst (λ (k : ℕ). k % 2 ≡ 1) e q)
-
-pub bit-not : (a j n : ℕ) → n ≡ a / 2 ^ j → (n % 2 ≡ 1 → ⊥) → has a j ≡ false
-bit-not a j n e q = ne-eqb (a / 2 ^ j % 2) 1 (subst (λ (k : ℕ). k % 2 ≡ 1 → ⊥) e q)

@@ -33,7 +33,8 @@ use Rattle.least.specs.inside.Shown.{closesBy, keyBy, Ordered, Placed, S
 use Rattle.least.specs.inside.Entries.{Looked, kept, knownOf}
 use Rattle.least.specs.Effort.{mostOf}
 use Rattle.least.specs.inside.Outcome.{Named, Recalls, Lent, Offers, Came, Tried, entered}
-use Rattle.least.proofs.Showing.{ordered-later, shown-ordered, closes-shown, set-few, set-none, set-some, waited-shown, child-shown, job-in, in-job}
+use Rattle.vertex.proofs.Showing.{ordered-later, shown-ordered, closes-shown, set-few, set-none, set-some, child-shown, job-in, in-job}
+use Rattle.least.proofs.Falling.{waited-shown}
 use Rattle.least.proofs.Keyed.{key-named, named-recalls, recalls-none}
 use Rattle.least.proofs.Kept.{right-looked, right-kept}
 use Rattle.least.proofs.Counting.{came-stop, came-go, came-what, came-count, came-from, most-near, most-far, most-own}

@@ -24,7 +24,7 @@ use Rattle.least.specs.inside.Shown.{leadsBy, Shows}
 use Rattle.least.specs.Effort.{mostOf}
 use Rattle.least.specs.inside.Outcome.{Came, told, stopped}
 use Rattle.least.specs.inside.Readings.{Hit, hit, missed, FirstStart, first, nowhere}
-use Rattle.least.proofs.Showing.{leads-shown, job-in}
+use Rattle.vertex.proofs.Showing.{leads-shown, job-in}
 use Rattle.least.proofs.Counting.{came-stop, came-go, came-from}
 use Rattle.least.proofs.Trials.{gone}
 

@@ -1,6 +1,4 @@
-pub mod Showing
-pub mod Charging
-pub mod Rooting
+pub mod Falling
 pub mod Keyed
 pub mod Idling
 pub mod Kept

@@ -21,7 +21,7 @@ use Rattle.least.specs.inside.Shown.{Shows}
 use Rattle.least.specs.Effort.{mostOf}
 use Rattle.least.specs.inside.Outcome.{Came, told, stopped}
 use Rattle.least.specs.inside.Readings.{FirstStart, first, nowhere}
-use Rattle.least.proofs.Showing.{job-in, in-job}
+use Rattle.vertex.proofs.Showing.{job-in, in-job}
 use Rattle.least.proofs.Counting.{came-from}
 
 module _ (R : Recorder) (l : List ℕ) (a time goal start : ℕ) where

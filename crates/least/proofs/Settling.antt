@@ -6,8 +6,6 @@ use mathlib.Core.Option.{Option, none, some}
 use Prim.Native.Nat.{ℕ, zero, suc, _+_, _-_, _*_, _^_, _≤_, _<_}
 use native.Mathlib.Omega.{arith}
 use lib.ListN.{set, take, replicate, length, length-set, length-replicate}
-use Rattle.base.specs.Lists.{upFrom}
-use Rattle.base.specs.Sums.{total}
 use Rattle.schedule.specs.declared.Recorder.{Recorder}
 use Rattle.schedule.specs.Quantities.{jobs, deadline, run, Valid}
 use Rattle.schedule.specs.Listing.{Place, place, FirstLeast}
@@ -27,7 +25,8 @@ use Rattle.least.specs.inside.Shown.{leadsBy, Placed, Shows, Held}
 use Rattle.least.specs.Effort.{mostOf, mostVertices}
 use Rattle.least.specs.inside.Outcome.{Offers, Came, told, stopped, ReadOff, read}
 use Rattle.least.specs.inside.Readings.{Reads}
-use Rattle.least.proofs.Showing.{leads-shown, set-none, set-some}
+use Rattle.vertex.proofs.Roots.{set-all}
+use Rattle.vertex.proofs.Showing.{leads-shown, set-none, set-some}
 use Rattle.least.proofs.Counting.{came-what, came-count, most-children}
 use Rattle.least.proofs.Going.{child-shows}
 
@@ -48,18 +47,6 @@ take-same : (n k : ℕ) → n ≤ k → take {A = ℕ} n (replicate k 0) ≡ rep
 take-same zero k l = refl
 take-same (suc n) zero l = absurd (omega arith)
 take-same (suc n) (suc k) l = ap (λ (r : List ℕ). 0 ∷ r) (take-same n k (omega arith))
-
--- ---- the set of all jobs
-
-all-from : (lo k : ℕ) → total (λ j. 2 ^ j) (upFrom lo k) + 2 ^ lo ≡ 2 ^ (lo + k)
-all-from lo zero = let e : lo + 0 ≡ lo = omega arith in rw e (omega arith)
-all-from lo (suc k) = let e : lo + suc k ≡ suc lo + k = omega arith in rw e (omega (arith, all-from (suc lo) k))
-
-pub set-all : (R : Recorder) → setOf (root R .unplaced) ≡ 2 ^ jobs R - 1
-set-all R =
-    let e : 0 + jobs R ≡ jobs R = omega arith in
-    let w : setOf (root R .unplaced) + 1 ≡ 2 ^ jobs R = subst (λ (n : ℕ). setOf (upFrom 0 (jobs R)) + 1 ≡ 2 ^ n) e (all-from 0 (jobs R)) in
-    omega arith
 
 -- ---- one step
 

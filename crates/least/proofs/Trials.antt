@@ -29,7 +29,8 @@ use Rattle.extras.specs.inside.Tabled.{Tabled, riseAt, fallAt}
 use Rattle.least.specs.inside.Shown.{leadsBy, fallsBy, Shows, Held}
 use Rattle.least.specs.Effort.{mostOf}
 use Rattle.least.specs.inside.Outcome.{Came, told, stopped, Tried, passed, entered}
-use Rattle.least.proofs.Showing.{leads-shown, falls-shown, job-in, in-job}
+use Rattle.vertex.proofs.Showing.{leads-shown, job-in, in-job}
+use Rattle.least.proofs.Falling.{falls-shown}
 use Rattle.least.proofs.Counting.{came-stop, came-small, came-from}
 use Rattle.least.proofs.Choosing.{held-open, has-some, before}
 

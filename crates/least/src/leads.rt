@@ -1,7 +1,5 @@
-// The extras that a job adds before it starts, and those that the end adds; by how much the rest may fall from one start to the next; how long a vertex waits.
-use crate::cells::Cells;
+// By how much the rest may fall from one start of a job to the next; how long a vertex waits.
 use extras::Extras;
-use extras::extra_of;
 use flat::Flat;
 use flat::device_count;
 use flat::horizon_of;
@@ -9,74 +7,16 @@ use flat::is_round;
 use flat::is_used;
 use flat::numbers::sooner;
 use flat::numbers::wide;
-use vertex::leads::is_unused;
+use vertex::cells::Cells;
+use vertex::gaps::is_unused;
 ghost use mathlib.Core.Path.{_≡_};
 ghost use mathlib.Core.Bool.{cond};
 ghost use Prim.Native.Nat.{_+_, _-_, _<_, _≤_};
-ghost use Rattle.schedule.specs.Quantities.{device, uses};
+ghost use Rattle.schedule.specs.Quantities.{uses};
 ghost use Rattle.flat.specs.inside.Flat.{recorderOf};
-ghost use Rattle.vertex.specs.inside.Vertices.{unused};
-ghost use Rattle.keys.specs.inside.Keys.{extra};
+ghost use Rattle.vertex.specs.inside.Shown.{unused};
 ghost use Rattle.extras.specs.inside.Tabled.{Tabled, riseAt, fallAt};
-ghost use Rattle.least.specs.inside.Shown.{leadsBy, closesBy, fallsBy, Ordered};
-
-// What device k pays for the gap before job j, if it uses the device, where it starts at s.
-fn lead_with(r: &Flat, extras: &Extras, round: bool, k: usize, j: usize, end: u32, s: u32) -> u32
-    requires { ⌜ Tabled (recorderOf (now r)) (now extras) × ((k < recorderOf (now r) .devices .count) × ((j < 16) × ((end ≤ s) × (s ≤ recorderOf (now r) .horizon)))) ⌝ }
-    ensures { λ x. ⌜ (x ≡ cond (uses (recorderOf (now (r .entry))) k j) (cond (unused round end) 0 (extra (device (recorderOf (now (r .entry))) k) (s - end))) 0) × (x ≤ 268431360) ⌝ }
-{
-    if is_used(r, k, j) {
-        if is_unused(round, end) {
-            return 0;
-        }
-        return extra_of(extras, k, s - end);
-    }
-    0
-}
-
-// What all devices pay for the gaps before job j, where it starts at s.
-pub fn lead_of(r: &Flat, extras: &Extras, v: &Cells, j: usize, s: u32) -> u32
-    requires { ⌜ Tabled (recorderOf (now r)) (now extras) × ((j < 16) × Ordered (recorderOf (now r)) (now v) s) ⌝ }
-    ensures { λ x. ⌜ (x ≡ leadsBy (recorderOf (now (r .entry))) (now (v .entry)) j s) × (x ≤ 2147450880) ⌝ }
-{
-    let round = is_round(r);
-    let m = device_count(r);
-    let mut sum: u32 = 0;
-    let mut k: usize = 0;
-    while k < m {
-        sum += lead_with(r, extras, round, k, j, v[k], s);
-        k += 1;
-    }
-    sum
-}
-
-// What device k pays for the gap that closes its round.
-fn close_with(r: &Flat, extras: &Extras, round: bool, k: usize, h: u32, end: u32, first: u32) -> u32
-    requires { ⌜ Tabled (recorderOf (now r)) (now extras) × ((k < recorderOf (now r) .devices .count) × ((first ≤ end) × ((end ≤ h) × (h ≤ recorderOf (now r) .horizon)))) ⌝ }
-    ensures { λ x. ⌜ (x ≡ cond (unused round end) 0 (extra (device (recorderOf (now (r .entry))) k) (first + (h - end)))) × (x ≤ 268431360) ⌝ }
-{
-    if is_unused(round, end) {
-        return 0;
-    }
-    extra_of(extras, k, first + (h - end))
-}
-
-// What all devices pay for them.
-pub fn close_of(r: &Flat, extras: &Extras, v: &Cells) -> u32
-    requires { ⌜ Tabled (recorderOf (now r)) (now extras) × Ordered (recorderOf (now r)) (now v) (recorderOf (now r) .horizon) ⌝ }
-    ensures { λ x. ⌜ (x ≡ closesBy (recorderOf (now (r .entry))) (now (v .entry))) × (x ≤ 2147450880) ⌝ }
-{
-    let round = is_round(r);
-    let h = wide(horizon_of(r));
-    let m = device_count(r);
-    let mut sum: u32 = 0;
-    let mut k: usize = 0;
-    while k < m {
-        sum += close_with(r, extras, round, k, h, v[k], v[8 + k]);
-        k += 1;
-    }
-    sum
-}
+ghost use Rattle.least.specs.inside.Shown.{fallsBy, Ordered};
 
 // By how much device k can lower the rest, where job j starts one tick later.
 fn fall_with(r: &Flat, extras: &Extras, round: bool, k: usize, j: usize, end: u32) -> u32

@@ -1,5 +1,4 @@
 // The key of a vertex: all that what is still to pay depends on (value/specs/inside/Stored).
-use crate::cells::Cells;
 use extras::Extras;
 use flat::Flat;
 use flat::device_count;
@@ -7,7 +6,8 @@ use flat::horizon_of;
 use flat::is_round;
 use flat::numbers::sooner;
 use flat::numbers::wide;
-use vertex::leads::is_unused;
+use vertex::cells::Cells;
+use vertex::gaps::is_unused;
 ghost use mathlib.Core.Path.{_≡_};
 ghost use mathlib.Core.Bool.{cond};
 ghost use Prim.Native.Nat.{_+_, _-_, _*_, _<_, _≤_, min};

@@ -1,8 +1,4 @@
 // The schedule read off: at each vertex the first child whose lead and least are together the least of its parent.
-use crate::cells::Cells;
-use crate::cells::place;
-use crate::cells::root_of;
-use crate::leads::lead_of;
 use crate::search::NEVER;
 use crate::search::STOP;
 use crate::search::enter;
@@ -17,6 +13,10 @@ use flat::release_of;
 use flat::run_of;
 use latest::Table;
 use latest::power;
+use vertex::cells::Cells;
+use vertex::cells::place;
+use vertex::cells::root_of;
+use vertex::gaps::lead_of;
 ghost use mathlib.Core.Path.{_≡_};
 ghost use mathlib.Core.Bool.{true};
 ghost use mathlib.Core.Option.{some};

@@ -1,10 +1,6 @@
 // The search: least -> learn -> examine -> choices -> tries -> attempt -> enter -> least. It works out a number, the least extras to come of a vertex, as far as they
 // are below what is asked for. The parent is lent for reading, and a child is made only where no earlier start rules it out.
-use crate::cells::Cells;
-use crate::cells::place;
-use crate::leads::close_of;
 use crate::leads::fall_of;
-use crate::leads::lead_of;
 use crate::leads::wait_of;
 use crate::memory::Spot;
 use crate::memory::look;
@@ -22,6 +18,10 @@ use flat::release_of;
 use flat::run_of;
 use latest::Table;
 use latest::slot_of;
+use vertex::cells::Cells;
+use vertex::cells::place;
+use vertex::gaps::close_of;
+use vertex::gaps::lead_of;
 ghost use mathlib.Core.Path.{_≡_};
 ghost use mathlib.Core.Bool.{true, _||_};
 ghost use mathlib.Core.Option.{Option};

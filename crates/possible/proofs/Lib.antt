@@ -10,3 +10,4 @@ pub mod Tallies
 pub mod Walking
 pub mod Ending
 pub mod Figures
+pub mod Starts

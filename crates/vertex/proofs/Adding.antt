@@ -1,20 +1,19 @@
 -- Sums over the unplaced jobs: one job less, none left, all of them.
-use mathlib.Core.Path.{_≡_, refl, _∙_}
+use mathlib.Core.Path.{_≡_, refl, sym, ap, _∙_}
 use mathlib.Core.Bool.{Bool, true, false}
-use mathlib.Core.List.{List, [], _∷_}
+use mathlib.Core.List.{List, [], _∷_, map-id}
 use Prim.Native.Nat.{ℕ, zero, suc, _+_, _≤_, _<_}
 use native.Mathlib.Omega.{arith}
 use lib.ListN.{set, length, replicate}
-use Rattle.base.specs.Lists.{padded, upTo}
+use Rattle.base.specs.Lists.{padded, upTo, upFrom}
 use Rattle.base.specs.Sums.{total, sum}
 use Rattle.base.proofs.Additions.{total-append}
 use Rattle.base.proofs.Arrays.{getD-padded}
-use Rattle.base.proofs.Cases.{cond-cases}
 use Rattle.base.proofs.Numbers.{total-remove}
+use Rattle.base.proofs.Ranges.{upTo-map}
 use Rattle.schedule.specs.declared.Recorder.{Recorder}
-use Rattle.schedule.specs.Quantities.{jobs, run, uses}
-use Rattle.schedule.specs.Visiting.{ticks}
-use Rattle.vertex.specs.inside.Vertices.{flagged, unflagged, rest, unplaced, load, ahead}
+use Rattle.schedule.specs.Quantities.{jobs}
+use Rattle.vertex.specs.inside.Vertices.{flagged, unflagged, rest, unplaced}
 use Rattle.vertex.proofs.Flags.{among, none-upTo, flag-more}
 
 -- ---- one job less
@@ -29,9 +28,6 @@ none-left : (f : ℕ → ℕ) (u : List ℕ) → total (λ i. 1) u ≡ 0 → tot
 none-left f [] e = refl
 none-left f (i ∷ u) e = absurd (omega arith)
 
-pub rest-none : (R : Recorder) (m : List Bool) → unplaced R m ≡ 0 → (f : ℕ → ℕ) → rest R m f ≡ 0
-rest-none R m e f = none-left f (unflagged m (jobs R)) e
-
 -- ---- all of them
 
 no-flag : (j : ℕ) → flagged (replicate 16 false) j ≡ false
@@ -42,6 +38,9 @@ total-sum : (f : ℕ → ℕ) (n : ℕ) → total f (upTo (λ k. k) n) ≡ sum n
 unfolding upTo
 total-sum f zero = refl
 total-sum f (suc n) = omega (arith, total-append f (upTo (λ k. k) n) (n ∷ []), total-sum f n)
+
+pub total-up : (f : ℕ → ℕ) (n : ℕ) → sum n f ≡ total f (upFrom 0 n)
+total-up f n = sym (total-sum f n) ∙ ap (λ (u : List ℕ). total f u) (upTo-map (λ k. k) n ∙ map-id (upFrom 0 n))
 
 pub rest-all : (R : Recorder) (f : ℕ → ℕ) → rest R (replicate 16 false) f ≡ sum (jobs R) f
 rest-all R f = rw (none-upTo (replicate 16 false) no-flag (jobs R)) (total-sum f (jobs R))
@@ -58,7 +57,3 @@ unplaced-all R = rest-all R (λ j. 1) ∙ ones (jobs R)
 total-le : (f g : ℕ → ℕ) → ((j : ℕ) → f j ≤ g j) → (u : List ℕ) → total f u ≤ total g u
 total-le f g h [] = omega arith
 total-le f g h (j ∷ u) = omega (arith, h j, total-le f g h u)
-
-pub ahead-few : (R : Recorder) (m : List Bool) (k : ℕ) → ahead R m k ≤ load R m
-ahead-few R m k =
-    total-le (ticks R k) (run R) (λ j. cond-cases (λ (x : ℕ). x ≤ run R j) (uses R k j) (λ q. omega arith) (λ q. omega arith)) (unflagged m (jobs R))

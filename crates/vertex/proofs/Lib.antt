@@ -6,8 +6,10 @@ pub mod Soonest
 pub mod Offering
 pub mod Reading
 pub mod Marking
-pub mod Charging
-pub mod Placed
-pub mod Flooring
 pub mod Rooting
-pub mod Reaching
+pub mod Showing
+pub mod Charged
+pub mod Roots
+pub mod Lasting
+pub mod Ending
+pub mod Most

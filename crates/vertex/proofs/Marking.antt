@@ -25,15 +25,6 @@ module _ (l : List ℕ) (long : length l ≡ 49) (j s c : ℕ) (few : j < 16) wh
   unfolding marked
   marked-long = rw length-set started-long
 
-  -- The devices' numbers stay.
-  pub marked-row : (o n : ℕ) → o + n ≤ 24 → row o n (marked j s c l) ≡ row o n l
-  unfolding marked
-  marked-row o n b = row-other o n started 48 _ (λ i h e. omega (arith, b, h, e)) ∙ row-other o n l (24 + j) (s + 1) (λ i h e. omega (arith, b, h, e))
-
-  pub marked-firsts : row 40 8 (marked j s c l) ≡ row 40 8 l
-  unfolding marked
-  marked-firsts = row-other 40 8 started 48 _ (λ i h e. omega (arith, h, e)) ∙ row-other 40 8 l (24 + j) (s + 1) (λ i h e. omega (arith, few, h, e))
-
   marked-jobs : row 24 16 (marked j s c l) ≡ row 24 16 started
   unfolding marked
   marked-jobs = row-other 24 16 started 48 _ (λ i h e. omega (arith, h, e))

@@ -11,7 +11,7 @@ use Rattle.schedule.specs.Quantities.{Valid, jobs, run, deadline}
 use Rattle.vertex.specs.declared.dues.Dues.{Dues}
 use Rattle.vertex.specs.inside.Vertices.{flagged, load, cutA}
 use Rattle.vertex.specs.inside.Layout.{placedOf}
-use Rattle.vertex.specs.inside.Sums.{due, dueFor, limitFor, latest, Loaded, Spared, Fitting, Offered}
+use Rattle.vertex.specs.inside.Sums.{due, dueFor, limitFor, latest, Loaded, Spared, Offered}
 use Rattle.vertex.proofs.Adding.{rest-less}
 use Rattle.vertex.proofs.Limits.{cut-latest}
 use Rattle.vertex.proofs.Reading.{placed-long}
@@ -64,9 +64,6 @@ module _ (R : Recorder) (ok : Valid R) (l : List ℕ) (n y j s : ℕ) (o : Offer
       ∙ ap (λ (z : ℕ). ltb z (s + run R j)) (sym (o .limit))
 
   -- and a child that it spares leaves room for the other jobs.
-  pub fitting : s + run R j ≤ y → Fitting R l j s
-  unfolding latest
-  fitting h = record { known = o .known; free = o .free; fits = omega (arith, o .limit, o .small, h) }
-
   pub child-spared : (time : ℕ) → time ≡ s + run R j → time ≤ y → (w : List ℕ) → placedOf w ≡ set (placedOf l) j true → Spared R w time n
-  child-spared time et h w e = record { left = rw e (o .left); fits = rw e (omega (arith, et, fitting (omega (arith, et)) .fits)) }
+  unfolding latest
+  child-spared time et h w e = record { left = rw e (o .left); fits = rw e (omega (arith, et, o .limit, o .small, h)) }

@@ -5,7 +5,6 @@ use mathlib.Core.List.{List}
 use Prim.Native.Nat.{ℕ, _+_, _-_, _<_, _≤_}
 use native.Mathlib.Omega.{arith}
 use native.Mathlib.Decide.{ℕ-discrete}
-use native.Mathlib.Nat.{zero-add}
 use lib.Dec.{eqb}
 use lib.ListN.{getD, set, length, length-set}
 use lib.Seq.{getD-set-same, getD-set-other}
@@ -40,17 +39,6 @@ store-of f d o n l k x h m =
       | yes e ↦ rw e (ap f (getD-set-same l (o + k) x 0 m) ∙ sym (getD-set-same told k (f x) d (rw long h)))
       | no q ↦ ap f (getD-set-other l (o + k) (o + i) x 0 (λ (e : o + i ≡ o + k). q (omega (arith, e)))) ∙ sym (getD-upTo (λ i. f (getD l (o + i) 0)) n i d b) ∙ sym (getD-set-other told k i (f x) d q)
     ])
-
-pub row-store : (o n : ℕ) (l : List ℕ) (k x : ℕ) → k < n → o + k < length l → row o n (set l (o + k) x) ≡ set (row o n l) k x
-unfolding row
-row-store o n l k x h m = store-of (λ y. y) 0 o n l k x h m
-
--- The ends stand at the front.
-pub end-cell : (l : List ℕ) (k : ℕ) → k < 8 → getD (row 0 8 l) k 0 ≡ getD l k 0
-end-cell l k h = row-at 0 8 l k h ∙ ap (λ (i : ℕ). getD l i 0) (zero-add k)
-
-pub end-store : (l : List ℕ) (k x : ℕ) → k < 8 → length l ≡ 49 → row 0 8 (set l k x) ≡ set (row 0 8 l) k x
-end-store l k x h m = ap (λ (i : ℕ). row 0 8 (set l i x)) (sym (zero-add k)) ∙ row-store 0 8 l k x h (omega arith)
 
 -- ---- the jobs: whether they are placed, and their starts
 

@@ -1,5 +1,5 @@
 -- The root: its numbers, and that the sums stored there are those of all jobs.
-use mathlib.Core.Path.{_≡_, refl, sym, ap, _∙_, subst}
+use mathlib.Core.Path.{_≡_, refl, sym, _∙_}
 use mathlib.Core.Bool.{Bool, true, false, cond}
 use mathlib.Core.List.{List}
 use Prim.Native.Nat.{ℕ, zero, suc, _+_, _≤_, _<_}
@@ -11,17 +11,15 @@ use borrow.Author.Tests.{lt-ltb, le-ltb}
 use Rattle.base.specs.Lists.{upTo}
 use Rattle.base.specs.Loops.{each}
 use Rattle.base.specs.Sums.{sum}
-use Rattle.base.proofs.Stores.{stored-at}
 use Rattle.schedule.specs.declared.Recorder.{Recorder}
 use Rattle.schedule.specs.Quantities.{Valid, jobs, run}
 use Rattle.schedule.specs.Visiting.{ticks}
-use Rattle.vertex.specs.inside.Vertices.{load, ahead, late, cutA, storing, root, Settled}
-use Rattle.vertex.specs.inside.Layout.{row, placedOf, startsIn, vertexOf, rootCells}
-use Rattle.vertex.specs.inside.Sums.{latest, Holds, Spared}
+use Rattle.vertex.specs.inside.Vertices.{load, late, cutA}
+use Rattle.vertex.specs.inside.Layout.{row, placedOf, startsIn, rootCells}
+use Rattle.vertex.specs.inside.Sums.{latest, Loaded, Spared}
 use Rattle.vertex.proofs.Adding.{rest-all, unplaced-all}
-use Rattle.vertex.proofs.Charging.{root-settled}
 use Rattle.vertex.proofs.Limits.{cut-latest}
-use Rattle.vertex.proofs.Reading.{row-at, row-other, row-store, placed-same, starts-same}
+use Rattle.vertex.proofs.Reading.{row-other, placed-same, starts-same}
 
 abbrev fresh : ℕ → List ℕ
 fresh x = set (replicate 49 0) 48 x
@@ -33,26 +31,17 @@ module _ (R : Recorder) where
   -- The numbers once the first k devices have their ticks.
   record Rooted (k : ℕ) (l : List ℕ) : Type 0 where
     pub long : length l ≡ 49
-    pub ends : row 0 8 l ≡ replicate 8 0
-    pub paid : row 8 8 l ≡ replicate 8 0
-    pub firsts : row 40 8 l ≡ replicate 8 0
-    pub ticks : row 16 8 l ≡ each (storing coming) k (replicate 8 0)
     pub load : getD l 48 0 ≡ sum (jobs R) (run R)
     pub jobs : row 24 16 l ≡ row 24 16 (replicate 49 0)
 
   rooted-none : Rooted 0 (fresh (sum (jobs R) (run R)))
-  unfolding each row upTo
-  rooted-none = record { long = refl; ends = refl; paid = refl; firsts = refl; ticks = refl; jobs = refl; load = refl }
+  unfolding row upTo
+  rooted-none = record { long = refl; jobs = refl; load = refl }
 
   rooted-more : (k : ℕ) (l : List ℕ) → k < 8 → Rooted k l → Rooted (suc k) (set l (16 + k) (coming k))
-  unfolding each
   rooted-more k l b p =
       record {
         long = rw length-set (p .long);
-        ends = row-other 0 8 l (16 + k) (coming k) (λ i c e. omega (arith, c, e)) ∙ p .ends;
-        paid = row-other 8 8 l (16 + k) (coming k) (λ i c e. omega (arith, c, e)) ∙ p .paid;
-        firsts = row-other 40 8 l (16 + k) (coming k) (λ i c e. omega (arith, b, c, e)) ∙ p .firsts;
-        ticks = row-store 16 8 l k (coming k) b (omega (arith, p .long)) ∙ ap (λ (r : List ℕ). set r k (coming k)) (p .ticks);
         jobs = row-other 24 16 l (16 + k) (coming k) (λ i c e. omega (arith, c, e)) ∙ p .jobs;
         load = getD-set-other l (16 + k) 48 (coming k) 0 (λ (e : 48 ≡ 16 + k). omega (arith, b, e)) ∙ p .load;
       }
@@ -75,26 +64,14 @@ module _ (R : Recorder) where
     unfolding startsIn upTo
     root-starts = starts-same (rootCells R) (replicate 49 0) (rooted .jobs) 16 (omega arith)
 
-    pub root-is : vertexOf (rootCells R) 0 ≡ root
-    unfolding vertexOf
-    root-is = rw (rooted .ends, rooted .paid, rooted .firsts, root-starts, root-placed)
-
-    pub root-holds : Holds R (rootCells R) 0
-    root-holds =
-        record {
-          loaded = record { long = rooted .long; load = rw (root-placed) (rooted .load ∙ sym (rest-all R (run R))) };
-          settled = subst (Settled R) (sym root-is) (root-settled R);
-          ticks =
-              λ k b. sym (row-at 16 8 (rootCells R) k (omega (arith, ok .few-devices))) ∙ ap (λ (r : List ℕ). getD r k 0) (rooted .ticks)
-              ∙ stored-at coming (R .devices .count) (replicate 8 0) k 0 b (omega (arith, ok .few-devices)) ∙ sym (rest-all R (ticks R k))
-              ∙ ap (λ (m : List Bool). ahead R m k) (sym (root-placed));
-        }
+    pub root-loaded : Loaded R (rootCells R)
+    root-loaded = record { long = rooted .long; load = rw (root-placed) (rooted .load ∙ sym (rest-all R (run R))) }
 
     pub root-load : getD (rootCells R) 48 0 ≡ sum (jobs R) (run R)
     root-load = rooted .load
 
     pub root-spared : getD (rootCells R) 48 0 ≤ R .horizon → Spared R (rootCells R) 0 (jobs R)
-    root-spared h = record { left = rw (root-placed) (sym (unplaced-all R)); fits = omega (arith, h, root-holds .loaded .load) }
+    root-spared h = record { left = rw (root-placed) (sym (unplaced-all R)); fits = omega (arith, h, root-loaded .load) }
 
 -- Cut A at the root, where x is the running time of all jobs.
 module _ (R : Recorder) (ok : Valid R) (x : ℕ) (ex : x ≡ sum (jobs R) (run R)) where

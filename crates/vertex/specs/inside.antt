@@ -1,4 +1,5 @@
+pub mod Lasts
 pub mod Layout
-pub mod Reachable
+pub mod Shown
 pub mod Sums
 pub mod Vertices

@@ -11,8 +11,9 @@ ghost use mathlib.Core.Path.{_≡_};
 ghost use mathlib.Core.Bool.{true};
 ghost use Prim.Native.Nat.{ℕ, _<_, _≤_};
 ghost use lib.ListN.{set};
-ghost use Rattle.schedule.specs.Quantities.{Valid};
+ghost use Rattle.schedule.specs.Quantities.{Valid, jobs};
 ghost use Rattle.flat.specs.inside.Flat.{recorderOf};
+ghost use Rattle.vertex.specs.inside.Lasts.{TwoLeast};
 ghost use Rattle.vertex.specs.inside.Layout.{placedOf};
 ghost use Rattle.vertex.specs.inside.Sums.{due, dueWith, dueFor, limitFor};
 
@@ -60,6 +61,30 @@ pub fn dues_of(r: &Flat, v: &Cells) -> Dues
             let last = wide(deadline_of(r, i)) - wide(run_of(r, i));
             dues = due_with(dues, JobNumber(i), last);
         }
+        i += 1;
+    }
+    dues
+}
+
+// The two smallest over the jobs of a set.
+pub fn dues_in(r: &Flat, set: usize) -> Dues
+    requires { ⌜ Valid (recorderOf (now r)) ⌝ }
+    ensures { λ x. ⌜ TwoLeast (recorderOf (now (r .entry))) set (jobs (recorderOf (now (r .entry)))) x ⌝ }
+{
+    let n = job_count(r);
+    let mut dues = Dues {
+        at: JobNumber(0),
+        first: 65536,
+        second: 65536,
+    };
+    let mut rest = set;
+    let mut i = 0;
+    while i < n {
+        if rest % 2 == 1 {
+            let last = wide(deadline_of(r, i)) - wide(run_of(r, i));
+            dues = due_with(dues, JobNumber(i), last);
+        }
+        rest = rest / 2;
         i += 1;
     }
     dues

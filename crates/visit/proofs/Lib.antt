@@ -1,7 +1,7 @@
-pub mod Agreement
-pub mod Budget
-pub mod Order
+pub mod Visits
+pub mod Offering
+pub mod Telling
 pub mod Going
-pub mod Bests
+pub mod Entering
 pub mod Rooted
-pub mod Ending
+pub mod Finding

@@ -1,49 +1,146 @@
--- The visit of the root.
-use mathlib.Core.Path.{_≡_, refl, sym, ap, _∙_, subst}
-use mathlib.Core.Bool.{true, false}
+-- The root: what the tally tells before it, and what its visit comes to.
+use mathlib.Core.Path.{_≡_, refl, sym, _∙_, subst}
+use mathlib.Core.Bool.{Bool, true, false, _||_}
 use mathlib.Core.List.{List}
-use Prim.Native.Nat.{ℕ, _≤_, _<_}
+use mathlib.Core.Option.{Option, none, some}
+use Prim.Native.Nat.{ℕ, suc, _+_, _-_, _^_, _≤_, _<_}
 use native.Mathlib.Omega.{arith}
-use lib.ListN.{getD, replicate}
-use Rattle.base.specs.Lists.{upTo}
-use Rattle.base.specs.Sums.{sum}
+use lib.ListN.{getD, set, length}
+use borrow.Author.Tests.{lt-ltb, le-ltb}
+use Rattle.base.specs.Lists.{upFrom, upTo}
+use Rattle.base.specs.Sums.{total, sum}
+use Rattle.base.proofs.Arrays.{upTo-whole}
+use Rattle.base.proofs.Numbers.{up-in, in-up}
 use Rattle.schedule.specs.declared.Recorder.{Recorder}
 use Rattle.schedule.specs.Quantities.{Valid, jobs, run}
-use Rattle.vertex.specs.inside.Vertices.{Vertex, root}
-use Rattle.vertex.specs.inside.Layout.{row, vertexOf, rootCells}
-use Rattle.vertex.proofs.Rooting.{root-is, root-load, root-late, root-uncut}
-use Rattle.visit.specs.inside.Steps.{Tally, Run, cutB, counting, bare, visitOf, searched, capped}
-use Rattle.visit.specs.inside.Lent.{tallyOf, ran, below}
-use Rattle.visit.proofs.Budget.{capped-over}
-use Rattle.visit.proofs.Order.{visit-counts, cut-counts, entered-below}
-use Rattle.visit.proofs.Going.{ran-ends}
+use Rattle.schedule.specs.Visiting.{Visited, root, startsOf, cutA, cutB, late, counted, planEnergy, choices, visited}
+use Rattle.schedule.specs.Visiting as order
+use Rattle.schedule.proofs.Outcome.{visited-first}
+use Rattle.schedule.proofs.Tree.{Reached, root-reached}
+use Rattle.latest.specs.inside.Sparing.{setOf}
+use Rattle.keys.proofs.Rises.{energy-complete, ticks-by}
+use Rattle.vertex.specs.inside.Shown.{aheadAt, loadAt, closesBy, idleFloor, Shows}
+use Rattle.vertex.proofs.Ending.{floor-idle}
+use Rattle.vertex.proofs.Lasting.{none-late}
+use Rattle.vertex.proofs.Roots.{set-all}
+use Rattle.vertex.proofs.Showing.{some-suc, closes-shown}
+use Rattle.visit.specs.inside.Lent.{countAt, energyAt, bestAt, Bests, Tells, Came, done, over, Stands, entered}
+use Rattle.visit.specs.inside.Offers.{Offered}
+use Rattle.visit.proofs.Telling.{tells-counted, tells-offered}
+use Rattle.visit.proofs.Visits.{visit-grows, visit-cut, visit-entered}
 
-pub fresh-tally : tallyOf (replicate 19 0) ≡ bare 0
-unfolding tallyOf row upTo
-fresh-tally = refl
+-- Nothing is counted yet.
+abbrev pub bare : Visited
+bare = record { count = 0; best = none }
 
-module _ (R : Recorder) (ok : Valid R) (b : ℕ) where
-  pub root-over : b ≡ 0 → (m : List ℕ) → ran b true m ≡ capped b (searched R)
-  unfolding ran searched
-  root-over e m = sym (capped-over b (visitOf R (jobs R) root (bare 0)) (omega (arith, visit-counts R (jobs R) root (bare 0))))
+module _ (R : Recorder) (budget : ℕ) where
+  pub root-tells : (l : List ℕ) → length l ≡ 34 → countAt l ≡ 0 → energyAt l ≡ 4294967295 → Tells R budget l (root R) bare
+  unfolding Bests
+  root-tells l long count energy =
+      record { long = long; count = count; best = energy; path = λ j b ne. absurd (ne (up-in 0 (jobs R) j (omega arith) (omega arith))); within = omega arith }
 
-  -- The root is counted, which makes m of the tally t, and v are its numbers.
-  module _ (some : b ≡ 0 → ⊥) (t m : List ℕ) (et : tallyOf t ≡ bare 0) (em : tallyOf m ≡ counting (tallyOf t)) (v : List ℕ) (ev : v ≡ rootCells R) where
-    counted-is : tallyOf m ≡ counting (bare 0)
-    counted-is = em ∙ ap (λ (y : Tally). counting y) et
+  pub root-over : budget ≡ 0 → (l : List ℕ) → Came R budget l (root R) (visited R) true
+  unfolding visited
+  root-over e l = over (omega (arith, e, visit-grows R (jobs R) (root R) bare))
 
-    load-is : getD v 48 0 ≡ sum (jobs R) (run R)
-    load-is = rw ev (root-load R ok)
+  either : (b c : Bool) → c ≡ true → (b || c) ≡ true
+  either true c e = refl
+  either false c e = e
 
-    pub root-cut : R .horizon < getD v 48 0 → ran b false m ≡ capped b (searched R)
-    unfolding searched
-    root-cut h =
-        let c : visitOf R (jobs R) root (bare 0) ≡ counting (bare 0) = cut-counts R root (bare 0) (root-late R ok (getD v 48 0) load-is h) (jobs R) in
-        ran-ends b m (visitOf R (jobs R) root (bare 0)) (counted-is ∙ sym c) (subst (λ (y : Tally). y .count ≤ b) (sym c) (omega (arith, some)))
+  neither : (b c : Bool) → b ≡ false → c ≡ false → (b || c) ≡ false
+  neither b c e f = rw (e, f)
 
-    pub root-enters : getD v 48 0 ≤ R .horizon → (n : ℕ) → n ≡ jobs R → (r : Run) → r ≡ capped b (below R n (vertexOf v 0) (tallyOf m)) → r ≡ capped b (searched R)
-    unfolding searched cutB
-    root-enters h n en r er =
-        er ∙ ap (λ (i : ℕ). capped b (below R i (vertexOf v 0) (tallyOf m))) en ∙ ap (λ (l : List ℕ). capped b (below R (jobs R) (vertexOf l 0) (tallyOf m))) ev
-        ∙ ap (λ (w : Vertex). capped b (below R (jobs R) w (tallyOf m))) (root-is R ok) ∙ ap (λ (y : Tally). capped b (below R (jobs R) root y)) counted-is
-        ∙ ap (capped b) (sym (entered-below R root (bare 0) (root-uncut R ok (getD v 48 0) load-is h) refl (jobs R)))
+  module _ (valid : Valid R) (l : List ℕ) (shows : Shows R l (setOf (root R .unplaced)) (jobs R) (root R)) where
+    cut-root : R .horizon < loadAt l → cutA R (root R) ≡ true
+    unfolding cutA
+    cut-root h = either (late R 0 (upFrom 0 (jobs R))) _ (lt-ltb (R .horizon) (0 + total (run R) (upFrom 0 (jobs R))) (omega (arith, h, shows .load)))
+
+    module _ (room : loadAt l ≤ R .horizon) where
+      uncut-root : cutA R (root R) ≡ false
+      unfolding cutA
+      uncut-root =
+          neither (late R 0 (upFrom 0 (jobs R))) _
+          (none-late R valid 0 0 (upFrom 0 (jobs R)) (λ i w. omega (arith, in-up 0 (jobs R) i w)) (λ i w. omega arith))
+          (le-ltb (R .horizon) (0 + total (run R) (upFrom 0 (jobs R))) (omega (arith, room, shows .load)))
+
+      pub root-aheads : (k : ℕ) → k < R .devices .count → aheadAt l k ≤ R .horizon
+      root-aheads k b = omega (arith, shows .aheads k b, ticks-by R k (upFrom 0 (jobs R)), room, shows .load)
+
+      module _ (tally x : List ℕ) (tells : Tells R budget tally (root R) bare) (less : 0 < budget) (x-is : x ≡ set tally 0 (countAt tally + 1)) where
+        tells-one : Tells R budget x (root R) (counted bare)
+        tells-one = rw x-is (tells-counted R budget tally (root R) bare tells (omega (arith, less, tells .count)))
+
+        visited-is : visited R ≡ entered R (jobs R) (root R) (counted bare)
+        unfolding visited cutB
+        visited-is = visit-entered R (jobs R) (root R) bare uncut-root refl
+
+        pub root-complete :
+            jobs R ≡ 0 → (f e : ℕ) → f ≡ sum (R .devices .count) (idleFloor R l) → e ≡ f + closesBy R l → e < 4294967295 → (y : List ℕ) → Offered e x y → Came R budget y (root R) (visited R) false
+        root-complete none-left f e f-is e-is small y o =
+            let r : Reached R 0 (root R) = subst (λ (n : ℕ). Reached R n (root R)) none-left (root-reached R valid) in
+            let is : e ≡ planEnergy R (startsOf R (root R)) = omega (arith, e-is, f-is, floor-idle R l valid shows, closes-shown R valid l _ _ (root R) shows, energy-complete R valid (root R) r) in
+            done (subst (Tells R budget y (root R)) (sym visited-is)
+            (subst (λ (n : ℕ). Tells R budget y (root R) (entered R n (root R) (counted bare))) (sym none-left)
+            (tells-offered R budget (root R) r (valid .few-jobs) x y e (counted bare) is small o tells-one)))
+
+        -- With jobs to place its children are examined.
+        pub root-some : (jobs R ≡ 0 → ⊥) → (n : ℕ) × (jobs R ≡ suc n)
+        root-some ne = some-suc (jobs R) ne
+
+        pub root-stands : (n : ℕ) → jobs R ≡ suc n → (a f : ℕ) → a ≡ 2 ^ jobs R - 1 → f ≡ sum (R .devices .count) (idleFloor R l) → Stands R l a f n (root R)
+        root-stands n e a f a-is f-is =
+            record {
+              shows = subst (λ (k : ℕ). Shows R l k (suc n) (root R)) (set-all R ∙ sym a-is) (subst (λ (k : ℕ). Shows R l (setOf (root R .unplaced)) k (root R)) e shows);
+              floor-is = sym (floor-idle R l valid shows) ∙ sym f-is;
+              spared = uncut-root;
+            }
+
+        pub root-one : Tells R budget x (root R) (counted bare)
+        root-one = tells-one
+
+        pub root-came : (n : ℕ) → jobs R ≡ suc n → (y : List ℕ) (b : Bool) → Came R budget y (root R) (choices R (order.visit R n) (root R) (counted bare)) b → Came R budget y (root R) (visited R) b
+        unfolding entered
+        root-came n e y b c =
+            subst (λ (z : Visited). Came R budget y (root R) z b) (sym visited-is)
+            (subst (λ (k : ℕ). Came R budget y (root R) (entered R k (root R) (counted bare)) b) (sym e) c)
+
+    pub root-cut :
+        R .horizon < loadAt l → (tally x : List ℕ) → Tells R budget tally (root R) bare → 0 < budget → x ≡ set tally 0 (countAt tally + 1) → Came R budget x (root R) (visited R) false
+    unfolding visited
+    root-cut h tally x tells less x-is =
+        done (subst (Tells R budget x (root R)) (sym (visit-cut R (jobs R) (root R) bare (cut-root h))) (rw x-is (tells-counted R budget tally (root R) bare tells (omega (arith, less, tells .count)))))
+
+  -- ---- what is read off the tally in the end
+
+  module _ (l : List ℕ) (tells : Tells R budget l (root R) (visited R)) where
+    none-or : (o : Option (List ℕ)) → Bests R l o → energyAt l ≡ 4294967295 → o ≡ none
+    unfolding Bests
+    none-or none b e = refl
+    none-or (some s) b e = absurd (omega (arith, b .1, e))
+
+    pub best-none : energyAt l ≡ 4294967295 → visited R .best ≡ none
+    best-none e = none-or (visited R .best) (tells .best) e
+
+    -- The best, its energy and its starts.
+    pub record Holding : Type 0 where
+      pub starts : List ℕ
+      pub best : visited R .best ≡ some starts
+      pub energy : energyAt l ≡ planEnergy R starts
+      pub long : length starts ≡ jobs R
+      pub same : (j : ℕ) → j < jobs R → bestAt l j ≡ getD starts j 0
+
+    holding-of : (o : Option (List ℕ)) → visited R .best ≡ o → Bests R l o → (energyAt l ≡ 4294967295 → ⊥) → Holding
+    unfolding Bests
+    holding-of none e b ne = absurd (ne b)
+    holding-of (some s) e b ne = record { starts = s; best = e; energy = b .0; long = b .2; same = b .3 }
+
+    pub best-held : (energyAt l ≡ 4294967295 → ⊥) → Holding
+    best-held ne = holding-of (visited R .best) refl (tells .best) ne
+
+    module _ (h : Holding) where
+      pub starts-are : upTo (bestAt l) (jobs R) ≡ h .starts
+      starts-are = upTo-whole (bestAt l) (h .starts) 0 (jobs R) (h .long) (h .same)
+
+      -- They fit their type: they are feasible.
+      pub starts-fit : Valid R → (j : ℕ) → j < jobs R → bestAt l j < 65536
+      starts-fit valid j b = omega (arith, h .same j b, visited-first R valid (h .starts) (h .best) .feasible .in-time j b, valid .ends j b, valid .few-ticks)

@@ -1,4 +1,4 @@
-//! Plans requests of some million vertices with three plain searches in Rust and with the proved search,
+//! Plans requests of some million vertices with four plain searches in Rust and with the proved search,
 //! and prints vertices per second of each and the proved one's ratio to each plain one. Then how long it
 //! takes to say whether there is any plan, by a visit and by sets of jobs, beside the search for the
 //! cheapest; and of both by the number of jobs.
@@ -76,6 +76,9 @@ fn racers() -> Vec<Racer> {
         }),
         racer("shaped", |file, budget| {
             rivals::shaped::search(file, budget).into()
+        }),
+        racer("lean", |file, budget| {
+            rivals::lean::search(file, budget).into()
         }),
         #[cfg(feature = "before")]
         racer("before", proved::before),

@@ -140,7 +140,7 @@ mod tests {
     use super::*;
     use outside::oracle::request::read;
     use outside::oracle::visit::visit;
-    use outside::rivals::{anew, carried, shaped};
+    use outside::rivals::{anew, carried, lean, shaped};
 
     /// The race is about these vertices: the plain searches must count and find what the oracle's
     /// visit does, on the very requests that are raced.
@@ -150,6 +150,7 @@ mod tests {
             let found = anew::search(&request.file, u32::MAX);
             assert_eq!(carried::search(&request.file, u32::MAX), found);
             assert_eq!(shaped::search(&request.file, u32::MAX), found);
+            assert_eq!(lean::search(&request.file, u32::MAX), found);
             let visited = visit(&read(&request.file).unwrap(), u64::MAX);
             assert_eq!(u64::from(found.count), visited.count, "{}", request.name);
             assert_eq!(Some(found.energy.into()), visited.best, "{}", request.name);

@@ -1,15 +1,18 @@
-//! The benchmark's plain searches, written as fast Rust without a proof. Three make the same visit as the
-//! proved search; the fourth counts nothing, and works out what the proved `least_plan` does.
+//! The benchmark's plain searches, written as fast Rust without a proof. Four make the same visit as the
+//! proved search; the fifth counts nothing, and works out what the proved `least_plan` does.
 //!
 //! - `anew` adds both sums (rules 43 and 46) anew at every vertex: the running times of all unplaced
 //!   jobs, and for each device the ticks that unplaced jobs will use it.
 //! - `carried` keeps both sums in one vertex: placing a job and taking it back keep them right.
-//! - `shaped` takes the steps of the proved search: it reads the parent, knows cut A by one
-//!   comparison, and makes the child only where no cut drops it.
+//! - `shaped` reads the parent, knows cut A by one comparison, and makes the child only where no cut
+//!   drops it.
+//! - `lean` takes the steps of the proved search: beyond that it carries the floor as one number, makes
+//!   no complete vertex, and only counts a job's starts from where on all are cut.
 //! - `remembering` takes the steps of the proved `least_plan`, with a memory that is lent.
 
 pub mod anew;
 pub mod carried;
+pub mod lean;
 pub mod remembering;
 pub mod shaped;
 
@@ -259,6 +262,7 @@ mod tests {
                 assert_eq!(anew::search(&file, budget), expected, "case {number}");
                 assert_eq!(carried::search(&file, budget), expected, "case {number}");
                 assert_eq!(shaped::search(&file, budget), expected, "case {number}");
+                assert_eq!(lean::search(&file, budget), expected, "case {number}");
             }
         }
     }

@@ -10,8 +10,8 @@ use Rattle.base.specs.Loops.{each}
 use Rattle.schedule.specs.declared.Recorder.{Recorder}
 use Rattle.schedule.specs.Quantities.{jobs, run, deadline}
 use Rattle.vertex.specs.declared.dues.Dues.{Dues}
-use Rattle.vertex.specs.inside.Vertices.{flagged, unplaced, load, ahead, Settled}
-use Rattle.vertex.specs.inside.Layout.{placedOf, vertexOf}
+use Rattle.vertex.specs.inside.Vertices.{flagged, unplaced, load}
+use Rattle.vertex.specs.inside.Layout.{placedOf}
 
 -- ---- how late a vertex may be
 
@@ -55,12 +55,6 @@ pub record Spared (R : Recorder) (l : List ℕ) (t n : ℕ) : Type 0 where
   pub left : n ≡ unplaced R (placedOf l)
   pub fits : t + load R (placedOf l) ≤ R .horizon
 
--- Job j is unplaced, and a child of the vertex that places it at s has room for the other jobs.
-pub record Fitting (R : Recorder) (l : List ℕ) (j s : ℕ) : Type 0 where
-  pub known : j < jobs R
-  pub free : flagged (placedOf l) j ≡ false
-  pub fits : s + run R j + load R (set (placedOf l) j true) ≤ R .horizon
-
 -- A child that places job j at s, before cut A: n jobs are unplaced then, for which the horizon has room, and y is the latest time of such a child.
 pub record Offered (R : Recorder) (l : List ℕ) (n y j s : ℕ) : Type 0 where
   pub known : j < jobs R
@@ -69,12 +63,3 @@ pub record Offered (R : Recorder) (l : List ℕ) (n y j s : ℕ) : Type 0 where
   pub left : n ≡ unplaced R (set (placedOf l) j true)
   pub small : load R (set (placedOf l) j true) ≤ R .horizon
   pub limit : y ≡ latest R (set (placedOf l) j true)
-
--- ---- the devices
-
--- The numbers hold a vertex as it stands at the time t, and both sums over its unplaced jobs: their running times, and for each device the ticks for which they will
--- use it.
-pub record Holds (R : Recorder) (l : List ℕ) (t : ℕ) : Type 0 where
-  pub loaded : Loaded R l
-  pub settled : Settled R (vertexOf l t)
-  pub ticks : (k : ℕ) → k < R .devices .count → getD l (16 + k) 0 ≡ ahead R (placedOf l) k

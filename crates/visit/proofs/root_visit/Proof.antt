@@ -1,44 +1,115 @@
 -- `visit::root_visit` meets its contract.
-use mathlib.Core.Path.{ap, _∙_}
-use Prim.Native.Nat.{_≤_}
+use mathlib.Core.Path.{refl, sym, ap, _∙_}
+use Prim.Native.Nat.{ℕ, _+_, _≤_, _<_}
 use native.Mathlib.Omega.{arith}
-use lib.ListN.{getD}
-use Rattle.flat.specs.inside.Flat.{recorderOf}
-use Rattle.vertex.proofs.Rooting.{root-spared}
-use Rattle.vertex.specs.inside.Reachable.{from-root}
-use Rattle.visit.specs.inside.Steps.{Tally}
-use Rattle.visit.proofs.Rooted.{root-over, root-cut, root-enters}
 use borrow.Author.Needs.{needs}
+use Rattle.schedule.specs.Visiting.{root, counted}
+use Rattle.flat.specs.inside.Flat.{recorderOf}
+use Rattle.vertex.specs.inside.Shown.{loadAt}
+use Rattle.vertex.proofs.Showing.{ordered-later, shown-ordered}
+use Rattle.visit.proofs.Rooted.{bare, root-tells, root-over, root-cut, root-aheads, root-complete, root-some, root-stands, root-one, root-came}
+use Rattle.visit.proofs.Telling.{counted-less}
 use Rattle.visit.proofs.root_visit.Statement.{statement}
 use Rattle.visit.proofs.root_visit.Tie as tie
 
 returns : tie.Need-returns
-returns c = root-over _ (c .before .pre .0 .valid) _ (c .if1 .taken) _
+returns c = root-over _ _ (c .if1 .taken) _
 
 count-one-requires : tie.Need-count-one-requires
-count-one-requires c κs = (c .before .before .pre .1 .0, omega (arith, ap (λ (t : Tally). t .count) (c .before .before .pre .1 .1)))
+count-one-requires c κs = let s = c .before .before in (s .pre .1 .0, omega (arith, s .pre .1 .1 .0))
 
 root-of-requires : tie.Need-root-of-requires
 root-of-requires c κs = c .before .before .before .pre .0 .valid
 
 returns-2 : tie.Need-returns-2
 returns-2 c =
-    let start = c .before .before .before .before .before .before .before in
-    root-cut _ (start .pre .0 .valid) _ (c .before .before .before .before .before .before .if1 .left) _ _ (start .pre .1 .1) (c .before .before .before .before .count-one .ensures .0) _ (c .before .before .before .root-of .ensures) (omega (arith, c .if2 .taken, (c .before .wide .ensures .0 ∙ c .before .before .horizon-of .ensures)))
+    let k = c .before .before .before .before in
+    let s = k .before .before .before in
+    let R = recorderOf (s .args .r .now) in
+    root-cut R (s .args .budget) (s .pre .0 .valid) _ (c .before .before .before .root-of .ensures)
+    (omega (arith, c .if2 .taken, c .before .wide .ensures .0 ∙ c .before .before .horizon-of .ensures)) (s .args .tally .now) _
+    (root-tells R (s .args .budget) (s .args .tally .now) (s .pre .1 .0) (s .pre .1 .1 .0) (s .pre .1 .1 .1)) (omega (arith, k .before .before .if1 .left)) (k .count-one .ensures)
 
-enter-requires : tie.Need-enter-requires
-enter-requires c κs =
-    let start = c .before .before .before .before .before .before .before .before .before .before in
-    let R = recorderOf (start .args .r .now) in
-    let root = c .before .before .before .before .before .before .root-of .ensures in
-    let small : getD (c .before .before .before .before .before .before .root-of .result) 48 0 ≤ R .horizon = omega (arith, c .before .before .before .if2 .left, (c .before .before .before .before .wide .ensures .0 ∙ c .before .before .before .before .before .horizon-of .ensures)) in
-    let counted = c .before .before .before .before .before .before .before .count-one .ensures in
-    (start .pre .0, (rw root from-root, (rw (root, c .before .before .job-count .ensures) (root-spared R (start .pre .0 .valid) (rw root at small)), record { long = counted .1; count = omega (arith, ap (λ (t : Tally). t .count) (counted .0), ap (λ (t : Tally). t .count) (start .pre .1 .1), c .before .before .before .before .before .before .before .before .before .if1 .left) })))
+root-floor-requires : tie.Need-root-floor-requires
+root-floor-requires c κs =
+    let e = c .before in
+    let k = e .before .before .before .before in
+    let s = k .before .before .before in
+    (s .pre .0, root-aheads (recorderOf (s .args .r .now)) (s .args .budget) (s .pre .0 .valid) _ (e .before .before .before .root-of .ensures) (omega (arith, e .if2 .left, e .before .wide .ensures .0 ∙ e .before .before .horizon-of .ensures)))
+
+close-of-requires : tie.Need-close-of-requires
+close-of-requires c κs =
+    let e = c .before .before .before .before .before in
+    let s = e .before .before .before .before .before .before .before in
+    let x = s .pre .0 in
+    let R = recorderOf (s .args .r .now) in
+    (x, ordered-later R (x .valid) _ 0 (R .horizon) (shown-ordered R (x .valid) _ _ _ _ (e .before .before .before .root-of .ensures)) (omega arith) (omega arith))
+
+add-e : tie.Need-add-e
+add-e c = omega (arith, c .close-of .ensures .1, c .before .before .before .before .root-floor .ensures .1)
+
+offer-requires : tie.Need-offer-requires
+offer-requires c κs =
+    let k = c .before .before .before .before .before .before .before .before .before .before .before in
+    let s = k .before .before .before in
+    counted-less (s .args .tally .now) _ (s .pre .1 .0) (k .count-one .ensures) .0
 
 returns-3 : tie.Need-returns-3
 returns-3 c =
-    let start = c .before .before .before .before .before .before .before .before .before .before .before in
-    root-enters _ (start .pre .0 .valid) _ (c .before .before .before .before .before .before .before .before .before .before .if1 .left) _ _ (start .pre .1 .1) (c .before .before .before .before .before .before .before .before .count-one .ensures .0) _ (c .before .before .before .before .before .before .before .root-of .ensures) (omega (arith, c .before .before .before .before .if2 .left, (c .before .before .before .before .before .wide .ensures .0 ∙ c .before .before .before .before .before .before .horizon-of .ensures))) _ (c .before .before .before .job-count .ensures) _ (c .enter .ensures .0)
+    let e = c .before .before .before .before .before .before .before .before in
+    let k = e .before .before .before .before in
+    let s = k .before .before .before in
+    let R = recorderOf (s .args .r .now) in
+    let close = c .before .before .close-of in
+    let f = c .before .before .before .before .before .before .root-floor in
+    root-complete R (s .args .budget) (s .pre .0 .valid) _ (e .before .before .before .root-of .ensures) (omega (arith, e .if2 .left, e .before .wide .ensures .0 ∙ e .before .before .horizon-of .ensures)) (s .args .tally .now) _
+    (root-tells R (s .args .budget) (s .args .tally .now) (s .pre .1 .0) (s .pre .1 .1 .0) (s .pre .1 .1 .1)) (omega (arith, k .before .before .if1 .left)) (k .count-one .ensures)
+    (sym (c .before .before .before .before .before .job-count .ensures) ∙ c .before .before .before .before .if3 .taken) (f .result) _ (f .ensures .0) (ap (λ (y : ℕ). f .result + y) (close .ensures .0)) (omega (arith, close .ensures .1, f .ensures .1)) _ (c .offer .ensures)
+
+all-jobs-requires : tie.Need-all-jobs-requires
+all-jobs-requires c κs =
+    let e = c .before .before .before .before .before .before in
+    e .before .before .before .before .before .before .before .pre .0 .valid
+
+choices-requires : tie.Need-choices-requires
+choices-requires c κs =
+    let e = c .before .before .before .before .before .before .before in
+    let k = e .before .before .before .before in
+    let s = k .before .before .before in
+    let x = s .pre .0 in
+    let R = recorderOf (s .args .r .now) in
+    let f = c .before .before .before .before .before .root-floor in
+    let shows = e .before .before .before .root-of .ensures in
+    let room : loadAt (e .before .before .before .root-of .result) ≤ R .horizon = omega (arith, e .if2 .left, e .before .wide .ensures .0 ∙ e .before .before .horizon-of .ensures) in
+    let tells = root-tells R (s .args .budget) (s .args .tally .now) (s .pre .1 .0) (s .pre .1 .1 .0) (s .pre .1 .1 .1) in
+    let less : 0 < s .args .budget = omega (arith, k .before .before .if1 .left) in
+    let n = root-some R (s .args .budget) (x .valid) _ shows room _ _ tells less (k .count-one .ensures) (λ z. c .before .before .before .if3 .left (c .before .before .before .before .job-count .ensures ∙ z)) in (
+      x,
+      record {
+        left = n .0;
+        vertex = root R;
+        state = counted bare;
+        holds = (root-stands R (s .args .budget) (x .valid) _ shows room _ _ tells less (k .count-one .ensures) (n .0) (n .1) _ _ (c .all-jobs .ensures) (f .ensures .0), refl);
+        tells = root-one R (s .args .budget) (x .valid) _ shows room _ _ tells less (k .count-one .ensures);
+      },
+    )
+
+returns-4 : tie.Need-returns-4
+returns-4 c =
+    let e = c .before .before .before .before .before .before .before .before in
+    let k = e .before .before .before .before in
+    let s = k .before .before .before in
+    let x = s .pre .0 in
+    let R = recorderOf (s .args .r .now) in
+    let f = c .before .before .before .before .before .before .root-floor in
+    let shows = e .before .before .before .root-of .ensures in
+    let room : loadAt (e .before .before .before .root-of .result) ≤ R .horizon = omega (arith, e .if2 .left, e .before .wide .ensures .0 ∙ e .before .before .horizon-of .ensures) in
+    let tells = root-tells R (s .args .budget) (s .args .tally .now) (s .pre .1 .0) (s .pre .1 .1 .0) (s .pre .1 .1 .1) in
+    let less : 0 < s .args .budget = omega (arith, k .before .before .if1 .left) in
+    let n = root-some R (s .args .budget) (x .valid) _ shows room _ _ tells less (k .count-one .ensures) (λ z. c .before .before .before .before .if3 .left (c .before .before .before .before .before .job-count .ensures ∙ z)) in
+    root-came R (s .args .budget) (x .valid) _ shows room _ _ tells less (k .count-one .ensures) (n .0) (n .1) _ _
+    (c .choices .ensures .1 (n .0) (root R) (counted bare) (root-stands R (s .args .budget) (x .valid) _ shows room _ _ tells less (k .count-one .ensures) (n .0) (n .1) _ _ (c .before .all-jobs .ensures) (f .ensures .0)) refl
+    (root-one R (s .args .budget) (x .valid) _ shows room _ _ tells less (k .count-one .ensures)))
 
 pub root-visit-spec : {M : Type 1} → statement M
 root-visit-spec =
@@ -51,6 +122,12 @@ root-visit-spec =
     (λ c κs. search needs)
     (λ c. search needs)
     returns-2
+    root-floor-requires
     (λ c κs. search needs)
-    enter-requires
-    returns-3)
+    close-of-requires
+    add-e
+    offer-requires
+    returns-3
+    all-jobs-requires
+    choices-requires
+    returns-4)

@@ -1,34 +1,111 @@
--- The tally as nineteen numbers, which the search lends: 0 the count, 1 whether there is a best (1), 2 its energy, 3 to 18 its starts. And what a call made of it.
+-- What the search lends and what its calls come to. The tally is thirty-four numbers: 0 the count, 1 the energy of the best (4294967295 where there is none), 2 to 17
+-- the starts of the jobs that are placed, by job number, and 18 to 33 those of the best.
 use mathlib.Core.Path.{_≡_}
-use mathlib.Core.Bool.{Bool, cond}
-use mathlib.Core.List.{List}
-use Prim.Native.Nat.{ℕ, _+_, _-_, _≤_}
-use lib.Dec.{eqb}
-use lib.ListN.{getD, set, length}
-use Rattle.base.specs.Loops.{each}
+use mathlib.Core.Bool.{Bool, true, false}
+use mathlib.Core.List.{List, _++_}
+use mathlib.Core.Logic.{_⊎_}
+use mathlib.Core.Option.{Option, none, some}
+use Prim.Native.Nat.{ℕ, zero, suc, _+_, _^_, _≤_, _<_}
+use lib.ListN.{getD, length, drop}
+use Rattle.base.specs.Lists.{In}
 use Rattle.schedule.specs.declared.Recorder.{Recorder}
-use Rattle.schedule.specs.Quantities.{jobs}
-use Rattle.vertex.specs.inside.Vertices.{Vertex, closed}
-use Rattle.vertex.specs.inside.Layout.{row}
-use Rattle.visit.specs.inside.Steps.{Tally, Run, bare, offer, tryJob, visitOf}
+use Rattle.schedule.specs.Quantities.{jobs, run, deadline}
+use Rattle.schedule.specs.Visiting.{Vertex, Visited, Walk, startsOf, child, earliest, cutA, floor, planEnergy, better, choices, visit, visited, vertices}
+use Rattle.vertex.specs.inside.Shown.{Shows}
+use Rattle.visit.specs.declared.Found.{Found}
 
-unfoldable pub tallyOf : List ℕ → Tally
-tallyOf l = record { count = getD l 0 0; best = record { found = eqb (getD l 1 0) 1; energy = getD l 2 0; starts = row 3 16 l } }
+-- ---- the tally
 
--- What a call came to: b says whether the budget is used up, and l is the lent tally at its end. Of a tally where it is used up nothing is said.
-unfoldable pub ran : ℕ → Bool → List ℕ → Run
-ran budget b l = record { stopped = b; tally = cond b (bare budget) (tallyOf l) }
+abbrev pub countAt : List ℕ → ℕ
+countAt l = getD l 0 0
 
--- The tally with a best of energy e and the starts of the vertex l.
-unfoldable pub bettered : List ℕ → ℕ → List ℕ → List ℕ
-bettered l e t = each (λ j. λ m. set m (3 + j) (getD l (24 + j) 0 - 1)) 16 (set (set t 1 1) 2 e)
+abbrev pub energyAt : List ℕ → ℕ
+energyAt l = getD l 1 0
 
--- What comes of a vertex v with n jobs left that no cut has dropped and that is counted in t: it is offered, or its children are examined.
-unfoldable pub below : Recorder → ℕ → Vertex → Tally → Tally
-below R n v t =
-    cond (eqb n 0) (record { count = t .count; best = offer (t .best) (closed R v) (v .starts) }) (each (tryJob R (visitOf R (n - 1)) v) (jobs R) t)
+abbrev pub startAt : List ℕ → ℕ → ℕ
+startAt l j = getD l (2 + j) 0
 
--- A lent tally, within the budget.
-pub record Within (b : ℕ) (l : List ℕ) : Type 0 where
-  pub long : length l ≡ 19
-  pub count : tallyOf l .count ≤ b
+abbrev pub bestAt : List ℕ → ℕ → ℕ
+bestAt l j = getD l (18 + j) 0
+
+-- The tally holds the best.
+unfoldable pub Bests : Recorder → List ℕ → Option (List ℕ) → Type 0
+Bests R l none = energyAt l ≡ 4294967295
+Bests R l (some s) =
+    (energyAt l ≡ planEnergy R s) × (energyAt l < 4294967295) × (length s ≡ jobs R) × ((j : ℕ) → j < jobs R → bestAt l j ≡ getD s j 0)
+
+-- The tally l tells what the visit has come to at the vertex v, within the budget.
+pub record Tells (R : Recorder) (budget : ℕ) (l : List ℕ) (v : Vertex) (st : Visited) : Type 0 where
+  pub long : length l ≡ 34
+  pub count : countAt l ≡ st .count
+  pub best : Bests R l (st .best)
+  pub path : (j : ℕ) → j < jobs R → (In j (v .unplaced) → ⊥) → startAt l j ≡ getD (startsOf R v) j 0
+  pub within : st .count ≤ budget
+
+-- A call answered whether the budget is used up: the tally tells st; or st has counted more than the budget.
+pub data Came (R : Recorder) (budget : ℕ) (l : List ℕ) (v : Vertex) (st : Visited) : Bool → Type 0 where
+  done : Tells R budget l v st → Came R budget l v st false
+  over : budget < st .count → Came R budget l v st true
+
+-- ---- vertices
+
+-- The numbers l show the vertex v, with jobs unplaced; it has the floor f, and cut A spares it.
+pub record Stands (R : Recorder) (l : List ℕ) (set f m : ℕ) (v : Vertex) : Type 0 where
+  pub shows : Shows R l set (suc m) v
+  pub floor-is : floor R v ≡ f
+  pub spared : cutA R v ≡ false
+
+-- Job j may start at s at the vertex v.
+pub record Starts (R : Recorder) (v : Vertex) (j s : ℕ) : Type 0 where
+  pub job : In j (v .unplaced)
+  pub early : earliest R (v .time) j ≤ s
+  pub late : s + run R j ≤ deadline R j
+
+-- The child that places job j at s, where `best` is the energy of the best: from the start `cut` on it is dropped, by cut A or cut B; before, cut A spares it, and
+-- its floor is f.
+pub record Tries (R : Recorder) (l : List ℕ) (best set from cut f j s m : ℕ) (v : Vertex) : Type 0 where
+  pub stands : Stands R l set from m v
+  pub starts : Starts R v j s
+  pub dropped : cut ≤ s → (cutA R (child R v j s) ≡ true) ⊎ (best ≤ floor R (child R v j s))
+  pub spared : s < cut → (cutA R (child R v j s) ≡ false) × (floor R (child R v j s) ≡ f)
+
+-- From the start s on every child that places job j is dropped.
+unfoldable pub Drops : Recorder → List ℕ → ℕ → ℕ → ℕ → ℕ → ℕ → Type 0
+Drops R l set from best j s =
+    (m : ℕ) (v : Vertex) → Stands R l set from m v → (t : ℕ) → s ≤ t → Starts R v j t → (cutA R (child R v j t) ≡ true) ⊎ (best ≤ floor R (child R v j t))
+
+-- The child that places job j at s and that no cut drops; f is its floor, and `left` the set of the jobs that it leaves unplaced.
+pub record Enters (R : Recorder) (l : List ℕ) (left f j s m : ℕ) (v : Vertex) : Type 0 where
+  pub shows : Shows R l (left + 2 ^ j) (suc m) v
+  pub starts : Starts R v j s
+  pub spared : cutA R (child R v j s) ≡ false
+  pub floor-is : floor R (child R v j s) ≡ f
+
+-- There are such a vertex and what the visit has come to there.
+pub record Some (R : Recorder) (budget : ℕ) (tally : List ℕ) (P : ℕ → Vertex → Type 0) : Type 0 where
+  pub left : ℕ
+  pub vertex : Vertex
+  pub state : Visited
+  pub holds : P left vertex
+  pub tells : Tells R budget tally vertex state
+
+-- What the visit of a vertex that no cut drops does after it is counted.
+unfoldable pub entered : Recorder → ℕ → Vertex → Walk
+entered R zero v st = record { count = st .count; best = better R (st .best) (startsOf R v) }
+entered R (suc m) v st = choices R (visit R m) v st
+
+-- ---- the answer
+
+abbrev pub refusal : ℕ → ℕ → Found
+refusal k c = record { number = k; energy = 0; count = c }
+
+abbrev pub success : ℕ → ℕ → Found
+success e c = record { number = 0; energy = e; count = c }
+
+-- 15 where the list is too short, then 20, then 19; else the starts of the visit's best, with its energy. What is lent beyond stays as it was.
+pub data Finds (R : Recorder) (budget : ℕ) (lent : List ℕ) : Found → List ℕ → Type 0 where
+  short : length lent < jobs R → Finds R budget lent (refusal 15 0) lent
+  beyond : jobs R ≤ length lent → budget < vertices R → Finds R budget lent (refusal 20 budget) lent
+  nowhere : jobs R ≤ length lent → vertices R ≤ budget → visited R .best ≡ none → Finds R budget lent (refusal 19 (vertices R)) lent
+  found : {s : List ℕ} → jobs R ≤ length lent → vertices R ≤ budget → visited R .best ≡ some s
+      → Finds R budget lent (success (planEnergy R s) (vertices R)) (s ++ drop (jobs R) lent)

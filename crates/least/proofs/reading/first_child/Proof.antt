@@ -9,7 +9,7 @@ use native.Mathlib.Numerals.{add-one}
 use lib.ListN.{length}
 use Rattle.latest.proofs.Tabled.{power-next, halved}
 use Rattle.least.specs.inside.Outcome.{Lent}
-use Rattle.least.proofs.Choosing.{bit-is, bit-not}
+use Rattle.vertex.proofs.Lasting.{bit-is, bit-not}
 use Rattle.least.proofs.Seeking.{Sought, sought-none, sought-as, sought-passed, sought-next, sought-found, sought-all}
 use Rattle.least.proofs.reading.first_child.Statement.{statement}
 use Rattle.least.proofs.reading.first_child.Tie as tie

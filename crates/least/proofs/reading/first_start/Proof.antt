@@ -7,7 +7,7 @@ use Rattle.flat.specs.inside.Flat.{recorderOf}
 use lib.ListN.{length}
 use Rattle.latest.proofs.Members.{has-le}
 use Rattle.least.specs.inside.Outcome.{Lent}
-use Rattle.least.proofs.Showing.{ordered-later}
+use Rattle.vertex.proofs.Showing.{ordered-later}
 use Rattle.least.proofs.Trials.{slot-late}
 use Rattle.least.proofs.Going.{held-ordered, held-few, held-offers, starts-slot}
 use Rattle.least.proofs.Hitting.{Passed, passed-none, passed-next, start-stopped, start-found, start-nowhere}

@@ -7,7 +7,7 @@ use Rattle.flat.specs.inside.Flat.{recorderOf}
 use lib.ListN.{length}
 use Rattle.least.specs.inside.Outcome.{Lent, over}
 use Rattle.least.specs.inside.Readings.{Reads}
-use Rattle.least.proofs.Showing.{ticks-shown}
+use Rattle.vertex.proofs.Showing.{ticks-shown, load-shown}
 use Rattle.least.proofs.Going.{offers-known, offers-end, offers-ordered, offers-bit}
 use Rattle.least.proofs.Settling.{reads-held, reads-small, next-stopped, next-offers, next-lead, next-reads, reads-end}
 use Rattle.least.proofs.reading.read_off.Statement.{statement}
@@ -106,7 +106,7 @@ place-requires c κs =
     let some = c .before .before .before .before .before .before .before .before .before .before .loop-test .taken in
     let went = c .before .before .before .if1 .left in
     let o = next-offers R (l .v) (l .starts) (l .set) (l .time) (l .goal) (l .entered) h some (s .args .budget) _ (e .result .job) (e .result .start) (e .ensures .1) went in
-    (valid, (o .shows .long, (offers-known R valid (l .v) (l .set) (e .result .job) (e .result .start) o .1, (omega (arith, offers-end R valid (l .v) (l .set) (e .result .job) (e .result .start) o), ticks-shown R valid _ _ _ _ (o .shows) _ (o .job)))))
+    (valid, (o .shows .long, (offers-known R valid (l .v) (l .set) (e .result .job) (e .result .start) o .1, (omega (arith, offers-end R valid (l .v) (l .set) (e .result .job) (e .result .start) o), (load-shown R valid _ _ _ _ (o .shows) _ (o .job), ticks-shown R valid _ _ _ _ (o .shows) _ (o .job))))))
 
 run-of-requires : tie.Need-run-of-requires Inv-loop μ-loop
 run-of-requires c κs =

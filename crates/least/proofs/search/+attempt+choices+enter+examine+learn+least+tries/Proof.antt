@@ -12,9 +12,11 @@ use Rattle.flat.specs.inside.Flat.{recorderOf}
 use Rattle.latest.proofs.Members.{has-le}
 use Rattle.latest.proofs.Tabled.{power-next, halved}
 use Rattle.least.specs.inside.Outcome.{Lent, told, stopped, passed}
-use Rattle.least.proofs.Showing.{ordered-later, ticks-shown, waited-shown}
+use Rattle.vertex.proofs.Showing.{ordered-later, ticks-shown, load-shown}
+use Rattle.least.proofs.Falling.{waited-shown}
 use Rattle.least.proofs.Counting.{came-stop, came-go, came-small, came-more, came-from, most-less, most-near, most-own}
-use Rattle.least.proofs.Choosing.{held-open, Chosen, chosen-none, chosen-as, chosen-passed, chosen-tried, chosen-stopped, chosen-all, bit-is, bit-not}
+use Rattle.least.proofs.Choosing.{held-open, Chosen, chosen-none, chosen-as, chosen-passed, chosen-tried, chosen-stopped, chosen-all}
+use Rattle.vertex.proofs.Lasting.{bit-is, bit-not}
 use Rattle.least.proofs.Trials.{Trial, trial-start, trial-as, trial-next, trial-stopped, trial-end}
 use Rattle.least.proofs.Going.{held-by, held-ordered, held-few, held-later, held-offers, some-left, offers-known, offers-end, offers-bit, child-shows, child-held, complete-answers, known-answers, head-few, learnt, learnt-kept, kept-lent, tried-entered, alive-early, near-comes, far-stops, far-comes, waits, starts-late, starts-to}
 use Rattle.schedule.specs.Visiting.{child}
@@ -51,10 +53,10 @@ use Rattle.flat.proofs.numbers.sooner.Reads as sooner-reads
 use Rattle.flat.proofs.numbers.wide.Reads as wide-reads
 use Rattle.flat.proofs.release_of.Reads as release-of-reads
 use Rattle.flat.proofs.run_of.Reads as run-of-reads
-use Rattle.least.proofs.cells.place.Reads as place-reads
-use Rattle.least.proofs.leads.close_of.Reads as close-of-reads
+use Rattle.vertex.proofs.cells.place.Reads as place-reads
+use Rattle.vertex.proofs.gaps.close_of.Reads as close-of-reads
 use Rattle.least.proofs.leads.fall_of.Reads as fall-of-reads
-use Rattle.least.proofs.leads.lead_of.Reads as lead-of-reads
+use Rattle.vertex.proofs.gaps.lead_of.Reads as lead-of-reads
 use Rattle.least.proofs.leads.wait_of.Reads as wait-of-reads
 use Rattle.least.proofs.memory.look.Reads as look-reads
 use Rattle.least.proofs.memory.remember.Reads as remember-reads
@@ -284,7 +286,7 @@ enter-place-requires t c κs =
     let R = recorderOf (s .args .r .now) in
     let valid = s .pre .1 .0 .tabled .valid in
     let o = s .pre .1 .1 .1 .0 in
-    (valid, (o .shows .long, (offers-known R valid _ _ _ _ o .1, (omega (arith, offers-end R valid (s .args .v .now) (s .args .set) (s .args .j) (s .args .s) o), ticks-shown R valid _ _ _ _ (o .shows) _ (o .job)))))
+    (valid, (o .shows .long, (offers-known R valid _ _ _ _ o .1, (omega (arith, offers-end R valid (s .args .v .now) (s .args .set) (s .args .j) (s .args .s) o), (load-shown R valid _ _ _ _ (o .shows) _ (o .job), ticks-shown R valid _ _ _ _ (o .shows) _ (o .job))))))
 
 enter-run-of-requires : (t : ℕ) → enter-lts.Need-run-of-requires (enter-calls t) (enter-at t) enter.Post
 enter-run-of-requires t c κs =

@@ -10,12 +10,12 @@ search-requires c κs = c .before .before .pre
 returns : tie.Need-returns
 returns c =
     let s = c .before .before .before .before .before .search in
-    rw (c .refusal-after .ensures) (search-refused _ _ _ (c .before .before .before .before .before .before .before .before .pre) (s .result) (s .last .1 .1 .0) (s .ensures .0) (s .ensures .1) (c .before .if1 .taken))
+    rw (c .refusal-after .ensures) (search-refused _ _ _ (c .before .before .before .before .before .before .before .before .pre) (s .result) (s .last .1 .1 .0) (s .ensures) (c .before .if1 .taken))
 
 returns-2 : tie.Need-returns-2
 returns-2 c =
     let s = c .before .before .before .before .before .search in
-    rw (c .success .ensures) (search-found _ _ _ (c .before .before .before .before .before .before .before .before .pre) (s .result) (s .last .1 .1 .0) (s .ensures .0) (s .ensures .1) (c .before .if1 .left))
+    rw (c .success .ensures) (search-found _ _ _ (c .before .before .before .before .before .before .before .before .pre) (s .result) (s .last .1 .1 .0) (s .ensures) (c .before .if1 .left))
 
 pub search-of-spec : {M : Type 1} → statement M
 search-of-spec =

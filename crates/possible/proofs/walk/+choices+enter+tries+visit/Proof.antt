@@ -15,7 +15,7 @@ use Rattle.vertex.specs.inside.Layout.{placedOf}
 use Rattle.vertex.proofs.Marking.{run-in}
 use Rattle.vertex.proofs.Offering.{few, some-left, child-offered}
 use Rattle.vertex.proofs.Reading.{free-at, taken-at}
-use Rattle.visit.proofs.Going.{start-at, start-next, start-more, start-less}
+use Rattle.possible.proofs.Starts.{start-at, start-next, start-more, start-less}
 use Rattle.possible.specs.TillFound.{visitTillFound}
 use Rattle.possible.specs.inside.Steps.{vertexOf, tryStart, tryJob, tallyOf, Within}
 use Rattle.possible.proofs.Budget.{turn-stops, turn-goes, turn-covered, turn-none, turns-end}

@@ -5,7 +5,7 @@ use native.Mathlib.Omega.{arith}
 use lib.ListN.{getD}
 use Rattle.flat.specs.inside.Flat.{recorderOf}
 use Rattle.possible.proofs.Tallies.{counted-is, counted-long, counted-within}
-use Rattle.vertex.proofs.Rooting.{root-holds, root-spared}
+use Rattle.vertex.proofs.Rooting.{root-loaded, root-spared}
 use Rattle.possible.proofs.Ending.{empty-long, empty-count, empty-none, root-over, root-cut, root-enters}
 use borrow.Author.Needs.{needs}
 use Rattle.possible.proofs.walk.root_visit.Statement.{statement}
@@ -35,7 +35,7 @@ enter-requires c κs =
     let empty = start .pre .1 in
     let root = c .before .before .before .before .before .before .root-of .ensures in
     let small : getD (c .before .before .before .before .before .before .root-of .result) 48 0 ≤ R .horizon = omega (arith, c .before .before .before .if2 .left, (c .before .before .before .before .wide .ensures .0 ∙ c .before .before .before .before .before .horizon-of .ensures)) in
-    (start .pre .0, (rw root (root-holds R (start .pre .0) .loaded), (rw (root, c .before .before .job-count .ensures) (root-spared R (start .pre .0) (rw root at small)), counted-within R _ _ (c .before .before .before .before .before .before .before .count-one .ensures) (empty-long R _ empty) _ (omega (arith, empty-count R _ empty, c .before .before .before .before .before .before .before .before .before .if1 .left)) (empty-none R _ empty))))
+    (start .pre .0, (rw root (root-loaded R (start .pre .0)), (rw (root, c .before .before .job-count .ensures) (root-spared R (start .pre .0) (rw root at small)), counted-within R _ _ (c .before .before .before .before .before .before .before .count-one .ensures) (empty-long R _ empty) _ (omega (arith, empty-count R _ empty, c .before .before .before .before .before .before .before .before .before .if1 .left)) (empty-none R _ empty))))
 
 returns-3 : tie.Need-returns-3
 returns-3 c =

@@ -1,0 +1,93 @@
+-- `vertex::gaps::lead_of` meets its contract.
+use mathlib.Core.Path.{_≡_, refl, ap, _∙_}
+use Prim.Native.Nat.{ℕ, _+_, _≤_, _<_, _-_, _*_}
+use native.Mathlib.Omega.{arith}
+use borrow.Author.Needs.{needs}
+use Rattle.base.specs.Sums.{sum}
+use Rattle.base.proofs.Additions.{sum-more}
+use Rattle.schedule.proofs.Bounds.{devices-more}
+use Rattle.flat.specs.inside.Flat.{recorderOf}
+use Rattle.vertex.specs.inside.Shown.{leadBy}
+use Rattle.vertex.proofs.gaps.lead_of.Statement.{statement}
+use Rattle.vertex.proofs.gaps.lead_of.Tie as tie
+
+abbrev Inv-loop : tie.InvT-loop
+Inv-loop r extras v j s round m made₀ k₀ made k = (k ≤ m) × (m ≤ 8) × (made ≡ sum k (leadBy (recorderOf r) v j s)) × (made ≤ 268431360 * k)
+
+abbrev μ-loop : tie.MeasureT-loop
+μ-loop r extras v j s round m made₀ k₀ made k = m - k
+
+is-round-requires : tie.Need-is-round-requires Inv-loop μ-loop
+is-round-requires c κs = search needs
+
+device-count-requires : tie.Need-device-count-requires Inv-loop μ-loop
+device-count-requires c κs = search needs
+
+loop-holds : tie.Need-loop-holds Inv-loop μ-loop
+loop-holds c = (omega arith, omega (arith, c .device-count .ensures, c .before .before .pre .0 .valid .few-devices), refl, omega arith)
+
+mul-lead-with : tie.Need-mul-lead-with Inv-loop μ-loop
+mul-lead-with c = omega arith
+
+element-copy-out-lead-with : tie.Need-element-copy-out-lead-with Inv-loop μ-loop
+element-copy-out-lead-with c = omega arith
+
+lead-with-requires : tie.Need-lead-with-requires Inv-loop μ-loop
+lead-with-requires c κs =
+    let l = c .before .before in
+    let start = l .before .before .before in
+    let few : l .loop .k < recorderOf (start .args .r .now) .devices .count = omega (arith, c .before .loop-test .taken, l .before .device-count .ensures) in
+    (start .pre .0, (few, (start .pre .1 .0, (start .pre .1 .1 .ends (l .loop .k) few, start .pre .1 .1 .by))))
+
+-- The sum with the device at hand.
+more :
+    (c : tie.After-lead-with Inv-loop μ-loop) → let l = c .before .before .before .loop in
+    (l .sum + c .lead-with .result ≤ 268431360 * (l .k + 1)) × (l .sum + c .lead-with .result ≤ 2147450880)
+more c =
+    let l = c .before .before .before .loop in
+    devices-more (l .sum) (l .k) (c .lead-with .result) (l .inv .3) (omega arith) (c .lead-with .ensures .1)
+
+add-sum : tie.Need-add-sum Inv-loop μ-loop
+add-sum c = omega (arith, more c)
+
+add-k : tie.Need-add-k Inv-loop μ-loop
+add-k c = omega arith
+
+loop-less : tie.Need-loop-less Inv-loop μ-loop
+loop-less c = omega arith
+
+loop-again : tie.Need-loop-again Inv-loop μ-loop
+unfolding leadBy
+loop-again c =
+    let at = c .before .before .before in
+    let l = at .loop in
+    let a = at .before .before .before .args in
+    let R = recorderOf (a .r .now) in
+    let here : c .lead-with .result ≡ leadBy R (a .v .now) (a .j) (a .s) (l .k) = rw (at .before .before .is-round .ensures) at (c .lead-with .ensures .0) in
+    (omega arith, l .inv .1, omega (arith, here, l .inv .2, sum-more (l .k) (leadBy R (a .v .now) (a .j) (a .s))), more c .0)
+
+returns : tie.Need-returns Inv-loop μ-loop
+returns c =
+    let a = c .before .before .before .before .args in
+    let R = recorderOf (a .r .now) in
+    let l = c .before .loop in
+    let all : l .k ≡ R .devices .count = omega (arith, c .before .before .device-count .ensures) in
+    (l .inv .2 ∙ ap (λ (n : ℕ). sum n (leadBy R (a .v .now) (a .j) (a .s))) all, omega (arith, l .inv .0, l .inv .1, l .inv .3))
+
+pub lead-of-spec : {M : Type 1} → statement M
+lead-of-spec =
+    tie.close
+    (tie.spec
+    Inv-loop
+    μ-loop
+    is-round-requires
+    device-count-requires
+    loop-holds
+    mul-lead-with
+    element-copy-out-lead-with
+    lead-with-requires
+    add-sum
+    add-k
+    loop-less
+    loop-again
+    returns)

@@ -1,0 +1,192 @@
+// The extras that a job adds before it starts, and those that the end adds; from where on a later start adds the same; and the floor with nothing added.
+use crate::cells::Cells;
+use extras::Extras;
+use extras::extra_of;
+use flat::Flat;
+use flat::deep_power;
+use flat::device_count;
+use flat::horizon_of;
+use flat::is_round;
+use flat::is_used;
+use flat::numbers::wide;
+use flat::run_of;
+use flat::work_power;
+ghost use mathlib.Core.Path.{_≡_};
+ghost use mathlib.Core.Bool.{true, false, cond};
+ghost use Prim.Native.Nat.{ℕ, _+_, _-_, _*_, _<_, _≤_};
+ghost use lib.Dec.{ltb};
+ghost use Rattle.base.specs.Sums.{sum};
+ghost use Rattle.schedule.specs.Quantities.{device, run, uses};
+ghost use Rattle.flat.specs.inside.Flat.{recorderOf};
+ghost use Rattle.keys.specs.inside.Keys.{extra};
+ghost use Rattle.extras.specs.inside.Tabled.{Tabled, capAt};
+ghost use Rattle.vertex.specs.inside.Shown.{unused, aheadAt, leadsBy, closesBy, endsBy, idleFloor, Ordered};
+
+// Whether a device whose last use ended at `end` has none yet in a round. (A use ends after tick 0.)
+pub fn is_unused(round: bool, end: u32) -> bool
+    ensures { λ x. ⌜ x ≡ unused round end ⌝ }
+{
+    if round { end == 0 } else { false }
+}
+
+// x where the test holds, and else y.
+fn chosen(test: bool, x: u32, y: u32) -> u32
+    ensures { λ z. ⌜ z ≡ cond test x y ⌝ }
+{
+    if test { x } else { y }
+}
+
+// What device k pays for the gap before job j, if it uses the device, where it starts at s. The table is read before the tests, so that no jump hangs on them.
+fn lead_with(r: &Flat, extras: &Extras, round: bool, k: usize, j: usize, end: u32, s: u32) -> u32
+    requires { ⌜ Tabled (recorderOf (now r)) (now extras) × ((k < recorderOf (now r) .devices .count) × ((j < 16) × ((end ≤ s) × (s ≤ recorderOf (now r) .horizon)))) ⌝ }
+    ensures { λ x. ⌜ (x ≡ cond (uses (recorderOf (now (r .entry))) k j) (cond (unused round end) 0 (extra (device (recorderOf (now (r .entry))) k) (s - end))) 0) × (x ≤ 268431360) ⌝ }
+{
+    let lead = extra_of(extras, k, s - end);
+    if is_used(r, k, j) {
+        if is_unused(round, end) {
+            return 0;
+        }
+        return lead;
+    }
+    0
+}
+
+// What all devices pay for the gaps before job j, where it starts at s.
+pub fn lead_of(r: &Flat, extras: &Extras, v: &Cells, j: usize, s: u32) -> u32
+    requires { ⌜ Tabled (recorderOf (now r)) (now extras) × ((j < 16) × Ordered (recorderOf (now r)) (now v) s) ⌝ }
+    ensures { λ x. ⌜ (x ≡ leadsBy (recorderOf (now (r .entry))) (now (v .entry)) j s) × (x ≤ 2147450880) ⌝ }
+{
+    let round = is_round(r);
+    let m = device_count(r);
+    let mut sum: u32 = 0;
+    let mut k: usize = 0;
+    while k < m {
+        sum += lead_with(r, extras, round, k, j, v[k], s);
+        k += 1;
+    }
+    sum
+}
+
+// What device k pays for the gap that closes its round.
+fn close_with(r: &Flat, extras: &Extras, round: bool, k: usize, h: u32, end: u32, first: u32) -> u32
+    requires { ⌜ Tabled (recorderOf (now r)) (now extras) × ((k < recorderOf (now r) .devices .count) × ((first ≤ end) × ((end ≤ h) × (h ≤ recorderOf (now r) .horizon)))) ⌝ }
+    ensures { λ x. ⌜ (x ≡ cond (unused round end) 0 (extra (device (recorderOf (now (r .entry))) k) (first + (h - end)))) × (x ≤ 268431360) ⌝ }
+{
+    let close = extra_of(extras, k, first + (h - end));
+    if is_unused(round, end) {
+        return 0;
+    }
+    close
+}
+
+// What all devices pay for them.
+pub fn close_of(r: &Flat, extras: &Extras, v: &Cells) -> u32
+    requires { ⌜ Tabled (recorderOf (now r)) (now extras) × Ordered (recorderOf (now r)) (now v) (recorderOf (now r) .horizon) ⌝ }
+    ensures { λ x. ⌜ (x ≡ closesBy (recorderOf (now (r .entry))) (now (v .entry))) × (x ≤ 2147450880) ⌝ }
+{
+    let round = is_round(r);
+    let h = wide(horizon_of(r));
+    let m = device_count(r);
+    let mut sum: u32 = 0;
+    let mut k: usize = 0;
+    while k < m {
+        sum += close_with(r, extras, round, k, h, v[k], v[8 + k]);
+        k += 1;
+    }
+    sum
+}
+
+// The same where job j, which runs for c ticks, is the last and starts at s: its devices end with it.
+fn end_with(
+    r: &Flat,
+    extras: &Extras,
+    round: bool,
+    k: usize,
+    h: u32,
+    j: usize,
+    c: u32,
+    end: u32,
+    first: u32,
+    s: u32,
+) -> u32
+    requires { ⌜ Tabled (recorderOf (now r)) (now extras) × ((k < recorderOf (now r) .devices .count) × ((j < 16) × ((first ≤ end) × ((end ≤ s) × ((s + c ≤ h) × (h ≤ recorderOf (now r) .horizon)))))) ⌝ }
+    ensures { λ x. ⌜ (x ≡ cond (unused round (cond (uses (recorderOf (now (r .entry))) k j) (s + c) end)) 0 (extra (device (recorderOf (now (r .entry))) k) (cond (uses (recorderOf (now (r .entry))) k j) (cond (unused round end) s first) first + (h - cond (uses (recorderOf (now (r .entry))) k j) (s + c) end)))) × (x ≤ 268431360) ⌝ }
+{
+    let used = is_used(r, k, j);
+    let begun = chosen(is_unused(round, end), s, first);
+    let last = chosen(used, s + c, end);
+    close_with(r, extras, round, k, h, last, chosen(used, begun, first))
+}
+
+// What all devices pay for them. The child that places job j at s is complete, and is not made.
+pub fn end_of(r: &Flat, extras: &Extras, v: &Cells, j: usize, s: u32) -> u32
+    requires { ⌜ Tabled (recorderOf (now r)) (now extras) × ((j < 16) × (Ordered (recorderOf (now r)) (now v) s × (s + run (recorderOf (now r)) j ≤ recorderOf (now r) .horizon))) ⌝ }
+    ensures { λ x. ⌜ (x ≡ endsBy (recorderOf (now (r .entry))) (now (v .entry)) j s) × (x ≤ 2147450880) ⌝ }
+{
+    let round = is_round(r);
+    let h = wide(horizon_of(r));
+    let c = wide(run_of(r, j));
+    let m = device_count(r);
+    let mut sum: u32 = 0;
+    let mut k: usize = 0;
+    while k < m {
+        sum += end_with(r, extras, round, k, h, j, c, v[k], v[8 + k], s);
+        k += 1;
+    }
+    sum
+}
+
+// Whether the gap before job j, where it starts at s, is shorter than the cap of device k, which pays for it.
+fn is_short(r: &Flat, extras: &Extras, round: bool, k: usize, j: usize, end: u32, s: u32) -> bool
+    requires { ⌜ (k < 8) × ((j < 16) × (end ≤ s)) ⌝ }
+    ensures { λ x. ⌜ x ≡ cond (uses (recorderOf (now (r .entry))) k j) (cond (unused round end) false (ltb (s - end) (capAt (now (extras .entry)) k))) false ⌝ }
+{
+    if is_used(r, k, j) {
+        if is_unused(round, end) {
+            return false;
+        }
+        return s - end < extras[32776 + k];
+    }
+    false
+}
+
+// Whether every gap before job j, where it starts at s, has reached the cap: then every later start adds the same.
+pub fn is_steady(r: &Flat, extras: &Extras, v: &Cells, j: usize, s: u32) -> bool
+    requires { ⌜ Tabled (recorderOf (now r)) (now extras) × ((j < 16) × Ordered (recorderOf (now r)) (now v) s) ⌝ }
+    ensures { λ x. ⌜ (x ≡ true → (t : ℕ) → s ≤ t → t ≤ recorderOf (now (r .entry)) .horizon → leadsBy (recorderOf (now (r .entry))) (now (v .entry)) j t ≡ leadsBy (recorderOf (now (r .entry))) (now (v .entry)) j s) ⌝ }
+{
+    let round = is_round(r);
+    let m = device_count(r);
+    let mut k: usize = 0;
+    while k < m {
+        if is_short(r, extras, round, k, j, v[k], s) {
+            return false;
+        }
+        k += 1;
+    }
+    true
+}
+
+// The floor of a device without a use so far, by its powers at work and in its deepest sleep, with `ahead` ticks to come.
+fn floor_with(work: u16, deep: u16, h: u32, ahead: u32) -> u32
+    requires { ⌜ (ahead ≤ h) × (h ≤ 4096) ⌝ }
+    ensures { λ x. ⌜ (x ≡ work * ahead + deep * (h - ahead)) × (x ≤ 268431360) ⌝ }
+{
+    wide(work) * ahead + wide(deep) * (h - ahead)
+}
+
+// The floor of the root: at work for the ticks to come of each device, and in its deepest sleep for all others.
+pub fn root_floor(r: &Flat, extras: &Extras, v: &Cells) -> u32
+    requires { ⌜ Tabled (recorderOf (now r)) (now extras) × ((k : ℕ) → k < recorderOf (now r) .devices .count → aheadAt (now v) k ≤ recorderOf (now r) .horizon) ⌝ }
+    ensures { λ x. ⌜ (x ≡ sum (recorderOf (now (r .entry)) .devices .count) (idleFloor (recorderOf (now (r .entry))) (now (v .entry)))) × (x ≤ 2147450880) ⌝ }
+{
+    let h = wide(horizon_of(r));
+    let m = device_count(r);
+    let mut sum: u32 = 0;
+    let mut k: usize = 0;
+    while k < m {
+        sum += floor_with(work_power(r, k), deep_power(r, k), h, v[16 + k]);
+        k += 1;
+    }
+    sum
+}
