@@ -12,7 +12,7 @@
  * refusal 15, after the file's own refusals and after 14, and then nothing at all is written.
  *
  * Stack that a call needs in all, measured as the least with which a thread that makes it still ends (x86-64; it changes a little with the request): floe_search
- * 144 KiB, floe_least 326 KiB, floe_first 139 KiB, the others at most the 16 KiB that every thread has. With 420 KiB floe_least has enough for every request: its
+ * 238 KiB, floe_search_in 143 KiB, floe_least 326 KiB, floe_first 139 KiB, the others at most the 16 KiB that every thread has. With 420 KiB floe_least has enough for every request: its
  * tables take 257 KiB, and at most 281 calls of 0.5 KiB stand on each other.
  *
  * A null pointer, a length that is not the buffer's, or buffers that overlap: then nothing is promised. An empty buffer may have any pointer. */
@@ -50,6 +50,11 @@ uint8_t floe_fault(const uint8_t *file, size_t file_len, uint8_t *result, size_t
 /* The plan of least energy: its start times by job number, two bytes each, if the budget covers the vertices of the search. `starts` has at least two bytes
  * for each job; what follows the last job's stays as it was. */
 uint8_t floe_search(const uint8_t *file, size_t file_len, uint32_t budget, uint8_t *starts, size_t starts_len, uint8_t *result, size_t result_len);
+
+/* The same, with a memory of so many words that is lent: of any length, 0 too, and whatever it holds; what it holds afterwards means nothing. The answer is
+ * that of floe_search, its count too. floe_search has 96 KiB on its stack for this; more is faster where there are many devices. */
+uint8_t floe_search_in(const uint8_t *file, size_t file_len, uint32_t budget, uint64_t *memory, size_t words, uint8_t *starts, size_t starts_len,
+                       uint8_t *result, size_t result_len);
 
 /* The same plan, for requests of any size, with a memory of so many words that may be of any length, 0 too, and may hold anything: what it holds afterwards means
  * nothing. More memory is faster and gives no other plan; 8,388,608 words (64 MiB) are enough for most requests of 1,000 ticks to take under a second. Nothing is

@@ -32,6 +32,17 @@ mod c {
             r: *mut u8,
             r_len: usize,
         ) -> u8;
+        pub fn floe_search_in(
+            f: *const u8,
+            f_len: usize,
+            budget: u32,
+            m: *mut u64,
+            m_len: usize,
+            s: *mut u8,
+            s_len: usize,
+            r: *mut u8,
+            r_len: usize,
+        ) -> u8;
         #[cfg(feature = "before")]
         pub fn before_search(
             f: *const u8,
@@ -224,6 +235,28 @@ pub fn search(file: &[u8], budget: u32, starts: &mut [u8], result: &mut [u8]) ->
             file.as_ptr(),
             file.len(),
             budget,
+            starts.as_mut_ptr(),
+            starts.len(),
+            result.as_mut_ptr(),
+            result.len(),
+        )
+    }
+}
+
+pub fn search_in(
+    file: &[u8],
+    budget: u32,
+    memory: &mut [u64],
+    starts: &mut [u8],
+    result: &mut [u8],
+) -> u8 {
+    unsafe {
+        c::floe_search_in(
+            file.as_ptr(),
+            file.len(),
+            budget,
+            memory.as_mut_ptr(),
+            memory.len(),
             starts.as_mut_ptr(),
             starts.len(),
             result.as_mut_ptr(),

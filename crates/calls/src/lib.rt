@@ -49,7 +49,25 @@ pub extern "C" fn floe_search(file: &[u8], budget: u32, starts: &mut [u8], resul
     if result.len() < RESULT {
         return cramped(file);
     }
-    tell(search_bytes(file, budget, starts), result)
+    let mut memory = [0u64; 12288];
+    tell(search_bytes(file, budget, &mut memory, starts), result)
+}
+
+// The same with a memory that the caller lends, of any length and whatever it holds.
+#[no_mangle]
+pub extern "C" fn floe_search_in(
+    file: &[u8],
+    budget: u32,
+    memory: &mut [u64],
+    starts: &mut [u8],
+    result: &mut [u8],
+) -> u8
+    ensures { λ n. ⌜ SearchCalled (now (file .entry)) budget (now (starts .entry)) (now (result .entry)) n (now (starts .exit)) (now (result .exit)) ⌝ }
+{
+    if result.len() < RESULT {
+        return cramped(file);
+    }
+    tell(search_bytes(file, budget, memory, starts), result)
 }
 
 // The row of every device, the legal row of least energy, for feasible start times.

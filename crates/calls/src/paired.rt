@@ -11,12 +11,12 @@ use crate::bytes::put_starts;
 use planner::Answer;
 use planner::refusal;
 use planner::rows_of;
-use planner::search_of;
+use planner::search_in_of;
 use request::read;
 use schedule::Recorder;
 
 // The start times of a plan go to the first bytes; a refusal writes nothing.
-pub fn search_bytes(file: &[u8], budget: u32, bytes: &mut [u8]) -> Answer
+pub fn search_bytes(file: &[u8], budget: u32, memory: &mut [u64], bytes: &mut [u8]) -> Answer
     ensures { λ a. ⌜ OfFile (now (file .entry)) (now (bytes .entry)) (StartsOf (SearchOf budget) (now (bytes .entry))) a (now (bytes .exit)) ⌝ }
 {
     let request = read(file);
@@ -28,7 +28,7 @@ pub fn search_bytes(file: &[u8], budget: u32, bytes: &mut [u8]) -> Answer
         return refusal(15);
     }
     let mut own = [0u16; 16];
-    let found = search_of(request.recorder, budget, &mut own);
+    let found = search_in_of(request.recorder, budget, memory, &mut own);
     if found.number == 0 {
         put_starts(&own[..jobs], bytes);
     }

@@ -27,7 +27,7 @@ use Rattle.value.proofs.Limits.{answer-exact, answer-raise, answer-less, entry-
 use Rattle.value.proofs.Waits.{leastTo, answer-waited}
 use Rattle.value.proofs.Steps.{wait-over, latest-gone}
 use Rattle.extras.specs.inside.Tabled.{Tabled, capAt}
-use Rattle.least.specs.declared.naming.Key.{Key}
+use Rattle.stored.specs.declared.Key.{Key}
 use Rattle.least.specs.declared.memory.Spot.{Spot}
 use Rattle.least.specs.inside.Shown.{closesBy, keyBy, Ordered, Placed, Shows, Held}
 use Rattle.least.specs.inside.Entries.{Looked, kept, knownOf}
@@ -35,7 +35,8 @@ use Rattle.least.specs.Effort.{mostOf}
 use Rattle.least.specs.inside.Outcome.{Named, Recalls, Lent, Offers, Came, Tried, entered}
 use Rattle.vertex.proofs.Showing.{ordered-later, shown-ordered, closes-shown, set-few, set-none, set-some, child-shown, job-in, in-job}
 use Rattle.least.proofs.Falling.{waited-shown}
-use Rattle.least.proofs.Keyed.{key-named, named-recalls, recalls-none}
+use Rattle.stored.proofs.Keyed.{key-named}
+use Rattle.least.proofs.Keyed.{named-recalls, recalls-none}
 use Rattle.least.proofs.Kept.{right-looked, right-kept}
 use Rattle.least.proofs.Counting.{came-stop, came-go, came-what, came-count, came-from, most-near, most-far, most-own}
 use Rattle.least.proofs.Choosing.{held-open, has-some}

@@ -11,12 +11,10 @@ use lib.ListN.{getD, set, length, length-set}
 use lib.Seq.{getD-set-same, getD-set-other}
 use borrow.Author.Tests.{leb-true}
 use Rattle.base.proofs.Cases.{cond-cases}
-use Rattle.least.specs.declared.naming.Key.{Key}
+use Rattle.stored.specs.declared.Key.{Key}
+use Rattle.stored.specs.inside.Cleared.{noKey}
 use Rattle.least.specs.declared.memory.Spot.{Spot}
 use Rattle.least.specs.inside.Entries.{word, keyAt, knownAt, Right, Looked, wrote, kept}
-
-abbrev pub noKey : Key
-noKey = record { head = 0; idle = 0; idle4 = 0; first = 0; first4 = 0 }
 
 -- ---- the words of an entry
 

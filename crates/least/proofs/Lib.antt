@@ -1,6 +1,5 @@
 pub mod Falling
 pub mod Keyed
-pub mod Idling
 pub mod Kept
 pub mod Counting
 pub mod Choosing

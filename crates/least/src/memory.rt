@@ -1,10 +1,11 @@
 // What the search remembers: entries of five words (specs/inside/Entries), four to a row. Which row a key has is of no matter to what is found there: an entry holds its whole
 // key. A word of 0 is no entry: of a key that is looked for some job is unplaced.
-use crate::naming::Key;
+use stored::Key;
+use stored::row_of;
 ghost use mathlib.Core.Path.{_≡_};
 ghost use mathlib.Core.Bool.{true};
 ghost use Prim.Native.Nat.{ℕ, _+_, _*_, _<_, _≤_};
-ghost use lib.ListN.{getD, length};
+ghost use lib.ListN.{length};
 ghost use Rattle.least.specs.inside.Entries.{keyAt, Looked, kept, knownOf};
 
 const TWO29: u64 = 536870912;
@@ -15,24 +16,6 @@ const TWO32: u64 = 4294967296;
 pub struct Spot {
     pub slot: usize,
     pub known: u32,
-}
-
-// Any number from any two: nothing is asked of it but that it is spread well.
-fn mix(h: u64, x: u64) -> u64 {
-    let a = ((h / 65536 + x % TWO32) % TWO32) * 2654435769;
-    ((a / 65536 + x / TWO32) % TWO32) * 2246822519
-}
-
-// One of n rows.
-fn row_of(q: Key, n: usize) -> usize
-    requires { ⌜ 0 < n ⌝ }
-    ensures { λ x. ⌜ x < n ⌝ }
-{
-    let h = mix(
-        mix(mix(mix(mix(77, q.head), q.idle), q.idle4), q.first),
-        q.first4,
-    );
-    (h / 65536 % n as u64) as usize
 }
 
 // Whether entry i has this key.
@@ -127,15 +110,4 @@ pub fn remember(memory: &mut [u64], i: usize, q: Key, entered: u32, best: u32, l
     ensures { λ _. ⌜ ((effort : ℕ) × (effort < 8) × (now (memory .exit) ≡ kept (now (memory .entry)) i q effort (knownOf best limit))) ⌝ }
 {
     keep(memory, i, q, effort_of(entered), known_of(best, limit));
-}
-
-// Forgets all, whatever it was.
-pub fn clear(memory: &mut [u64])
-    ensures { λ _. ⌜ ((i : ℕ) → getD (now (memory .exit)) i 0 ≡ 0) ⌝ }
-{
-    let mut i: usize = 0;
-    while i < memory.len() {
-        memory[i] = 0;
-        i += 1;
-    }
 }

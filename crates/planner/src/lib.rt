@@ -20,6 +20,7 @@ pub use crate::answers::refusal_at;
 pub use crate::answers::success;
 pub use crate::recorders::margins_of;
 pub use crate::recorders::rows_of;
+pub use crate::recorders::search_in_of;
 pub use crate::recorders::search_of;
 pub use crate::recorders::verdict_of;
 
@@ -103,6 +104,17 @@ pub fn search(file: &[u8], budget: u32, starts: &mut [u16]) -> Answer
         return refusal(request.number);
     }
     search_of(request.recorder, budget, starts)
+}
+
+// The same with a memory that the caller lends, of any length and whatever it holds: the more, the faster.
+pub fn search_in(file: &[u8], budget: u32, memory: &mut [u64], starts: &mut [u16]) -> Answer
+    ensures { λ a. ⌜ Searched (now (file .entry)) budget (now (starts .entry)) a (now (starts .exit)) ⌝ }
+{
+    let request = read(file);
+    if request.number != 0 {
+        return refusal(request.number);
+    }
+    search_in_of(request.recorder, budget, memory, starts)
 }
 
 // Writes the request file that the tables make, if the reader accepts it.

@@ -79,12 +79,22 @@ pub fn rows_of(r: Recorder, starts: &[u16], out: &mut [u8]) -> Answer
     success(r.horizon, total, 0)
 }
 
-// Writes the start times of the first of the least-energy schedules that meet all deadlines, if the budget covers the vertices of the search.
+// Writes the start times of the first of the least-energy schedules that meet all deadlines, if the budget covers the vertices of the search. The search remembers in
+// 2,048 entries of six words.
 pub fn search_of(r: Recorder, budget: u32, starts: &mut [u16]) -> Answer
     requires { ⌜ Valid r ⌝ }
     ensures { λ a. ⌜ SearchOf budget (now (starts .entry)) r a (now (starts .exit)) ⌝ }
 {
-    let found = visit::search(r, budget, starts);
+    let mut memory = [0u64; 12288];
+    search_in_of(r, budget, &mut memory, starts)
+}
+
+// The same with a memory that is lent, of any length and whatever it holds: the more, the faster.
+pub fn search_in_of(r: Recorder, budget: u32, memory: &mut [u64], starts: &mut [u16]) -> Answer
+    requires { ⌜ Valid r ⌝ }
+    ensures { λ a. ⌜ SearchOf budget (now (starts .entry)) r a (now (starts .exit)) ⌝ }
+{
+    let found = visit::search(r, budget, memory, starts);
     if found.number != 0 {
         return refusal_after(found.number, found.count);
     }

@@ -5,3 +5,4 @@ pub mod Going
 pub mod Entering
 pub mod Rooted
 pub mod Finding
+pub mod Remembering

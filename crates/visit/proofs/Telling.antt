@@ -21,7 +21,7 @@ use Rattle.visit.specs.inside.Offers.{Bettered, Offered, kept, taken}
 
 module _ (R : Recorder) where
   -- The best is the same in two tallies.
-  best-same : (l w : List ℕ) → energyAt w ≡ energyAt l → ((j : ℕ) → j < jobs R → bestAt w j ≡ bestAt l j) → (o : Option (List ℕ)) → Bests R l o → Bests R w o
+  pub best-same : (l w : List ℕ) → energyAt w ≡ energyAt l → ((j : ℕ) → j < jobs R → bestAt w j ≡ bestAt l j) → (o : Option (List ℕ)) → Bests R l o → Bests R w o
   unfolding Bests
   best-same l w e h none b = e ∙ b
   best-same l w e h (some s) b = (e ∙ b .0, omega (arith, e, b .1), b .2, λ j m. h j m ∙ b .3 j m)

@@ -14,7 +14,11 @@ use flat::numbers::wide;
 use flat::release_of;
 use flat::run_of;
 use latest::all_jobs;
+use recall::asking::Asked;
+use recall::asking::ask;
+use recall::memory::keep;
 use schedule::Recorder;
+use stored::clear;
 use vertex::cells::Cells;
 use vertex::cells::place;
 use vertex::cells::root_of;
@@ -39,16 +43,18 @@ ghost use Rattle.schedule.specs.Visiting.{Vertex, Visited, child, earliest, sta
 ghost use Rattle.schedule.specs.Visiting as order;
 ghost use Rattle.flat.specs.inside.Flat.{recorderOf};
 ghost use Rattle.latest.specs.inside.Sets.{has};
-ghost use Rattle.extras.specs.inside.Tabled.{Tabled};
+ghost use Rattle.extras.specs.inside.Tabled.{Tabled, capAt};
 ghost use Rattle.vertex.specs.inside.Lasts.{TwoLeast};
 ghost use Rattle.vertex.specs.inside.Shown.{loadAt, leadsBy, Ordered};
 ghost use Rattle.vertex.specs.inside.Sums.{limitFor};
-ghost use Rattle.visit.specs.inside.Lent.{countAt, energyAt, bestAt, Tells, Came, Stands, Tries, Drops, Enters, Some, entered, Finds};
+ghost use Rattle.recall.specs.inside.Asks.{Asks};
+ghost use Rattle.visit.specs.inside.Lent.{countAt, energyAt, bestAt, slackBy, Lends, Tells, Came, Stands, Tries, Drops, Enters, Some, entered, Finds};
 
 mod tally; // tally.rt: the count, the best so far and the starts of the placed jobs
 
 use crate::tally::NONE;
 use crate::tally::Tally;
+use crate::tally::add_count;
 use crate::tally::count_one;
 use crate::tally::note;
 use crate::tally::offer;
@@ -99,10 +105,33 @@ fn cut_at(
     cut
 }
 
+// Whether a set has two jobs or more. Below a vertex with one the work is less than looking for it.
+fn is_many(set: usize) -> bool {
+    let mut rest = set;
+    let mut i: usize = 0;
+    while i < 16 {
+        if rest % 2 == 1 {
+            return 1 < rest;
+        }
+        rest = rest / 2;
+        i += 1;
+    }
+    false
+}
+
+// By how much the best lies above a floor; 0 where there is no best.
+fn slack_of(best: u32, floor: u32) -> u32
+    requires { ⌜ floor < best ⌝ }
+    ensures { λ x. ⌜ x ≡ slackBy best floor ⌝ }
+{
+    if best == NONE { 0 } else { best - floor }
+}
+
 // The child of v that places job j at s, and all below it. From the start `cut` on it is dropped; before, its floor is `floor`. Answers whether the budget is used up.
 fn visit(
     r: &Flat,
     extras: &Extras,
+    memory: &mut [u64],
     v: &Cells,
     tally: &mut Tally,
     budget: u32,
@@ -114,8 +143,8 @@ fn visit(
     j: JobNumber,
     s: u32,
 ) -> bool
-    requires { ⌜ Tabled (recorderOf (now r)) (now extras) × ((p ≡ 2 ^ j .0) × Some (recorderOf (now r)) budget (now tally) (Tries (recorderOf (now r)) (now v) (energyAt (now tally)) set from cut floor (j .0) s)) ⌝ }
-    ensures kept { λ _. ⌜ (length (now (tally .exit)) ≡ 34) × (energyAt (now (tally .exit)) ≤ energyAt (now (tally .entry))) ⌝ }
+    requires { ⌜ Lends (recorderOf (now r)) (now extras) (now memory) × ((p ≡ 2 ^ j .0) × Some (recorderOf (now r)) budget (now tally) (Tries (recorderOf (now r)) (now v) (energyAt (now tally)) set from cut floor (j .0) s)) ⌝ }
+    ensures kept { λ _. ⌜ Lends (recorderOf (now (r .entry))) (now (extras .entry)) (now (memory .exit)) × ((length (now (tally .exit)) ≡ 34) × (energyAt (now (tally .exit)) ≤ energyAt (now (tally .entry)))) ⌝ }
     ensures came { λ x. ⌜ ((m : ℕ) (u : Vertex) (st : Visited) → Tries (recorderOf (now (r .entry))) (now (v .entry)) (energyAt (now (tally .entry))) set from cut floor (j .0) s m u → Tells (recorderOf (now (r .entry))) budget (now (tally .entry)) u st → Came (recorderOf (now (r .entry))) budget (now (tally .exit)) u (order.visit (recorderOf (now (r .entry))) m (child (recorderOf (now (r .entry))) u (j .0) s) st) x) ⌝ }
 {
     if tally[0] == budget {
@@ -128,13 +157,14 @@ fn visit(
     if tally[1] <= floor {
         return false;
     }
-    enter(r, extras, v, tally, budget, set - p, floor, j, s)
+    enter(r, extras, memory, v, tally, budget, set - p, floor, j, s)
 }
 
 // The same child, which is counted and which no cut drops: it is complete, or its children are examined. `left` is the set of the jobs that it leaves unplaced.
 fn enter(
     r: &Flat,
     extras: &Extras,
+    memory: &mut [u64],
     v: &Cells,
     tally: &mut Tally,
     budget: u32,
@@ -143,8 +173,8 @@ fn enter(
     j: JobNumber,
     s: u32,
 ) -> bool
-    requires { ⌜ Tabled (recorderOf (now r)) (now extras) × Some (recorderOf (now r)) budget (now tally) (Enters (recorderOf (now r)) (now v) left floor (j .0) s) ⌝ }
-    ensures kept { λ _. ⌜ (length (now (tally .exit)) ≡ 34) × (energyAt (now (tally .exit)) ≤ energyAt (now (tally .entry))) ⌝ }
+    requires { ⌜ Lends (recorderOf (now r)) (now extras) (now memory) × ((floor < energyAt (now tally)) × Some (recorderOf (now r)) budget (now tally) (Enters (recorderOf (now r)) (now v) left floor (j .0) s)) ⌝ }
+    ensures kept { λ _. ⌜ Lends (recorderOf (now (r .entry))) (now (extras .entry)) (now (memory .exit)) × ((length (now (tally .exit)) ≡ 34) × (energyAt (now (tally .exit)) ≤ energyAt (now (tally .entry)))) ⌝ }
     ensures came { λ x. ⌜ ((m : ℕ) (u : Vertex) (st : Visited) → Enters (recorderOf (now (r .entry))) (now (v .entry)) left floor (j .0) s m u → Tells (recorderOf (now (r .entry))) budget (now (tally .entry)) u st → Came (recorderOf (now (r .entry))) budget (now (tally .exit)) u (entered (recorderOf (now (r .entry))) m (child (recorderOf (now (r .entry))) u (j .0) s) st) x) ⌝ }
 {
     note(tally, j.0, s);
@@ -156,13 +186,14 @@ fn enter(
     let mut w = *v;
     place(r, &mut w, j.0, s);
     let time = s + wide(run_of(r, j.0));
-    choices(r, extras, &w, tally, budget, left, floor, time)
+    below(r, extras, memory, &w, tally, budget, left, floor, time)
 }
 
-// Each unplaced job in turn.
-fn choices(
+// The children of a vertex that is not complete: what is remembered of them, or each of them examined.
+fn below(
     r: &Flat,
     extras: &Extras,
+    memory: &mut [u64],
     v: &Cells,
     tally: &mut Tally,
     budget: u32,
@@ -170,8 +201,63 @@ fn choices(
     from: u32,
     time: u32,
 ) -> bool
-    requires { ⌜ Tabled (recorderOf (now r)) (now extras) × Some (recorderOf (now r)) budget (now tally) (λ m u. Stands (recorderOf (now r)) (now v) set from m u × (u .time ≡ time)) ⌝ }
-    ensures kept { λ _. ⌜ (length (now (tally .exit)) ≡ 34) × (energyAt (now (tally .exit)) ≤ energyAt (now (tally .entry))) ⌝ }
+    requires { ⌜ Lends (recorderOf (now r)) (now extras) (now memory) × ((from < energyAt (now tally)) × Some (recorderOf (now r)) budget (now tally) (λ m u. Stands (recorderOf (now r)) (now v) set from m u × (u .time ≡ time))) ⌝ }
+    ensures kept { λ _. ⌜ Lends (recorderOf (now (r .entry))) (now (extras .entry)) (now (memory .exit)) × ((length (now (tally .exit)) ≡ 34) × (energyAt (now (tally .exit)) ≤ energyAt (now (tally .entry)))) ⌝ }
+    ensures came { λ x. ⌜ ((m : ℕ) (u : Vertex) (st : Visited) → Stands (recorderOf (now (r .entry))) (now (v .entry)) set from m u → u .time ≡ time → Tells (recorderOf (now (r .entry))) budget (now (tally .entry)) u st → Came (recorderOf (now (r .entry))) budget (now (tally .exit)) u (order.choices (recorderOf (now (r .entry))) (order.visit (recorderOf (now (r .entry))) m) u st) x) ⌝ }
+{
+    if !is_many(set) {
+        return choices(r, extras, memory, v, tally, budget, set, from, time);
+    }
+    let slack = slack_of(tally[1], from);
+    let asked = ask(r, extras, memory, v, set, time, slack);
+    if 0 < asked.count {
+        return add_count(tally, budget, asked.count);
+    }
+    learn(r, extras, memory, v, tally, budget, set, from, time, asked)
+}
+
+// Each of them examined, and remembered where they leave the best as it was.
+fn learn(
+    r: &Flat,
+    extras: &Extras,
+    memory: &mut [u64],
+    v: &Cells,
+    tally: &mut Tally,
+    budget: u32,
+    set: usize,
+    from: u32,
+    time: u32,
+    asked: Asked,
+) -> bool
+    requires { ⌜ Lends (recorderOf (now r)) (now extras) (now memory) × ((from < energyAt (now tally)) × (Asks (recorderOf (now r)) (capAt (now extras)) (now v) set time (slackBy (energyAt (now tally)) from) asked × Some (recorderOf (now r)) budget (now tally) (λ m u. Stands (recorderOf (now r)) (now v) set from m u × (u .time ≡ time)))) ⌝ }
+    ensures kept { λ _. ⌜ Lends (recorderOf (now (r .entry))) (now (extras .entry)) (now (memory .exit)) × ((length (now (tally .exit)) ≡ 34) × (energyAt (now (tally .exit)) ≤ energyAt (now (tally .entry)))) ⌝ }
+    ensures came { λ x. ⌜ ((m : ℕ) (u : Vertex) (st : Visited) → Stands (recorderOf (now (r .entry))) (now (v .entry)) set from m u → u .time ≡ time → Tells (recorderOf (now (r .entry))) budget (now (tally .entry)) u st → Came (recorderOf (now (r .entry))) budget (now (tally .exit)) u (order.choices (recorderOf (now (r .entry))) (order.visit (recorderOf (now (r .entry))) m) u st) x) ⌝ }
+{
+    let before = tally[0];
+    let best = tally[1];
+    if choices(r, extras, memory, v, tally, budget, set, from, time) {
+        return true;
+    }
+    if tally[1] == best {
+        keep(memory, asked.slot, asked.key, tally[0] - before);
+    }
+    false
+}
+
+// Each unplaced job in turn.
+fn choices(
+    r: &Flat,
+    extras: &Extras,
+    memory: &mut [u64],
+    v: &Cells,
+    tally: &mut Tally,
+    budget: u32,
+    set: usize,
+    from: u32,
+    time: u32,
+) -> bool
+    requires { ⌜ Lends (recorderOf (now r)) (now extras) (now memory) × Some (recorderOf (now r)) budget (now tally) (λ m u. Stands (recorderOf (now r)) (now v) set from m u × (u .time ≡ time)) ⌝ }
+    ensures kept { λ _. ⌜ Lends (recorderOf (now (r .entry))) (now (extras .entry)) (now (memory .exit)) × ((length (now (tally .exit)) ≡ 34) × (energyAt (now (tally .exit)) ≤ energyAt (now (tally .entry)))) ⌝ }
     ensures came { λ x. ⌜ ((m : ℕ) (u : Vertex) (st : Visited) → Stands (recorderOf (now (r .entry))) (now (v .entry)) set from m u → u .time ≡ time → Tells (recorderOf (now (r .entry))) budget (now (tally .entry)) u st → Came (recorderOf (now (r .entry))) budget (now (tally .exit)) u (order.choices (recorderOf (now (r .entry))) (order.visit (recorderOf (now (r .entry))) m) u st) x) ⌝ }
 {
     let n = job_count(r);
@@ -184,6 +270,7 @@ fn choices(
             if tries(
                 r,
                 extras,
+                memory,
                 v,
                 tally,
                 budget,
@@ -208,6 +295,7 @@ fn choices(
 fn tries(
     r: &Flat,
     extras: &Extras,
+    memory: &mut [u64],
     v: &Cells,
     tally: &mut Tally,
     budget: u32,
@@ -218,8 +306,8 @@ fn tries(
     dues: Dues,
     j: JobNumber,
 ) -> bool
-    requires { ⌜ Tabled (recorderOf (now r)) (now extras) × ((j .0 < jobs (recorderOf (now r))) × ((has set (j .0) ≡ true) × ((p ≡ 2 ^ j .0) × (TwoLeast (recorderOf (now r)) set (jobs (recorderOf (now r))) dues × Some (recorderOf (now r)) budget (now tally) (λ m u. Stands (recorderOf (now r)) (now v) set from m u × (u .time ≡ time)))))) ⌝ }
-    ensures kept { λ _. ⌜ (length (now (tally .exit)) ≡ 34) × (energyAt (now (tally .exit)) ≤ energyAt (now (tally .entry))) ⌝ }
+    requires { ⌜ Lends (recorderOf (now r)) (now extras) (now memory) × ((j .0 < jobs (recorderOf (now r))) × ((has set (j .0) ≡ true) × ((p ≡ 2 ^ j .0) × (TwoLeast (recorderOf (now r)) set (jobs (recorderOf (now r))) dues × Some (recorderOf (now r)) budget (now tally) (λ m u. Stands (recorderOf (now r)) (now v) set from m u × (u .time ≡ time)))))) ⌝ }
+    ensures kept { λ _. ⌜ Lends (recorderOf (now (r .entry))) (now (extras .entry)) (now (memory .exit)) × ((length (now (tally .exit)) ≡ 34) × (energyAt (now (tally .exit)) ≤ energyAt (now (tally .entry)))) ⌝ }
     ensures came { λ x. ⌜ ((m : ℕ) (u : Vertex) (st : Visited) → Stands (recorderOf (now (r .entry))) (now (v .entry)) set from m u → u .time ≡ time → Tells (recorderOf (now (r .entry))) budget (now (tally .entry)) u st → Came (recorderOf (now (r .entry))) budget (now (tally .exit)) u (through (λ (x : ℕ). order.visit (recorderOf (now (r .entry))) m (child (recorderOf (now (r .entry))) u (j .0) x)) (starts (recorderOf (now (r .entry))) (u .time) (j .0)) st) x) ⌝ }
 {
     let mut cut = first_cut(r, v, dues, j);
@@ -227,18 +315,33 @@ fn tries(
     while s < cut {
         let floor = from + lead_of(r, extras, v, j.0, s);
         cut = cut_at(r, extras, v, tally[1], floor, cut, j.0, s);
-        if visit(r, extras, v, tally, budget, set, p, from, cut, floor, j, s) {
+        if visit(
+            r,
+            extras,
+            memory,
+            v,
+            tally,
+            budget,
+            set,
+            p,
+            from,
+            cut,
+            floor,
+            j,
+            s,
+        ) {
             return true;
         }
         s += 1;
     }
-    drops(r, extras, v, tally, budget, set, p, from, j, s)
+    drops(r, extras, memory, v, tally, budget, set, p, from, j, s)
 }
 
 // The starts of job j from `start` on, at which every child is dropped: each is counted.
 fn drops(
     r: &Flat,
     extras: &Extras,
+    memory: &mut [u64],
     v: &Cells,
     tally: &mut Tally,
     budget: u32,
@@ -248,15 +351,29 @@ fn drops(
     j: JobNumber,
     start: u32,
 ) -> bool
-    requires { ⌜ Tabled (recorderOf (now r)) (now extras) × ((j .0 < jobs (recorderOf (now r))) × ((has set (j .0) ≡ true) × ((p ≡ 2 ^ j .0) × ((start ≤ 65536) × (Drops (recorderOf (now r)) (now v) set from (energyAt (now tally)) (j .0) start × Some (recorderOf (now r)) budget (now tally) (λ m u. Stands (recorderOf (now r)) (now v) set from m u × (earliest (recorderOf (now r)) (u .time) (j .0) ≤ start))))))) ⌝ }
-    ensures kept { λ _. ⌜ (length (now (tally .exit)) ≡ 34) × (energyAt (now (tally .exit)) ≤ energyAt (now (tally .entry))) ⌝ }
+    requires { ⌜ Lends (recorderOf (now r)) (now extras) (now memory) × ((j .0 < jobs (recorderOf (now r))) × ((has set (j .0) ≡ true) × ((p ≡ 2 ^ j .0) × ((start ≤ 65536) × (Drops (recorderOf (now r)) (now v) set from (energyAt (now tally)) (j .0) start × Some (recorderOf (now r)) budget (now tally) (λ m u. Stands (recorderOf (now r)) (now v) set from m u × (earliest (recorderOf (now r)) (u .time) (j .0) ≤ start))))))) ⌝ }
+    ensures kept { λ _. ⌜ Lends (recorderOf (now (r .entry))) (now (extras .entry)) (now (memory .exit)) × ((length (now (tally .exit)) ≡ 34) × (energyAt (now (tally .exit)) ≤ energyAt (now (tally .entry)))) ⌝ }
     ensures came { λ x. ⌜ ((m : ℕ) (u : Vertex) (st : Visited) → Stands (recorderOf (now (r .entry))) (now (v .entry)) set from m u → earliest (recorderOf (now (r .entry))) (u .time) (j .0) ≤ start → Tells (recorderOf (now (r .entry))) budget (now (tally .entry)) u st → Came (recorderOf (now (r .entry))) budget (now (tally .exit)) u (through (λ (x : ℕ). order.visit (recorderOf (now (r .entry))) m (child (recorderOf (now (r .entry))) u (j .0) x)) (upFrom start (suc (deadline (recorderOf (now (r .entry))) (j .0)) - (start + run (recorderOf (now (r .entry))) (j .0)))) st) x) ⌝ }
 {
     let c = wide(run_of(r, j.0));
     let d = wide(deadline_of(r, j.0));
     let mut s = start;
     while s + c <= d {
-        if visit(r, extras, v, tally, budget, set, p, from, 0, 0, j, s) {
+        if visit(
+            r,
+            extras,
+            memory,
+            v,
+            tally,
+            budget,
+            set,
+            p,
+            from,
+            0,
+            0,
+            j,
+            s,
+        ) {
             return true;
         }
         s += 1;
@@ -265,8 +382,8 @@ fn drops(
 }
 
 // The root and all below it.
-fn root_visit(r: &Flat, extras: &Extras, tally: &mut Tally, budget: u32) -> bool
-    requires { ⌜ Tabled (recorderOf (now r)) (now extras) × ((length (now tally) ≡ 34) × ((countAt (now tally) ≡ 0) × (energyAt (now tally) ≡ 4294967295))) ⌝ }
+fn root_visit(r: &Flat, extras: &Extras, memory: &mut [u64], tally: &mut Tally, budget: u32) -> bool
+    requires { ⌜ Lends (recorderOf (now r)) (now extras) (now memory) × ((length (now tally) ≡ 34) × ((countAt (now tally) ≡ 0) × (energyAt (now tally) ≡ 4294967295))) ⌝ }
     ensures { λ x. ⌜ Came (recorderOf (now (r .entry))) budget (now (tally .exit)) (order.root (recorderOf (now (r .entry)))) (visited (recorderOf (now (r .entry)))) x ⌝ }
 {
     if budget == 0 {
@@ -284,7 +401,7 @@ fn root_visit(r: &Flat, extras: &Extras, tally: &mut Tally, budget: u32) -> bool
         offer(tally, e);
         return false;
     }
-    choices(r, extras, &v, tally, budget, all_jobs(r), floor, 0)
+    choices(r, extras, memory, &v, tally, budget, all_jobs(r), floor, 0)
 }
 
 // Writes the first n starts of the best into the lent list.
@@ -300,7 +417,7 @@ fn write_starts(tally: &Tally, n: usize, out: &mut [u16])
 }
 
 // The first of the cheapest schedules, by job number into the lent list; or 15, then 20, then 19, and the list as it was.
-pub fn search(r: Recorder, budget: u32, out: &mut [u16]) -> Found
+pub fn search(r: Recorder, budget: u32, memory: &mut [u64], out: &mut [u16]) -> Found
     requires { ⌜ Valid r ⌝ }
     ensures { λ x. ⌜ Finds r budget (now (out .entry)) x (now (out .exit)) ⌝ }
 {
@@ -316,9 +433,10 @@ pub fn search(r: Recorder, budget: u32, out: &mut [u16]) -> Found
     let flat = flat_of(r);
     let mut extras = [0u32; 32800];
     lay_extras(&flat, &mut extras);
+    clear(memory);
     let mut tally = [0u32; 34];
     tally[1] = NONE;
-    if root_visit(&flat, &extras, &mut tally, budget) {
+    if root_visit(&flat, &extras, memory, &mut tally, budget) {
         return Found {
             number: 20,
             energy: 0,

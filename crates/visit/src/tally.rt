@@ -2,7 +2,7 @@
 ghost use mathlib.Core.Path.{_≡_};
 ghost use Prim.Native.Nat.{ℕ, _+_, _<_, _≤_};
 ghost use lib.ListN.{set, length};
-ghost use Rattle.visit.specs.inside.Lent.{countAt, energyAt};
+ghost use Rattle.visit.specs.inside.Lent.{countAt, energyAt, Added};
 ghost use Rattle.visit.specs.inside.Offers.{Offered};
 
 // 0 the count, 1 the energy of the best, 2.. the starts of the placed jobs, 18.. those of the best.
@@ -17,6 +17,18 @@ pub fn count_one(tally: &mut Tally)
     ensures { λ _. ⌜ now (tally .exit) ≡ set (now (tally .entry)) 0 (countAt (now (tally .entry)) + 1) ⌝ }
 {
     tally[0] += 1;
+}
+
+// So many vertices more, if the budget has them. Answers whether it has not.
+pub fn add_count(tally: &mut Tally, budget: u32, n: u32) -> bool
+    requires { ⌜ (length (now tally) ≡ 34) × (countAt (now tally) ≤ budget) ⌝ }
+    ensures { λ x. ⌜ Added budget n (now (tally .entry)) (now (tally .exit)) x ⌝ }
+{
+    if budget - tally[0] < n {
+        return true;
+    }
+    tally[0] += n;
+    false
 }
 
 // Job j starts at s.

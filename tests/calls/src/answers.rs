@@ -18,11 +18,12 @@ type Answers = (&'static str, &'static [u8], &'static [u8], u64);
 
 // A line each.
 #[rustfmt::skip]
-const ANSWERS: [Answers; 21] = [
+const ANSWERS: [Answers; 22] = [
     ("floe_check", &FILE, &[15], 12_100),
     ("floe_sizes", &FILE, &[15], 12_100),
     ("floe_fault", &FILE, &[15], 15_900),
     ("floe_search", &FILE, &[15, 19, 20], 100_300),
+    ("floe_search_in", &FILE, &[15, 19, 20], 100_300),
     ("floe_first", &FILE, &[15, 19], 15_400),
     ("floe_least", &FILE, &[15, 19, 20], 55_000),
     ("floe_rows", &FILE, &[14, 15, 16, 17, 18], 36_400),

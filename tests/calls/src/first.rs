@@ -107,7 +107,6 @@ fn job_count_place(file: &[u8]) -> usize {
 /// What include/floebucket.h says of the stack, with room for what a thread of this program needs
 /// itself: a call that needs more ends the program.
 fn on_a_small_stack() -> Result<(), String> {
-    const STACK: usize = 160 * 1024;
     // Sixteen jobs one after the other, each with a window of its own.
     let mut file = vec![16, 0, 0, 0, 16];
     for job in 0u16..16 {
@@ -116,18 +115,25 @@ fn on_a_small_stack() -> Result<(), String> {
         }
         file.push(0);
     }
-    let calls = move || {
-        let (mut starts, mut result) = ([0; 32], [0; RESULT]);
-        let first = library::first(&file, &mut starts, &mut result);
-        let search = library::search(&file, 100_000, &mut starts, &mut result);
-        (first, search)
-    };
-    let thread = thread::Builder::new().stack_size(STACK).spawn(calls);
-    let numbers = thread.map_err(|fault| fault.to_string())?.join();
-    match numbers {
-        Ok((0, 0 | 20)) => Ok(()),
-        other => Err(format!("on a small stack: {other:?}")),
+    let calls: [(usize, Call); 3] = [
+        (160, library::first),
+        (256, |file, starts, result| {
+            library::search(file, 100_000, starts, result)
+        }),
+        (160, |file, starts, result| {
+            library::search_in(file, 100_000, &mut [1; 600], starts, result)
+        }),
+    ];
+    for (stack, call) in calls {
+        let file = file.clone();
+        let thread = thread::Builder::new().stack_size(stack * 1024);
+        let thread = thread.spawn(move || call(&file, &mut [0; 32], &mut [0; RESULT]));
+        let number = thread.map_err(|fault| fault.to_string())?.join();
+        let Ok(0 | 20) = number else {
+            return Err(format!("on a stack of {stack} KiB: {number:?}"));
+        };
     }
+    Ok(())
 }
 
 type Call = fn(&[u8], &mut [u8], &mut [u8]) -> u8;

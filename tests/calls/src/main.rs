@@ -36,6 +36,8 @@ struct Tester {
     random: Random,
     /// The search that is tried.
     search: searching::Search,
+    /// What is lent to the search with a memory, and three words more.
+    memory: Vec<u64>,
     met: BTreeMap<(&'static str, u8), u64>,
     /// Searches that ran out of their budget with a best at hand.
     cut_short: u64,
@@ -48,6 +50,7 @@ impl Tester {
         Tester {
             random: Random::new(SEED, STREAM),
             search,
+            memory: Vec::new(),
             met: BTreeMap::new(),
             cut_short: 0,
             rows: Rows::default(),
@@ -128,6 +131,30 @@ impl Tester {
             }
         }
         budgets
+    }
+
+    /// The same with a lent memory of any length, which holds noise or what a search of another file
+    /// has left in it. Words after it stay.
+    fn search_in(&mut self, searched: &Searched) {
+        const KEPT: u64 = 0xA5A5_A5A5_A5A5_A5A5;
+        let jobs = searched.read.as_ref().map_or(0, |read| read.jobs.len());
+        for budget in self.budgets(searched) {
+            if self.memory.is_empty() || self.random.one_in(5) {
+                let words = self.random.pick(&[0, 1, 6, 61, 600, 12_288]);
+                let random = &mut self.random;
+                let noise = (0..words).map(|_| random.within(0, u64::MAX - 1));
+                self.memory = noise.chain([KEPT; 3]).collect();
+            }
+            let mut after = self.buffers(2 * jobs);
+            let expected = searched.search(budget, &after);
+            let words = self.memory.len() - 3;
+            let (memory, kept) = self.memory.split_at_mut(words);
+            let (lent, result) = (&mut after.lent, &mut after.result);
+            let number = library::search_in(&searched.file, budget, memory, lent, result);
+            assert_eq!(kept, [KEPT; 3], "words after the memory are written to");
+            let got = outcome(number, after);
+            self.compare("floe_search_in", &searched.file, expected, got);
+        }
     }
 
     fn first(&mut self, searched: &Searched, jobs: usize) {
@@ -233,6 +260,7 @@ impl Tester {
         self.check(searched);
         self.sizes(searched);
         self.search(searched);
+        self.search_in(searched);
         self.first(searched, jobs);
         self.least(searched, jobs);
         for _ in 0..3 {

@@ -4,6 +4,7 @@
 use crate::expected::{pairs, Searched, RESULT};
 use crate::{library, Tester, SEED};
 use outside::cases::random::Random;
+use outside::cases::tables::{device_a, task, Tables};
 use outside::cases::{draw, Case, Kind};
 use outside::oracle::long;
 
@@ -18,6 +19,7 @@ const FEW: u64 = 120;
 pub const LEAST_CUT_SHORT: u64 = 20_000;
 
 pub fn test(tester: &mut Tester) -> Result<(), String> {
+    the_papers_largest_set()?;
     for number in 0..REQUESTS {
         tester.all(&too_long(long::draw(&mut Random::new(SEED, number))));
         if let Some(failure) = tester.failure.take() {
@@ -27,6 +29,39 @@ pub fn test(tester: &mut Tester) -> Result<(), String> {
     for (name, wrong) in WRONG {
         if !is_found(wrong) {
             return Err(format!("not found: a search with {name}"));
+        }
+    }
+    Ok(())
+}
+
+/// The pruning paper's largest set of at most sixteen jobs (Table 6, 16 jobs in 55 ticks). The oracle does not
+/// get to its end; the search without a memory took twelve seconds for these vertices.
+fn the_papers_largest_set() -> Result<(), String> {
+    const COUNT: u32 = 2_705_846_136;
+    const ENERGY: u32 = 250;
+    let file = Tables {
+        devices: vec![device_a(); 2],
+        tasks: vec![task(5, 1, 0b01), task(11, 3, 0b10)],
+        ..Tables::default()
+    }
+    .bytes();
+    let mut memory = vec![u64::MAX / 7; 3_000];
+    for (budget, expected) in [
+        (COUNT - 1, (20, 0, COUNT - 1)),
+        (COUNT, (0, ENERGY, COUNT)),
+        (u32::MAX, (0, ENERGY, COUNT)),
+    ] {
+        let (mut starts, mut result) = ([0; 32], [0; RESULT]);
+        let (mut others, mut told) = ([0; 32], [0; RESULT]);
+        let number = library::search(&file, budget, &mut starts, &mut result);
+        let same = library::search_in(&file, budget, &mut memory, &mut others, &mut told);
+        let number_at =
+            |at: usize| u32::from_be_bytes(result[at..at + 4].try_into().expect("four"));
+        let got = (number, number_at(3), number_at(7));
+        if got != expected || (number, starts, result) != (same, others, told) {
+            return Err(format!(
+                "the paper's largest set: {got:?}, not {expected:?}"
+            ));
         }
     }
     Ok(())

@@ -3,7 +3,8 @@ use borrow.Author.Needs.{needs}
 use Rattle.flat.specs.inside.Flat.{recorderOf}
 use Rattle.extras.specs.inside.Tabled.{capAt}
 use Rattle.least.specs.inside.Outcome.{Recalls}
-use Rattle.least.proofs.Kept.{noKey, right-clear}
+use Rattle.stored.specs.inside.Cleared.{noKey}
+use Rattle.least.proofs.Kept.{right-clear}
 use Rattle.least.proofs.Keyed.{recalls-none}
 use Rattle.cheapest.proofs.find.Statement.{statement}
 use Rattle.cheapest.proofs.find.Tie as tie

@@ -6,7 +6,7 @@ use mathlib.Core.Logic.{_⊎_}
 use Prim.Native.Nat.{ℕ, _+_, _*_, _/_, _%_, _≤_}
 use lib.Dec.{leb, ltb}
 use lib.ListN.{getD, set, length}
-use Rattle.least.specs.declared.naming.Key.{Key}
+use Rattle.stored.specs.declared.Key.{Key}
 use Rattle.least.specs.declared.memory.Spot.{Spot}
 
 abbrev pub word : List ℕ → ℕ → ℕ → ℕ

@@ -1,10 +1,10 @@
 -- What the calls of the search come to.
 use mathlib.Core.Path.{_≡_}
-use mathlib.Core.Bool.{Bool, true, false, cond}
+use mathlib.Core.Bool.{Bool, true, false}
 use mathlib.Core.List.{List}
 use mathlib.Core.Option.{Option}
-use Prim.Native.Nat.{ℕ, suc, _+_, _-_, _*_, _/_, _%_, _≤_, _<_, max}
-use lib.Dec.{eqb, ltb}
+use Prim.Native.Nat.{ℕ, suc, _+_, _-_, _/_, _%_, _≤_, _<_, max}
+use lib.Dec.{eqb}
 use lib.ListN.{take}
 use Rattle.schedule.specs.declared.Recorder.{Recorder}
 use Rattle.base.specs.Lists.{In}
@@ -12,30 +12,17 @@ use Rattle.schedule.specs.Quantities.{jobs, run, deadline}
 use Rattle.schedule.specs.Listing.{FirstLeast}
 use Rattle.schedule.specs.Visiting.{Vertex, earliest, planEnergy}
 use Rattle.schedule.proofs.Tree.{Reached}
-use Rattle.latest.specs.inside.Sparing.{setOf}
 use Rattle.latest.specs.inside.Latest.{Laid}
 use Rattle.value.specs.inside.Options.{Answers, Holds}
 use Rattle.value.specs.inside.Leasts.{leastOf}
-use Rattle.value.specs.inside.Stored.{idleKey, firstKey}
 use Rattle.extras.specs.inside.Tabled.{Tabled, capAt}
-use Rattle.least.specs.declared.naming.Key.{Key}
-use Rattle.least.specs.inside.Shown.{four, Shows}
+use Rattle.stored.specs.declared.Key.{Key}
+pub use Rattle.stored.specs.inside.Naming.{ofDevices, Named}
+use Rattle.least.specs.inside.Shown.{Shows}
 use Rattle.least.specs.inside.Entries.{Right}
 use Rattle.least.specs.Effort.{mostVertices}
 
 -- ---- what is remembered
-
--- A number of each device that is there.
-abbrev pub ofDevices : Recorder → (ℕ → ℕ) → ℕ → ℕ
-ofDevices R f k = cond (ltb k (R .devices .count)) (f k) 0
-
--- The vertex v has the key q.
-pub record Named (R : Recorder) (cap : ℕ → ℕ) (q : Key) (v : Vertex) : Type 0 where
-  pub head : setOf (v .unplaced) + 65536 * v .time ≡ q .head
-  pub idle : four (ofDevices R (λ k. idleKey R (λ i t u. t) cap k v)) 0 ≡ q .idle
-  pub idle4 : four (ofDevices R (λ k. idleKey R (λ i t u. t) cap k v)) 4 ≡ q .idle4
-  pub first : four (ofDevices R (λ k. firstKey R (λ i t u. t) cap k v)) 0 ≡ q .first
-  pub first4 : four (ofDevices R (λ k. firstKey R (λ i t u. t) cap k v)) 4 ≡ q .first4
 
 -- What is known is right for every vertex with the key q: half of it is a bound of the least, and the least itself where it is odd.
 unfoldable pub Recalls : Recorder → (ℕ → ℕ) → Key → ℕ → Type 0

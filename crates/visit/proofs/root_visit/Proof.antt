@@ -16,17 +16,17 @@ returns : tie.Need-returns
 returns c = root-over _ _ (c .if1 .taken) _
 
 count-one-requires : tie.Need-count-one-requires
-count-one-requires c κs = let s = c .before .before in (s .pre .1 .0, omega (arith, s .pre .1 .1 .0))
+count-one-requires c κs = let s = c .before .before .before in (s .pre .1 .0, omega (arith, s .pre .1 .1 .0))
 
 root-of-requires : tie.Need-root-of-requires
-root-of-requires c κs = c .before .before .before .pre .0 .valid
+root-of-requires c κs = c .before .before .before .before .pre .0 .tabled .valid
 
 returns-2 : tie.Need-returns-2
 returns-2 c =
     let k = c .before .before .before .before in
-    let s = k .before .before .before in
+    let s = k .before .before .before .before in
     let R = recorderOf (s .args .r .now) in
-    root-cut R (s .args .budget) (s .pre .0 .valid) _ (c .before .before .before .root-of .ensures)
+    root-cut R (s .args .budget) (s .pre .0 .tabled .valid) _ (c .before .before .before .root-of .ensures)
     (omega (arith, c .if2 .taken, c .before .wide .ensures .0 ∙ c .before .before .horizon-of .ensures)) (s .args .tally .now) _
     (root-tells R (s .args .budget) (s .args .tally .now) (s .pre .1 .0) (s .pre .1 .1 .0) (s .pre .1 .1 .1)) (omega (arith, k .before .before .if1 .left)) (k .count-one .ensures)
 
@@ -34,14 +34,14 @@ root-floor-requires : tie.Need-root-floor-requires
 root-floor-requires c κs =
     let e = c .before in
     let k = e .before .before .before .before in
-    let s = k .before .before .before in
-    (s .pre .0, root-aheads (recorderOf (s .args .r .now)) (s .args .budget) (s .pre .0 .valid) _ (e .before .before .before .root-of .ensures) (omega (arith, e .if2 .left, e .before .wide .ensures .0 ∙ e .before .before .horizon-of .ensures)))
+    let s = k .before .before .before .before in
+    (s .pre .0 .tabled, root-aheads (recorderOf (s .args .r .now)) (s .args .budget) (s .pre .0 .tabled .valid) _ (e .before .before .before .root-of .ensures) (omega (arith, e .if2 .left, e .before .wide .ensures .0 ∙ e .before .before .horizon-of .ensures)))
 
 close-of-requires : tie.Need-close-of-requires
 close-of-requires c κs =
     let e = c .before .before .before .before .before in
-    let s = e .before .before .before .before .before .before .before in
-    let x = s .pre .0 in
+    let s = e .before .before .before .before .before .before .before .before in
+    let x = s .pre .0 .tabled in
     let R = recorderOf (s .args .r .now) in
     (x, ordered-later R (x .valid) _ 0 (R .horizon) (shown-ordered R (x .valid) _ _ _ _ (e .before .before .before .root-of .ensures)) (omega arith) (omega arith))
 
@@ -51,40 +51,38 @@ add-e c = omega (arith, c .close-of .ensures .1, c .before .before .before .befo
 offer-requires : tie.Need-offer-requires
 offer-requires c κs =
     let k = c .before .before .before .before .before .before .before .before .before .before .before in
-    let s = k .before .before .before in
+    let s = k .before .before .before .before in
     counted-less (s .args .tally .now) _ (s .pre .1 .0) (k .count-one .ensures) .0
 
 returns-3 : tie.Need-returns-3
 returns-3 c =
     let e = c .before .before .before .before .before .before .before .before in
     let k = e .before .before .before .before in
-    let s = k .before .before .before in
+    let s = k .before .before .before .before in
     let R = recorderOf (s .args .r .now) in
     let close = c .before .before .close-of in
     let f = c .before .before .before .before .before .before .root-floor in
-    root-complete R (s .args .budget) (s .pre .0 .valid) _ (e .before .before .before .root-of .ensures) (omega (arith, e .if2 .left, e .before .wide .ensures .0 ∙ e .before .before .horizon-of .ensures)) (s .args .tally .now) _
+    root-complete R (s .args .budget) (s .pre .0 .tabled .valid) _ (e .before .before .before .root-of .ensures) (omega (arith, e .if2 .left, e .before .wide .ensures .0 ∙ e .before .before .horizon-of .ensures)) (s .args .tally .now) _
     (root-tells R (s .args .budget) (s .args .tally .now) (s .pre .1 .0) (s .pre .1 .1 .0) (s .pre .1 .1 .1)) (omega (arith, k .before .before .if1 .left)) (k .count-one .ensures)
     (sym (c .before .before .before .before .before .job-count .ensures) ∙ c .before .before .before .before .if3 .taken) (f .result) _ (f .ensures .0) (ap (λ (y : ℕ). f .result + y) (close .ensures .0)) (omega (arith, close .ensures .1, f .ensures .1)) _ (c .offer .ensures)
 
 all-jobs-requires : tie.Need-all-jobs-requires
-all-jobs-requires c κs =
-    let e = c .before .before .before .before .before .before in
-    e .before .before .before .before .before .before .before .pre .0 .valid
+all-jobs-requires c κs = c .before .before .before .before .before .before .before .before .before .before .before .before .before .before .before .pre .0 .tabled .valid
 
 choices-requires : tie.Need-choices-requires
 choices-requires c κs =
-    let e = c .before .before .before .before .before .before .before in
+    let e = c .before .before .before .before .before .before .before .before in
     let k = e .before .before .before .before in
-    let s = k .before .before .before in
-    let x = s .pre .0 in
+    let s = k .before .before .before .before in
+    let x = s .pre .0 .tabled in
     let R = recorderOf (s .args .r .now) in
-    let f = c .before .before .before .before .before .root-floor in
+    let f = c .before .before .before .before .before .before .root-floor in
     let shows = e .before .before .before .root-of .ensures in
     let room : loadAt (e .before .before .before .root-of .result) ≤ R .horizon = omega (arith, e .if2 .left, e .before .wide .ensures .0 ∙ e .before .before .horizon-of .ensures) in
     let tells = root-tells R (s .args .budget) (s .args .tally .now) (s .pre .1 .0) (s .pre .1 .1 .0) (s .pre .1 .1 .1) in
     let less : 0 < s .args .budget = omega (arith, k .before .before .if1 .left) in
-    let n = root-some R (s .args .budget) (x .valid) _ shows room _ _ tells less (k .count-one .ensures) (λ z. c .before .before .before .if3 .left (c .before .before .before .before .job-count .ensures ∙ z)) in (
-      x,
+    let n = root-some R (s .args .budget) (x .valid) _ shows room _ _ tells less (k .count-one .ensures) (λ z. c .before .before .before .before .if3 .left (c .before .before .before .before .before .job-count .ensures ∙ z)) in (
+      s .pre .0,
       record {
         left = n .0;
         vertex = root R;
@@ -96,19 +94,19 @@ choices-requires c κs =
 
 returns-4 : tie.Need-returns-4
 returns-4 c =
-    let e = c .before .before .before .before .before .before .before .before in
+    let e = c .before .before .before .before .before .before .before .before .before .before .before in
     let k = e .before .before .before .before in
-    let s = k .before .before .before in
-    let x = s .pre .0 in
+    let s = k .before .before .before .before in
+    let x = s .pre .0 .tabled in
     let R = recorderOf (s .args .r .now) in
-    let f = c .before .before .before .before .before .before .root-floor in
+    let f = c .before .before .before .before .before .before .before .before .before .root-floor in
     let shows = e .before .before .before .root-of .ensures in
     let room : loadAt (e .before .before .before .root-of .result) ≤ R .horizon = omega (arith, e .if2 .left, e .before .wide .ensures .0 ∙ e .before .before .horizon-of .ensures) in
     let tells = root-tells R (s .args .budget) (s .args .tally .now) (s .pre .1 .0) (s .pre .1 .1 .0) (s .pre .1 .1 .1) in
     let less : 0 < s .args .budget = omega (arith, k .before .before .if1 .left) in
-    let n = root-some R (s .args .budget) (x .valid) _ shows room _ _ tells less (k .count-one .ensures) (λ z. c .before .before .before .before .if3 .left (c .before .before .before .before .before .job-count .ensures ∙ z)) in
+    let n = root-some R (s .args .budget) (x .valid) _ shows room _ _ tells less (k .count-one .ensures) (λ z. c .before .before .before .before .before .before .before .if3 .left (c .before .before .before .before .before .before .before .before .job-count .ensures ∙ z)) in
     root-came R (s .args .budget) (x .valid) _ shows room _ _ tells less (k .count-one .ensures) (n .0) (n .1) _ _
-    (c .choices .ensures .1 (n .0) (root R) (counted bare) (root-stands R (s .args .budget) (x .valid) _ shows room _ _ tells less (k .count-one .ensures) (n .0) (n .1) _ _ (c .before .all-jobs .ensures) (f .ensures .0)) refl
+    (c .before .before .choices .ensures .1 (n .0) (root R) (counted bare) (root-stands R (s .args .budget) (x .valid) _ shows room _ _ tells less (k .count-one .ensures) (n .0) (n .1) _ _ (c .before .before .before .all-jobs .ensures) (f .ensures .0)) refl
     (root-one R (s .args .budget) (x .valid) _ shows room _ _ tells less (k .count-one .ensures)))
 
 pub root-visit-spec : {M : Type 1} → statement M
@@ -130,4 +128,5 @@ root-visit-spec =
     returns-3
     all-jobs-requires
     choices-requires
+    (λ c. search needs)
     returns-4)

@@ -1,17 +1,21 @@
 -- What the search lends and what its calls come to. The tally is thirty-four numbers: 0 the count, 1 the energy of the best (4294967295 where there is none), 2 to 17
 -- the starts of the jobs that are placed, by job number, and 18 to 33 those of the best.
 use mathlib.Core.Path.{_≡_}
-use mathlib.Core.Bool.{Bool, true, false}
+use mathlib.Core.Bool.{Bool, true, false, cond}
 use mathlib.Core.List.{List, _++_}
 use mathlib.Core.Logic.{_⊎_}
 use mathlib.Core.Option.{Option, none, some}
-use Prim.Native.Nat.{ℕ, zero, suc, _+_, _^_, _≤_, _<_}
-use lib.ListN.{getD, length, drop}
+use Prim.Native.Nat.{ℕ, zero, suc, _+_, _-_, _^_, _≤_, _<_}
+use lib.Dec.{eqb}
+use lib.ListN.{getD, set, length, drop}
 use Rattle.base.specs.Lists.{In}
 use Rattle.schedule.specs.declared.Recorder.{Recorder}
 use Rattle.schedule.specs.Quantities.{jobs, run, deadline}
 use Rattle.schedule.specs.Visiting.{Vertex, Visited, Walk, startsOf, child, earliest, cutA, floor, planEnergy, better, choices, visit, visited, vertices}
+use Rattle.extras.specs.inside.Tabled.{Tabled, capAt}
 use Rattle.vertex.specs.inside.Shown.{Shows}
+use Rattle.recall.specs.inside.Entries.{Right}
+use Rattle.recall.specs.inside.Counts.{Counts}
 use Rattle.visit.specs.declared.Found.{Found}
 
 -- ---- the tally
@@ -46,6 +50,22 @@ pub record Tells (R : Recorder) (budget : ℕ) (l : List ℕ) (v : Vertex) (st :
 pub data Came (R : Recorder) (budget : ℕ) (l : List ℕ) (v : Vertex) (st : Visited) : Bool → Type 0 where
   done : Tells R budget l v st → Came R budget l v st false
   over : budget < st .count → Came R budget l v st true
+
+-- n vertices more are counted, if the budget has them.
+pub data Added (budget n : ℕ) (l l′ : List ℕ) : Bool → Type 0 where
+  fits : countAt l + n ≤ budget → l′ ≡ set l 0 (countAt l + n) → Added budget n l l′ false
+  beyond : budget < countAt l + n → l′ ≡ l → Added budget n l l′ true
+
+-- ---- the memory
+
+-- By how much the energy of the best lies above a floor; 0 where there is no best.
+unfoldable pub slackBy : ℕ → ℕ → ℕ
+slackBy best f = cond (eqb best 4294967295) 0 (best - f)
+
+-- What the search is lent besides: the table of extras, and a memory in which every entry is right.
+pub record Lends (R : Recorder) (extras memory : List ℕ) : Type 0 where
+  pub tabled : Tabled R extras
+  pub right : Right (Counts R (capAt extras)) memory
 
 -- ---- vertices
 

@@ -14,7 +14,7 @@ use Rattle.calls.proofs.paired.search_bytes.Statement.{statement}
 use Rattle.calls.proofs.paired.search_bytes.Tie as tie
 
 -- The file is read as the recorder, which has at most 16 jobs.
-recorded : (c : tie.Else1) → Reads (c .before .before .before .before .before .args .file .now) (c .before .before .read .result .recorder)
+recorded : (c : tie.Else1) → Reads (c .before .before .before .before .before .before .args .file .now) (c .before .before .read .result .recorder)
 recorded c = read-accepted _ _ (c .before .before .read .ensures) (c .if1 .left)
 
 few : (c : tie.Else1) → jobs (c .before .before .read .result .recorder) ≤ 16
@@ -29,26 +29,26 @@ mul-if2 c = omega (arith, few c)
 returns-2 : tie.Need-returns-2
 returns-2 c = rw (c .refusal2 .ensures) (P.OfFile.read (recorded (c .before .before)) (starts-short _ _ _ (c .before .if2 .taken) P.SearchOf.short))
 
-search-of-requires : tie.Need-search-of-requires
-search-of-requires c κs = accepted-valid _ _ (recorded (c .before .before))
+search-in-of-requires : tie.Need-search-in-of-requires
+search-in-of-requires c κs = accepted-valid _ _ (recorded (c .before .before .before))
 
 array-share-prefix-own : tie.Need-array-share-prefix-own
-array-share-prefix-own c = omega (arith, few (c .before .before .before .before .before .before), c .before .before .before .search-of .kept)
+array-share-prefix-own c = omega (arith, few (c .before .before .before .before .before .before .before .before .before), c .before .before .before .before .before .search-in-of .kept)
 
 slice-aggregate-put-starts : tie.Need-slice-aggregate-put-starts
-slice-aggregate-put-starts c = sym (length-take-le _ _ (omega (arith, few (c .before .before .before .before .before .before .before), c .before .before .before .before .search-of .kept)))
+slice-aggregate-put-starts c = sym (length-take-le _ _ (omega (arith, few (c .before .before .before .before .before .before .before .before .before .before), c .before .before .before .before .before .before .search-in-of .kept)))
 
 put-starts-requires : tie.Need-put-starts-requires
-put-starts-requires c κs = rw (length-take-le (jobs (c .before .before .before .before .before .before .before .before .before .before .read .result .recorder)) (c .before .before .before .before .before .search-of .last .1 .1 .0) (omega (arith, few (c .before .before .before .before .before .before .before .before), c .before .before .before .before .before .search-of .kept))) (c .before .before .before .before .before .before .before .if2 .left)
+put-starts-requires c κs = rw (length-take-le (jobs (c .before .before .before .before .before .before .before .before .before .before .before .before .before .read .result .recorder)) (c .before .before .before .before .before .before .before .search-in-of .last .1 .1 .1 .0) (omega (arith, few (c .before .before .before .before .before .before .before .before .before .before .before), c .before .before .before .before .before .before .before .search-in-of .kept))) (c .before .before .before .before .before .before .before .before .before .before .if2 .left)
 
 returns-3 : tie.Need-returns-3
 returns-3 c =
-    let room : jobs (c .before .before .before .before .before .before .before .before .before .before .before .before .before .read .result .recorder) ≤ length (c .before .before .before .before .before .before .before .before .search-of .last .1 .1 .0) = omega (arith, few (c .before .before .before .before .before .before .before .before .before .before .before), c .before .before .before .before .before .before .before .before .search-of .kept) in
+    let room : jobs (c .before .before .before .before .before .before .before .before .before .before .before .before .before .before .before .before .read .result .recorder) ≤ length (c .before .before .before .before .before .before .before .before .before .before .search-in-of .last .1 .1 .1 .0) = omega (arith, few (c .before .before .before .before .before .before .before .before .before .before .before .before .before .before), c .before .before .before .before .before .before .before .before .before .before .search-in-of .kept) in
     rw (c .before .before .put-starts .ensures, length-take-le _ _ room)
-    (P.OfFile.read (recorded (c .before .before .before .before .before .before .before .before .before .before .before)) (starts-given _ _ _ (search-alike _ _) (c .before .before .before .before .before .before .before .before .before .before .if2 .left) _ (omega (arith, few (c .before .before .before .before .before .before .before .before .before .before .before))) (c .before .before .before .before .before .if3 .taken) (c .before .before .before .before .before .before .before .before .search-of .ensures)))
+    (P.OfFile.read (recorded (c .before .before .before .before .before .before .before .before .before .before .before .before .before .before)) (starts-given _ _ _ (search-alike _ _) (c .before .before .before .before .before .before .before .before .before .before .before .before .before .if2 .left) _ (omega (arith, few (c .before .before .before .before .before .before .before .before .before .before .before .before .before .before))) (c .before .before .before .before .before .if3 .taken) (c .before .before .before .before .before .before .before .before .before .before .search-in-of .ensures)))
 
 returns-4 : tie.Need-returns-4
-returns-4 c = P.OfFile.read (recorded (c .before .before .before .before .before .before)) (starts-kept _ _ _ (search-alike _ _) (c .before .before .before .before .before .if2 .left) _ (omega (arith, few (c .before .before .before .before .before .before))) (c .if3 .left) (c .before .before .before .search-of .ensures))
+returns-4 c = P.OfFile.read (recorded (c .before .before .before .before .before .before .before .before .before)) (starts-kept _ _ _ (search-alike _ _) (c .before .before .before .before .before .before .before .before .if2 .left) _ (omega (arith, few (c .before .before .before .before .before .before .before .before .before))) (c .if3 .left) (c .before .before .before .before .before .search-in-of .ensures))
 
 pub search-bytes-spec : {M : Type 1} → statement M
 search-bytes-spec =
@@ -61,10 +61,12 @@ search-bytes-spec =
     (λ c κs. search needs)
     returns-2
     (λ c. search needs)
-    search-of-requires
+    search-in-of-requires
     array-share-prefix-own
     slice-aggregate-put-starts
     put-starts-requires
     (λ c. search needs)
+    (λ c. search needs)
     returns-3
+    (λ c. search needs)
     returns-4)

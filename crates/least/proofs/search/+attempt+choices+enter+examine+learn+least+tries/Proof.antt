@@ -20,7 +20,7 @@ use Rattle.vertex.proofs.Lasting.{bit-is, bit-not}
 use Rattle.least.proofs.Trials.{Trial, trial-start, trial-as, trial-next, trial-stopped, trial-end}
 use Rattle.least.proofs.Going.{held-by, held-ordered, held-few, held-later, held-offers, some-left, offers-known, offers-end, offers-bit, child-shows, child-held, complete-answers, known-answers, head-few, learnt, learnt-kept, kept-lent, tried-entered, alive-early, near-comes, far-stops, far-comes, waits, starts-late, starts-to}
 use Rattle.schedule.specs.Visiting.{child}
-use Rattle.least.specs.declared.naming.Key.{Key}
+use Rattle.stored.specs.declared.Key.{Key}
 use Rattle.least.specs.inside.Entries.{Looked}
 use Rattle.extras.specs.inside.Tabled.{capAt}
 use Rattle.value.specs.inside.Leasts.{waited}
@@ -60,7 +60,7 @@ use Rattle.vertex.proofs.gaps.lead_of.Reads as lead-of-reads
 use Rattle.least.proofs.leads.wait_of.Reads as wait-of-reads
 use Rattle.least.proofs.memory.look.Reads as look-reads
 use Rattle.least.proofs.memory.remember.Reads as remember-reads
-use Rattle.least.proofs.naming.key_of.Reads as key-of-reads
+use Rattle.stored.proofs.naming.key_of.Reads as key-of-reads
 use Rattle.least.proofs.search.is_enough.Reads as is-enough-reads
 use Rattle.least.proofs.search.last_of.Reads as last-of-reads
 use Rattle.least.proofs.search.lessened.Reads as lessened-reads

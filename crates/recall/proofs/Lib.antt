@@ -1,0 +1,5 @@
+pub mod Falling
+pub mod Beside
+pub mod Recalling
+pub mod Kept
+pub mod Answered

@@ -1,0 +1,4 @@
+pub mod Slack
+pub mod Entries
+pub mod Counts
+pub mod Asks
