@@ -3,7 +3,7 @@
 #include <stdio.h>
 #include <string.h>
 
-#include "doors.h"
+#include "floebucket.h"
 
 static const uint8_t PARTS[] = "00417   \1\0\5\0\1\0\3"
                                "0099    \2\0\11\0\2\0\4"

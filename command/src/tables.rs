@@ -45,7 +45,7 @@ impl Tables {
         }
     }
 
-    /// As the library takes tables (include/doors.h). A count that two bytes do not hold is refused
+    /// As the library takes tables (include/floebucket.h). A count that two bytes do not hold is refused
     /// as the largest that they do.
     pub fn bytes(&self) -> Vec<u8> {
         let mut bytes = vec![self.kind.number];

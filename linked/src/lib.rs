@@ -1,6 +1,6 @@
 //! The proved library's C functions, with a slice for a pointer and a length: all that
-//! include/floebucket.h and include/doors.h declare. A function returns the number of its answer and
-//! puts the rest into the result buffer, as the headers say.
+//! include/floebucket.h declares. A function returns the number of its answer and puts the rest into
+//! the result buffer, as the header says.
 //!
 //! The command line, the tests of the calls and the benchmark call the library through this crate
 //! alone, so that it has all unsafe code that concerns the library.

@@ -1,5 +1,5 @@
 // The function by which a C program asks where a file is refused: `fault_of`, with bytes in and out as the functions of crate calls have them; and the door to
-// `fault_of_tables`. include/floebucket.h and include/doors.h declare them; specs/FaultCall.antt says the complete outcome of each.
+// `fault_of_tables`. include/floebucket.h declares them; specs/FaultCall.antt says the complete outcome of each.
 ghost use mathlib.Core.Path.{_≡_};
 ghost use mathlib.Core.List.{_++_};
 ghost use Prim.Native.Nat.{_≤_};

@@ -43,13 +43,9 @@ const ANSWERS: [Answers; 22] = [
     ("door_export_jobs", &[0], &[1, 12, 15, SHUT], 12_000),
 ];
 
-/// The functions that the headers declare.
+/// The functions that the header declares.
 fn declared() -> BTreeSet<&'static str> {
-    let headers = [
-        include_str!("../../../include/floebucket.h"),
-        include_str!("../../../include/doors.h"),
-    ];
-    let lines = headers.into_iter().flat_map(str::lines);
+    let lines = include_str!("../../../include/floebucket.h").lines();
     let functions = lines.filter_map(|line| line.strip_prefix("uint8_t "));
     functions
         .filter_map(|line| line.split('(').next())
