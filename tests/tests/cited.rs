@@ -20,6 +20,7 @@ const PAPERS: [&str; 12] = [
     "docs/PROMISES.md",
     "docs/PROVING.md",
     "docs/RULES.md",
+    "docs/SIZES.md",
     "docs/SPEED.md",
 ];
 
