@@ -7,18 +7,26 @@ mod arguments;
 #[allow(unsafe_code)]
 mod calls;
 mod commands;
+mod conflict;
 mod drawing;
+mod energies;
 mod failure;
 mod jobs;
 mod kinds;
+mod names;
+mod options;
+mod order;
 mod place;
 mod plan;
 mod refusal;
 mod request;
 mod sheets;
+mod source;
 mod streams;
 mod tables;
 mod text;
+mod units;
+mod wanted;
 
 use commands::{overview, Command, COMMANDS};
 use failure::Failure;

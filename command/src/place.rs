@@ -2,6 +2,7 @@
 
 use crate::calls::planner;
 use crate::kinds::Kind;
+use crate::names::Names;
 use crate::tables::Tables;
 use crate::text::reader::Places;
 
@@ -129,8 +130,24 @@ impl Place {
         line.copied()
     }
 
+    /// What is called so in the part, where something is.
+    fn called<'a>(&self, names: &'a Names) -> Option<&'a str> {
+        match self.part {
+            Part::Device(number) => names.device(number),
+            Part::Task(number) => names.task(number),
+            Part::Job(number) => names.job(number),
+            _ => None,
+        }
+    }
+
     /// As `job 4 (bytes 31 to 37)`, with the line in front where there is one.
-    pub fn describe(&self, number: u8, file: &File, places: Option<&Places>) -> String {
+    pub fn describe(
+        &self,
+        number: u8,
+        file: &File,
+        places: Option<&Places>,
+        names: &Names,
+    ) -> String {
         let line = places.and_then(|places| self.line(number, file, places));
         let line = line.map_or(String::new(), |line| format!("line {line}, "));
         let bytes = if self.to == self.from + 1 {
@@ -138,6 +155,9 @@ impl Place {
         } else {
             format!("bytes {} to {}", self.from, self.to - 1)
         };
-        format!("{} ({line}{bytes})", self.name())
+        let called = self
+            .called(names)
+            .map_or(String::new(), |name| format!(" {name}"));
+        format!("{}{called} ({line}{bytes})", self.name())
     }
 }

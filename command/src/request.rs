@@ -1,15 +1,18 @@
 //! A request as it is given: a request file, or its text form.
 
 use crate::calls::planner::{self, Refused, Sizes};
+use crate::conflict;
 use crate::failure::Failure;
 use crate::jobs::{jobs, Job};
+use crate::names::Names;
 use crate::place::File;
 use crate::refusal;
 use crate::streams;
 use crate::tables::Tables;
 use crate::text::lines::Fault;
-use crate::text::reader::{self, Places, Text};
+use crate::text::reader::{self, Text};
 use std::ffi::OsStr;
+use std::time::Duration;
 
 /// Whether bytes are text and not a request file: they begin with three characters of text. Byte 2 of
 /// every request file that is accepted is its device count, at most 8, and so no character of text,
@@ -24,38 +27,51 @@ pub fn is_text(bytes: &[u8]) -> bool {
     }
 }
 
-/// The bytes of a request, accepted by the library or not.
+/// The bytes of a request, accepted by the library or not, and what its things are called.
 pub struct Request {
     pub file: Vec<u8>,
-    /// The lines of the records, where it came as text.
-    places: Option<Places>,
+    names: Names,
 }
 
 impl Request {
+    pub fn of_file(file: Vec<u8>, names: Names) -> Request {
+        Request { file, names }
+    }
+
     /// Reads a request; text is written to a file by the library, or refused by it.
     pub fn open(path: &OsStr) -> Result<Request, Failure> {
-        let bytes = streams::read(path)?;
-        if !is_text(&bytes) {
-            return Ok(Request {
-                file: bytes,
-                places: None,
-            });
+        Request::of_bytes(path, streams::read(path)?)
+    }
+
+    /// The same of bytes that were read from there.
+    pub fn of_bytes(path: &OsStr, bytes: Vec<u8>) -> Result<Request, Failure> {
+        if bytes.is_empty() {
+            return Err(refusal::words(1, streams::emptiness(path)));
         }
-        let text = reader::read(&bytes).map_err(|fault| malformed(path, &fault))?;
+        if !is_text(&bytes) {
+            return Ok(Request::of_file(bytes, Names::default()));
+        }
+        let text = reader::read(&bytes).map_err(|fault| not_read(path, fault, &bytes))?;
         Request::of_text(text)
     }
 
     fn of_text(text: Text) -> Result<Request, Failure> {
-        let Text { tables, places } = text;
+        let Text {
+            tables,
+            places,
+            names,
+        } = text;
         match planner::write(&tables) {
-            Ok(file) => Ok(Request {
-                file,
-                places: Some(places),
-            }),
+            Ok(file) => Ok(Request { file, names }),
             Err(refused) => {
                 let bytes = tables.laid_out();
                 let file = File::of_tables(&tables, &bytes);
-                Err(refusal::of_file(refused.number, file, Some(&places)))
+                Err(refusal::of_file(
+                    refused.number,
+                    file,
+                    Some(&places),
+                    &names,
+                ))
             }
         }
     }
@@ -77,35 +93,64 @@ impl Request {
         Ok(jobs(&tables, horizon))
     }
 
-    /// A refusal of the file itself.
+    /// What everything is called, the jobs that tasks release too.
+    pub fn names(&self) -> Result<Names, Failure> {
+        Ok(self.names.clone().of_jobs(&self.jobs()?))
+    }
+
+    /// What its lines call things: jobs only where they are listed.
+    pub fn written_names(&self) -> &Names {
+        &self.names
+    }
+
+    /// A refusal of the file itself. A text that is refused never comes to be one.
     fn refused(&self, refused: Refused) -> Failure {
         let file = File::new(&self.file);
-        refusal::of_file(refused.number, file, self.places.as_ref())
+        refusal::of_file(refused.number, file, None, &self.names)
     }
 
     /// A refusal by an operation without start times.
     pub fn not_found(&self, refused: Refused) -> Failure {
-        match refused.number {
-            19 | 20 => refusal::of_search(refused),
+        match (refused.number, self.tables(), self.names()) {
+            (19, Ok((horizon, tables)), Ok(names)) => {
+                let jobs = jobs(&tables, horizon);
+                refusal::of_search(refused, conflict::words(horizon, &jobs, &names))
+            }
+            (19 | 20, _, _) => refusal::of_search(refused, None),
             _ => self.refused(refused),
         }
     }
 
-    /// A refusal by the search that remembers.
-    pub fn not_remembered(&self, refused: Refused) -> Failure {
+    /// A refusal by the search that remembers, after so long.
+    pub fn not_remembered(&self, refused: Refused, after: Duration) -> Failure {
         match refused.number {
-            20 => refusal::given_up(refused),
+            20 => refusal::given_up(refused, after),
             _ => self.not_found(refused),
         }
     }
 
     /// A refusal by an operation on these start times.
     pub fn not_judged(&self, refused: Refused, starts: &[u16]) -> Failure {
-        match (refused.number, self.jobs()) {
-            (14 | 16..=18, Ok(jobs)) => refusal::of_starts(refused, &jobs, starts),
+        let (Ok((horizon, tables)), Ok(names)) = (self.tables(), self.names()) else {
+            return self.refused(refused);
+        };
+        let jobs = jobs(&tables, horizon);
+        match refused.number {
+            14 | 16..=18 => refusal::of_starts(refused, &jobs, starts, &names),
+            24 | 25 => refusal::of_steps(refused.number, &tables, &jobs, &names),
             _ => self.refused(refused),
         }
     }
+}
+
+/// A text that cannot be read. A sheet is none, and where it belongs is said.
+fn not_read(path: &OsStr, mut fault: Fault, bytes: &[u8]) -> Failure {
+    let line = bytes.split(|&byte| byte == b'\n').next().unwrap_or(bytes);
+    let commas = line.iter().filter(|byte| b",;".contains(byte)).count();
+    if fault.line == 1 && fault.column == 1 && commas > 1 {
+        fault.message += "; a sheet is given by --jobs, --tasks or --catalogue";
+    }
+    malformed(path, &fault)
 }
 
 pub fn malformed(path: &OsStr, fault: &Fault) -> Failure {

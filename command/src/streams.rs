@@ -32,6 +32,23 @@ pub fn read(path: &OsStr) -> Result<Vec<u8>, Failure> {
     Ok(bytes)
 }
 
+/// That there is nothing in a file where something is wanted. Where a pipe brings nothing, the command
+/// in front of it has said why.
+pub fn empty(path: &OsStr, wanted: &str) -> Failure {
+    Failure::Refused(format!("floe: {}: {wanted}", emptiness(path)))
+}
+
+/// The same as the beginning of a sentence.
+pub fn emptiness(path: &OsStr) -> String {
+    let name = name(path);
+    match path == "-" {
+        true => format!(
+            "{name} is empty (if a command stands before the pipe, what it says is the reason)"
+        ),
+        false => format!("{name} is empty"),
+    }
+}
+
 /// Standard input as a file: Rust's own takes one that cannot be read for one that is empty.
 fn open(path: &OsStr) -> io::Result<File> {
     if path != "-" {
@@ -53,6 +70,17 @@ pub fn print(bytes: &[u8]) -> Result<(), Failure> {
         File::from(io::stdout().as_fd().try_clone_to_owned()?).write_all(bytes)
     };
     write().map_err(|why| Failure::Stream(format!("floe: cannot write to standard output: {why}")))
+}
+
+/// Whether standard output is a terminal, which bytes that are no text would spoil.
+pub fn is_output_shown() -> bool {
+    io::stdout().is_terminal()
+}
+
+/// Writes everything to a file, which is made or replaced.
+pub fn save(path: &OsStr, bytes: &[u8]) -> Result<(), Failure> {
+    let failed = |why| Failure::Stream(format!("floe: cannot write to {}: {why}", name(path)));
+    std::fs::write(path, bytes).map_err(failed)
 }
 
 /// A message on standard error. Where that fails too there is nobody to tell; the status remains.

@@ -8,7 +8,7 @@ use std::collections::BTreeSet;
 use std::fs;
 use std::path::{Path, PathBuf};
 
-const PAPERS: [&str; 12] = [
+const PAPERS: [&str; 13] = [
     "README.md",
     "CHANGELOG.md",
     "docs/CONTRIBUTING.md",
@@ -20,6 +20,7 @@ const PAPERS: [&str; 12] = [
     "docs/PROMISES.md",
     "docs/PROVING.md",
     "docs/RULES.md",
+    "docs/SHEETS.md",
     "docs/SIZES.md",
     "docs/SPEED.md",
 ];

@@ -12,6 +12,9 @@ const DEVICES: usize = 8;
 const TICKS: usize = 4096;
 const BYTES: usize = 1024;
 
+/// More bytes than the longest sheet, that of a catalogue.
+const SHEET: usize = 4096;
+
 /// The number of a refusal, with the job that it names and its count; what does not apply is 0.
 #[derive(Clone, Copy, Debug, PartialEq, Eq)]
 pub struct Refused {
@@ -306,4 +309,38 @@ pub fn export_plan(file: &[u8], starts: &[u16]) -> Answered<Vec<u8>> {
     let number = linked::export_plan(file, &starts, &mut out, &mut result);
     let written = answer(number, &result)?.count as usize;
     Ok(out.iter().copied().take(written).collect())
+}
+
+/// What each device spends if it is stepped through the round at these start times.
+pub fn step(file: &[u8], starts: &[u16]) -> Answered<Vec<u32>> {
+    let starts = pairs(starts);
+    let mut out = [0; 4 * DEVICES];
+    let mut result = [0; RESULT];
+    let number = linked::step(file, &starts, &mut out, &mut result);
+    answer(number, &result)?;
+    let devices = tables(file)?.devices.count;
+    let spent = |four: &[u8]| u32::from_be_bytes([four[0], four[1], four[2], four[3]]);
+    Ok(out.chunks_exact(4).map(spent).take(devices).collect())
+}
+
+/// Takes records, an output and a result buffer.
+type Export = fn(&[u8], &mut [u8], &mut [u8]) -> u8;
+
+/// The sheet of records, a line each.
+fn exported(export: Export, records: &[u8]) -> Answered<Vec<u8>> {
+    let mut out = [0; SHEET];
+    let mut result = [0; RESULT];
+    let number = export(records, &mut out, &mut result);
+    let written = answer(number, &result)?.count as usize;
+    Ok(out.iter().copied().take(written).collect())
+}
+
+/// The sheet of a catalogue.
+pub fn export_devices(catalogue: &[u8]) -> Answered<Vec<u8>> {
+    exported(linked::export_devices, catalogue)
+}
+
+/// The sheet of job records.
+pub fn export_jobs(records: &[u8]) -> Answered<Vec<u8>> {
+    exported(linked::export_jobs, records)
 }

@@ -1,136 +1,71 @@
 //! write, show and build.
 
 use crate::arguments::Arguments;
-use crate::calls::planner;
 use crate::failure::Failure;
-use crate::kinds::FIRST;
-use crate::place::File;
-use crate::refusal;
-use crate::request::{malformed, Request};
-use crate::sheets;
+use crate::options::{PARTS_FROM, TEXT};
+use crate::request::Request;
+use crate::source::{self, Parts, Paths, Source};
 use crate::streams;
-use crate::tables::{Tables, MOST_DEVICES};
-use crate::text::catalogue::{self, padded, Catalogue, NUMBER};
-use crate::text::lines::quoted;
-use crate::text::reader::{self, Text};
 use crate::text::show::show as text_of;
-use std::ffi::OsStr;
+use std::ffi::OsString;
 
 pub fn write(mut arguments: Arguments) -> Result<Vec<u8>, Failure> {
-    let path = arguments.next("REQUEST")?;
-    arguments.end()?;
-    let request = Request::open(&path)?;
-    request.tables()?;
-    Ok(request.file)
+    let request = Source::alone(&mut arguments)?.open()?;
+    file_of(request)
 }
 
 pub fn show(mut arguments: Arguments) -> Result<Vec<u8>, Failure> {
-    let path = arguments.next("REQUEST")?;
-    arguments.end()?;
-    let (horizon, tables) = Request::open(&path)?.tables()?;
-    Ok(text_of(&tables, horizon).into_bytes())
+    let request = Source::alone(&mut arguments)?.open()?;
+    shown(&request)
 }
 
-pub fn build(mut arguments: Arguments) -> Result<Vec<u8>, Failure> {
-    let path = arguments.next("CATALOGUE")?;
-    let others = arguments.next("REQUEST")?;
-    let names = arguments.rest();
-    let catalogue = catalogue_in(&path)?;
-    let text = without_devices(&others, arguments.horizon()?)?;
-    let wanted: Vec<Vec<u8>> = names.iter().map(|name| wanted(name)).collect();
-    built(&catalogue, &wanted, &names, &text)
+fn shown(request: &Request) -> Result<Vec<u8>, Failure> {
+    let (horizon, tables) = request.tables()?;
+    Ok(text_of(&tables, request.written_names(), horizon).into_bytes())
 }
 
-/// A catalogue, as a sheet or as text.
-fn catalogue_in(path: &OsStr) -> Result<Catalogue, Failure> {
-    let bytes = streams::read(path)?;
-    if sheets::is_sheet(&bytes) {
-        return sheets::catalogue(path, &bytes);
-    }
-    catalogue::read(&bytes).map_err(|fault| malformed(path, &fault))
-}
-
-/// The horizon, the tasks and the jobs, or a sheet of jobs with the horizon beside it. They may use
-/// devices that only the catalogue brings, so that they are taken as text and not from a file, which
-/// would be refused.
-fn without_devices(path: &OsStr, horizon: Option<u16>) -> Result<Text, Failure> {
-    let bytes = streams::read(path)?;
-    if sheets::is_sheet(&bytes) {
-        return sheets::jobs(path, &bytes, horizon.unwrap_or(0));
-    }
-    if horizon.is_some() {
-        let message = "--horizon goes with a sheet of jobs: a text has a line for it";
+/// The bytes of a request that is accepted. They are no text, and a terminal would only be spoilt.
+fn file_of(request: Request) -> Result<Vec<u8>, Failure> {
+    request.tables()?;
+    if streams::is_output_shown() {
+        let message = "a request file is bytes and no text, and standard output is a terminal: \
+                       send it to a file (> request.floe) or a pipe, or ask for its text (show, build --text)";
         return Err(Failure::Usage(message.to_string()));
     }
-    let text = reader::read(&bytes).map_err(|fault| malformed(path, &fault))?;
-    let number = text.tables.kind.number;
-    let fault = match (text.places.kind, text.places.devices.first()) {
-        (Some(line), _) if number != FIRST.number => Some((
-            line,
-            format!("kind {number}, and the parts of a catalogue are of kind 1"),
-        )),
-        (_, Some(&line)) => {
-            let message = "a device, and the catalogue brings the devices";
-            Some((line, message.to_string()))
-        }
-        _ => None,
+    Ok(request.file)
+}
+
+/// A request from a catalogue: by words in their order, or by options alone.
+pub fn build(mut arguments: Arguments) -> Result<Vec<u8>, Failure> {
+    let source = match source::has_files(&arguments) {
+        true => Source::alone(&mut arguments)?,
+        false => Source::Made(ordered(&mut arguments)?),
     };
-    match fault {
-        None => Ok(text),
-        Some((line, message)) => Err(Failure::Refused(format!(
-            "floe: {}: line {line}, column 1: {message}",
-            streams::name(path)
-        ))),
+    let request = source.open()?;
+    match arguments.has(&TEXT) {
+        true => shown(&request),
+        false => file_of(request),
     }
 }
 
-/// A wanted part number as the library takes it. One that is longer than any part of a catalogue is
-/// handed on as eight bytes that no catalogue has either: the library says that it is lacking.
-fn wanted(name: &str) -> Vec<u8> {
-    padded(name).unwrap_or_else(|| vec![0; NUMBER])
-}
-
-fn built(
-    catalogue: &Catalogue,
-    wanted: &[Vec<u8>],
-    names: &[String],
-    text: &Text,
-) -> Result<Vec<u8>, Failure> {
-    let parts = &catalogue.parts;
-    let number = match planner::build(&parts.concat(), &wanted.concat(), &text.tables) {
-        Ok(file) => return Ok(file),
-        Err(refused) => refused.number,
-    };
-    // The place is that of the first part, or the first wanted one, with which the number comes.
-    let comes = |parts: &[Vec<u8>], wanted: &[Vec<u8>]| {
-        let answer = planner::build(&parts.concat(), &wanted.concat(), &Tables::empty());
-        answer.is_err_and(|refused| refused.number == number)
-    };
-    let faulty = (0..parts.len()).find(|&last| comes(&parts[..=last], &[]));
-    let lacking = (0..wanted.len()).find(|&last| comes(parts, &wanted[..=last]));
-    Err(match (number, faulty, lacking) {
-        (21 | 22, Some(part), _) => {
-            let line = catalogue.lines.get(part).copied().unwrap_or(0);
-            refusal::at(number, format!("part {part} (line {line})"))
+/// The files and parts that stand as words.
+fn ordered(arguments: &mut Arguments) -> Result<Paths, Failure> {
+    let catalogue = arguments.next("CATALOGUE")?;
+    let jobs = arguments.next("REQUEST")?;
+    let words = arguments.rest();
+    let parts = match arguments.option(&PARTS_FROM) {
+        None => Parts::Given(words),
+        Some(path) if words.is_empty() => Parts::Listed(OsString::from(path)),
+        Some(_) => {
+            let message = "parts are given, and --parts-from too: one of them is enough";
+            return Err(Failure::Usage(message.to_string()));
         }
-        (23, _, Some(part)) => {
-            let name = names.get(part).map_or("", String::as_str);
-            refusal::at(number, format!("part {}", quoted(name)))
-        }
-        _ => of_the_file(number, catalogue, wanted, text),
+    };
+    Ok(Paths {
+        catalogue: Some(catalogue),
+        jobs: Some(jobs),
+        tasks: None,
+        parts: Some(parts),
+        horizon: arguments.horizon()?,
     })
-}
-
-/// A refusal of the file that the parts make: its devices are the wanted parts, as far as there are
-/// records of them.
-fn of_the_file(number: u8, catalogue: &Catalogue, wanted: &[Vec<u8>], text: &Text) -> Failure {
-    let mut tables = text.tables.clone();
-    for name in wanted {
-        let part = catalogue.parts.iter().find(|part| part.starts_with(name));
-        let record = part.map_or(&[][..], |part| &part[NUMBER..]);
-        tables.devices.add(record.to_vec(), MOST_DEVICES);
-    }
-    let bytes = tables.laid_out();
-    let file = File::of_tables(&tables, &bytes);
-    refusal::of_file(number, file, Some(&text.places))
 }

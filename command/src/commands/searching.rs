@@ -1,11 +1,15 @@
 //! plan and possible.
 
+use super::export::output;
 use super::work::at_work;
-use crate::arguments::{Arguments, CSV};
+use crate::arguments::Arguments;
 use crate::calls::planner::{self, Refused};
 use crate::failure::Failure;
+use crate::options::RUNS;
 use crate::plan::{job_lines, Origin, Plan};
 use crate::request::Request;
+use crate::source::Source;
+use std::time::Instant;
 
 /// How the plan of least energy is looked for.
 #[derive(Clone, Copy)]
@@ -33,16 +37,11 @@ impl Way {
 }
 
 pub fn plan(mut arguments: Arguments) -> Result<Vec<u8>, Failure> {
-    let path = arguments.next("REQUEST")?;
-    arguments.end()?;
     let way = Way::given(&arguments)?;
-    let request = Request::open(&path)?;
+    let request = Source::alone(&mut arguments)?.open()?;
     let plan = best(&request, way)?;
-    if arguments.has(&CSV) {
-        let sheet = planner::export_plan(&request.file, &plan.starts);
-        return sheet.map_err(|refused| request.not_judged(refused, &plan.starts));
-    }
-    Ok(plan.text().into_bytes())
+    let text = plan.text(&request.names()?, arguments.has(&RUNS));
+    output(&arguments, &request, &plan, text)
 }
 
 /// The plan of least energy.
@@ -59,8 +58,10 @@ pub fn best(request: &Request, way: Way) -> Result<Plan, Failure> {
         }
         Way::Remembering(mebibytes) => {
             let mut memory = memory(mebibytes)?;
+            let begun = Instant::now();
             let found = at_work(|| remembered(file, &mut memory))?;
-            let starts = found.map_err(|refused| request.not_remembered(refused))?;
+            let lasted = begun.elapsed();
+            let starts = found.map_err(|refused| request.not_remembered(refused, lasted))?;
             of_starts(&starts, Origin::Least)
         }
     }
@@ -94,10 +95,8 @@ fn remembered(file: &[u8], memory: &mut [u64]) -> Result<Vec<u16>, Refused> {
 /// Whether there is any plan: with a budget by the visit that it is for, else by the one answer that
 /// needs none.
 pub fn possible(mut arguments: Arguments) -> Result<Vec<u8>, Failure> {
-    let path = arguments.next("REQUEST")?;
-    arguments.end()?;
     let budget = arguments.budget()?;
-    let request = Request::open(&path)?;
+    let request = Source::alone(&mut arguments)?.open()?;
     let file = &request.file;
     let found = match budget {
         Some(budget) => planner::any_plan(file, budget).map(|found| {
@@ -108,9 +107,9 @@ pub fn possible(mut arguments: Arguments) -> Result<Vec<u8>, Failure> {
     };
     let answer = found.and_then(|(vertices, starts)| {
         let margins = planner::margins(file, &starts)?;
-        Ok(format!("yes\n{vertices}{}", job_lines(&starts, &margins)))
+        Ok((vertices, starts, margins))
     });
-    answer
-        .map(String::into_bytes)
-        .map_err(|refused| request.not_found(refused))
+    let (vertices, starts, margins) = answer.map_err(|refused| request.not_found(refused))?;
+    let jobs = job_lines(&starts, &margins, &request.names()?);
+    Ok(format!("yes\n{vertices}{jobs}").into_bytes())
 }

@@ -1,6 +1,7 @@
 //! What the shapes mean.
 
-use super::chart::{flag, slope, HIGH, LOW};
+use super::chart::flag;
+use super::devices::{slope, HIGH, LOW};
 use super::svg::{text_width, Area, Svg};
 
 const SWATCH: f64 = 30.0;

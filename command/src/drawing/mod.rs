@@ -1,19 +1,25 @@
 //! The picture of a round, as one SVG.
 
 mod chart;
+mod devices;
 mod heights;
+mod labels;
 mod legend;
 mod scale;
 mod style;
 mod svg;
+mod words;
 
+use crate::energies::{disagreement, energy};
 use crate::failure::Failure;
 use crate::jobs::{jobs, Job};
 use crate::kinds::Kind;
+use crate::names::Names;
 use crate::plan::{Origin, Plan};
 use crate::tables::Tables;
 
 pub use chart::picture;
+pub use style::Theme;
 
 /// A stretch of ticks, from the first up to, not including, the second.
 type Stretch = (usize, usize);
@@ -57,18 +63,18 @@ pub struct Round {
     pub origin: Origin,
     /// What the letters of sleep are.
     pub asleep: &'static str,
-}
-
-fn disagreement(what: &str) -> Failure {
-    Failure::Stream(format!(
-        "floe: no picture: {what} are not what the library says; this is a fault of floe"
-    ))
+    pub names: Names,
 }
 
 impl Round {
     /// The round of a plan. Windows and energies are worked out from the tables, and held to the
     /// library's margins and to its energy.
-    pub fn new(horizon: usize, tables: &Tables, plan: Plan) -> Result<Round, Failure> {
+    pub fn new(
+        horizon: usize,
+        tables: &Tables,
+        plan: Plan,
+        names: Names,
+    ) -> Result<Round, Failure> {
         let lines = jobs(tables, horizon).into_iter();
         let lines: Vec<JobLine> = lines
             .zip(plan.starts.iter().zip(&plan.margins))
@@ -100,6 +106,7 @@ impl Round {
                     energy,
                     origin: plan.origin,
                     asleep: tables.kind.asleep,
+                    names,
                 })
             }
             _ => Err(disagreement("the energies of the devices")),
@@ -109,13 +116,9 @@ impl Round {
 
 /// Nothing, if a letter of the row has no power.
 fn device_line(kind: &Kind, record: &[u8], row: &[u8]) -> Option<DeviceLine> {
-    let powers: Option<Vec<u32>> = row
-        .iter()
-        .map(|&letter| kind.power(record, letter))
-        .collect();
     Some(DeviceLine {
         figures: kind.figures(record),
         runs: heights::runs(kind, record, row)?,
-        energy: powers?.into_iter().map(u64::from).sum(),
+        energy: energy(kind, record, row)?,
     })
 }

@@ -15,10 +15,16 @@ pub struct Scale {
 }
 
 impl Scale {
-    pub fn new(left: f64, horizon: usize) -> Scale {
+    /// So wide as it is asked for, or as a picture of its ticks is.
+    pub fn new(left: f64, horizon: usize, width: Option<f64>) -> Scale {
+        let ticks = horizon.max(1) as f64;
+        let tick = match width {
+            Some(width) => width / ticks,
+            None => (WIDEST / ticks).min(WIDEST_TICK),
+        };
         Scale {
             left,
-            tick: (WIDEST / horizon.max(1) as f64).min(WIDEST_TICK),
+            tick,
             horizon,
         }
     }
@@ -79,7 +85,7 @@ mod tests {
     use super::*;
 
     fn labels(horizon: usize) -> Vec<usize> {
-        Scale::new(0.0, horizon).labels()
+        Scale::new(0.0, horizon, None).labels()
     }
 
     #[test]
@@ -94,7 +100,7 @@ mod tests {
     #[test]
     fn labels_stay_apart_and_few_at_every_horizon() {
         for horizon in 1..=4096 {
-            let scale = Scale::new(0.0, horizon);
+            let scale = Scale::new(0.0, horizon, None);
             let labels = scale.labels();
             assert!(labels.len() <= 20, "{horizon}");
             assert_eq!((labels[0], labels[labels.len() - 1]), (0, horizon));

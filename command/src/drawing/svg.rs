@@ -1,5 +1,4 @@
-//! Elements of an SVG, as text. All words in it are the program's own or numbers, and have no
-//! character that would have to be escaped.
+//! Elements of an SVG, as text.
 
 use std::fmt::Write;
 
@@ -27,12 +26,19 @@ fn short(number: f64) -> String {
     }
 }
 
+/// Names may have characters that mean something in a picture's text.
+fn escaped(text: &str) -> String {
+    let text = text.replace('&', "&amp;").replace('<', "&lt;");
+    text.replace('>', "&gt;")
+}
+
 impl Svg {
     fn element(&mut self, element: &str, title: Option<&str>) {
         let _ = match title {
             None => writeln!(self.body, "<{element}/>"),
             Some(title) => {
                 let tag = element.split(' ').next().unwrap_or(element);
+                let title = escaped(title);
                 writeln!(self.body, "<{element}><title>{title}</title></{tag}>")
             }
         };
@@ -65,6 +71,7 @@ impl Svg {
     /// Text whose place is its left end, its middle or its right end, as the class says.
     pub fn text(&mut self, class: &str, x: f64, y: f64, text: &str) {
         let [x, y] = [x, y].map(short);
+        let text = escaped(text);
         let _ = writeln!(
             self.body,
             "<text class=\"{class}\" x=\"{x}\" y=\"{y}\">{text}</text>"
@@ -76,6 +83,7 @@ impl Svg {
 pub fn finish(layers: &[Svg], size: (f64, f64), title: &str, style: &str) -> String {
     let [width, height] = [size.0, size.1].map(|number| short(number.ceil()));
     let layers: String = layers.iter().map(|layer| layer.body.as_str()).collect();
+    let title = escaped(title);
     format!(
         "<svg xmlns=\"http://www.w3.org/2000/svg\" width=\"{width}\" height=\"{height}\" \
          viewBox=\"0 0 {width} {height}\" role=\"img\">\n<title>{title}</title>\n{style}\
@@ -108,6 +116,11 @@ mod tests {
     fn thousands_are_grouped() {
         let texts = [0, 999, 1000, 2_147_450_880].map(grouped);
         assert_eq!(texts, ["0", "999", "1,000", "2,147,450,880"]);
+    }
+
+    #[test]
+    fn names_are_escaped() {
+        assert_eq!(escaped("R&D<1>"), "R&amp;D&lt;1&gt;");
     }
 
     #[test]

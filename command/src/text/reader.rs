@@ -1,7 +1,10 @@
-//! From text to tables.
+//! From text to tables, and to the names that tables have no place for.
 
-use super::lines::{device_set, lines, number, quoted, Fault, Line};
+use super::lines::{lines, number, quoted, Fault, Line};
+use super::naming;
+use super::sets::device_set;
 use crate::kinds::{Field, Kind, JOB, TASK};
+use crate::names::Names;
 use crate::tables::{Table, Tables, MOST_DEVICES, MOST_JOBS, MOST_TASKS};
 
 /// Where the records stand: the line of each, up to one more than a request can have.
@@ -18,6 +21,7 @@ pub struct Places {
 pub struct Text {
     pub tables: Tables,
     pub places: Places,
+    pub names: Names,
 }
 
 const HORIZON: Field = Field {
@@ -25,27 +29,46 @@ const HORIZON: Field = Field {
     bytes: 2,
 };
 
+/// The words with which a line begins.
+pub const WORDS: [&str; 6] = ["kind", "horizon", "unit", "device", "task", "job"];
+
 pub fn read(text: &[u8]) -> Result<Text, Fault> {
+    read_with(text, &naming::devices(text))
+}
+
+/// The same of a text whose devices have these names: a device set may say them before they are given,
+/// or they come from elsewhere.
+pub fn read_with(text: &[u8], devices: &[Option<String>]) -> Result<Text, Fault> {
     let mut read = Text {
         tables: Tables::empty(),
         places: Places::default(),
+        names: Names::default(),
     };
     let mut is_first = true;
     for line in lines(text) {
-        take(&mut read, &line?, is_first)?;
+        take(&mut read, line?, is_first, devices)?;
         is_first = false;
     }
     Ok(read)
 }
 
-fn take(read: &mut Text, line: &Line, is_first: bool) -> Result<(), Fault> {
-    let Some(word) = line.words.first() else {
+fn take(
+    read: &mut Text,
+    line: Line,
+    is_first: bool,
+    devices: &[Option<String>],
+) -> Result<(), Fault> {
+    let Some(word) = line.words.first().copied() else {
         return Ok(());
     };
-    let Text { tables, places } = read;
+    let Text {
+        tables,
+        places,
+        names,
+    } = read;
     match word.text {
         "kind" => {
-            let kind = kind(line)?;
+            let kind = kind(&line)?;
             if !is_first {
                 return Err(word.fault("the kind stands before all other lines".to_string()));
             }
@@ -53,39 +76,63 @@ fn take(read: &mut Text, line: &Line, is_first: bool) -> Result<(), Fault> {
             places.kind = Some(line.number);
         }
         "horizon" => {
-            let field = numbers(line, std::slice::from_ref(&HORIZON))?.concat();
-            if let Some(first) = places.horizon {
+            let horizon = horizon(&line)?;
+            if let Some(first) = places.horizon.replace(line.number) {
                 return Err(word.fault(format!("a second horizon: the first is in line {first}")));
             }
-            tables.horizon = field
-                .iter()
-                .fold(0, |sum, &byte| sum << 8 | u16::from(byte));
-            places.horizon = Some(line.number);
+            tables.horizon = horizon;
         }
-        "device" => {
-            let device = device(line, tables.kind)?;
-            let (table, lines) = (&mut tables.devices, &mut places.devices);
-            add(table, lines, line.number, device, MOST_DEVICES);
-        }
-        "task" => {
-            let task = with_set(line, &TASK)?;
-            let (table, lines) = (&mut tables.tasks, &mut places.tasks);
-            add(table, lines, line.number, task, MOST_TASKS);
-        }
-        "job" => {
-            let job = with_set(line, &JOB)?;
-            let (table, lines) = (&mut tables.jobs, &mut places.jobs);
-            add(table, lines, line.number, job, MOST_JOBS);
+        "unit" => naming::unit(&line, &mut names.units)?,
+        "device" | "task" | "job" => {
+            let (line, name) = naming::unnamed(line)?;
+            let (record, (table, lines, names, most)) = match word.text {
+                "device" => (device(&line, tables.kind)?, read.devices()),
+                "task" => (with_set(&line, &TASK, devices)?, read.tasks()),
+                _ => (with_set(&line, &JOB, devices)?, read.jobs()),
+            };
+            add(table, lines, line.number, record, most);
+            names.push(name);
         }
         other => {
             let message = format!(
-                "a line begins with kind, horizon, device, task or job, not with {}",
+                "a line begins with kind, horizon, unit, device, task or job, not with {}",
                 quoted(other)
             );
             return Err(word.fault(message));
         }
     }
     Ok(())
+}
+
+/// A table with the lines and the names of its records, and how many it holds.
+type Section<'a> = (
+    &'a mut Table,
+    &'a mut Vec<usize>,
+    &'a mut Vec<Option<String>>,
+    usize,
+);
+
+impl Text {
+    fn devices(&mut self) -> Section<'_> {
+        let (table, lines) = (&mut self.tables.devices, &mut self.places.devices);
+        (table, lines, &mut self.names.devices, MOST_DEVICES)
+    }
+
+    fn tasks(&mut self) -> Section<'_> {
+        let (table, lines) = (&mut self.tables.tasks, &mut self.places.tasks);
+        (table, lines, &mut self.names.tasks, MOST_TASKS)
+    }
+
+    fn jobs(&mut self) -> Section<'_> {
+        let (table, lines) = (&mut self.tables.jobs, &mut self.places.jobs);
+        (table, lines, &mut self.names.jobs, MOST_JOBS)
+    }
+}
+
+fn horizon(line: &Line) -> Result<u16, Fault> {
+    let field = numbers(line, std::slice::from_ref(&HORIZON))?.concat();
+    let bytes = field.iter();
+    Ok(bytes.fold(0, |sum, &byte| sum << 8 | u16::from(byte)))
 }
 
 fn add(table: &mut Table, lines: &mut Vec<usize>, line: usize, record: Vec<u8>, most: usize) {
@@ -145,7 +192,7 @@ fn device(line: &Line, kind: &Kind) -> Result<Vec<u8>, Fault> {
 }
 
 /// The record of a line whose last word is a device set.
-fn with_set(line: &Line, fields: &[Field]) -> Result<Vec<u8>, Fault> {
+fn with_set(line: &Line, fields: &[Field], devices: &[Option<String>]) -> Result<Vec<u8>, Fault> {
     let words = line.arguments(&names(fields))?;
     let Some((set, numbers)) = words.split_last() else {
         return Ok(Vec::new());
@@ -154,6 +201,6 @@ fn with_set(line: &Line, fields: &[Field]) -> Result<Vec<u8>, Fault> {
     for (word, field) in numbers.iter().zip(fields) {
         bytes.extend(number(word, field)?);
     }
-    bytes.push(device_set(set)?);
+    bytes.push(device_set(set, devices)?);
     Ok(bytes)
 }

@@ -2,6 +2,7 @@
 
 use outside::running::runner::{piped, run, Feed, Printed};
 use std::cell::Cell;
+use std::fs;
 use std::path::{Path, PathBuf};
 use std::process::Command;
 
@@ -62,6 +63,30 @@ impl Floe {
         Err(format!("floe {words:?}: {}", printed.report()))
     }
 
+    /// The output of a run that must succeed, and what it says on standard error beside.
+    pub fn noted(&self, words: &[&str], input: &[u8]) -> Result<(Vec<u8>, String), String> {
+        let printed = self.run(words, input)?;
+        match printed.status {
+            Some(0) => Ok((
+                printed.output,
+                String::from_utf8_lossy(&printed.errors).into_owned(),
+            )),
+            _ => Err(format!("floe {words:?}: {}", printed.report())),
+        }
+    }
+
+    /// The status of a run that gives nothing, and what it says on standard error.
+    pub fn failed(&self, words: &[&str], input: &[u8]) -> Result<(i32, String), String> {
+        let printed = self.run(words, input)?;
+        match printed.status {
+            Some(status @ 1..) if printed.output.is_empty() => Ok((
+                status,
+                String::from_utf8_lossy(&printed.errors).into_owned(),
+            )),
+            _ => Err(format!("floe {words:?}: {}", printed.report())),
+        }
+    }
+
     /// The number and the words of a run that must be refused.
     pub fn refused(&self, words: &[&str], input: &[u8]) -> Result<(u8, String), String> {
         let printed = self.run(words, input)?;
@@ -112,6 +137,22 @@ fn refusal(printed: &Printed) -> Option<(u8, String)> {
     let is_told = printed.status == Some(1) && printed.output.is_empty() && !line.contains('\n');
     is_told.then_some(())?;
     Some((number.parse().ok()?, words.to_string()))
+}
+
+/// A folder of a test's own, which is gone afterwards.
+pub fn in_folder(name: &str, test: impl FnOnce(&Path) -> Tried) -> Tried {
+    let folder = std::env::temp_dir().join(format!("floe-{name}-{}", std::process::id()));
+    fs::create_dir_all(&folder).map_err(|fault| fault.to_string())?;
+    let tried = test(&folder);
+    let _ = fs::remove_dir_all(&folder);
+    tried
+}
+
+/// A file in a folder, and its path as a word.
+pub fn file(folder: &Path, name: &str, content: &[u8]) -> Result<String, String> {
+    let path = folder.join(name);
+    fs::write(&path, content).map_err(|fault| fault.to_string())?;
+    Ok(path.to_string_lossy().into_owned())
 }
 
 /// Nothing, or what is different.

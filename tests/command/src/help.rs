@@ -1,12 +1,15 @@
 //! Help, and calls that mean nothing: status 2, with what there is on standard error.
 
 use crate::floe::{same, Floe, Tried};
+use std::fs;
+use std::path::Path;
 
-const COMMANDS: [&str; 10] = [
-    "plan", "check", "possible", "verdict", "rows", "mend", "write", "show", "draw", "build",
+const COMMANDS: [&str; 12] = [
+    "plan", "check", "possible", "verdict", "rows", "step", "mend", "write", "show", "draw",
+    "build", "export",
 ];
 
-const WRONG: [&[&str]; 28] = [
+const WRONG: [&[&str]; 39] = [
     &[],
     &["planx"],
     &["Plan"],
@@ -32,9 +35,20 @@ const WRONG: [&[&str]; 28] = [
     &["draw", "-", "--starts", "0", "--budget", "9"],
     &["draw", "-", "--starts", "0", "--memory", "9"],
     &["build", "-"],
-    &["show", "-", "--text"],
-    &["plan", "-", "--csv=1"],
+    &["plan", "-", "--runs=1"],
+    &["plan", "--csv", "-"],
     &["build", "-", "-", "--horizon", "x"],
+    &["step"],
+    &["export"],
+    &["export", "devices", "-"],
+    &["export", "jobs"],
+    &["export", "jobs", "-", "--csv", "x"],
+    &["export", "catalogue", "-", "--mend"],
+    &["export", "plan", "-", "--mend"],
+    &["draw", "-", "--width", "479"],
+    &["draw", "-", "--light", "--dark"],
+    &["check", "-", "--runs"],
+    &["show", "-", "--text"],
 ];
 
 /// The version, and of a clone the commit: hexadecimal digits, and a word if the sources had changed.
@@ -57,6 +71,23 @@ fn version(floe: &Floe) -> Tried {
     Ok(1)
 }
 
+/// README's table has a row for each command, called as the overview says.
+fn in_readme(overview: &str) -> Result<(), String> {
+    let path = Path::new(env!("CARGO_MANIFEST_DIR")).join("../../README.md");
+    let readme = fs::read_to_string(path).map_err(|fault| fault.to_string())?;
+    let rows = readme.lines().filter_map(|line| line.strip_prefix("| `"));
+    let calls: Vec<&str> = rows.filter_map(|row| row.split('`').next()).collect();
+    for command in COMMANDS {
+        let begins = |line: &&str| line.starts_with(&format!("{command} "));
+        let told = overview.lines().map(str::trim_start).find(begins);
+        let told = told.and_then(|line| line.split("  ").next());
+        same(calls.iter().copied().find(begins), told, || {
+            format!("README's row of {command}, and the overview")
+        })?;
+    }
+    Ok(())
+}
+
 pub fn test(floe: &Floe) -> Tried {
     let overview = floe.output(&["--help"], b"")?;
     let mut runs = 1 + version(floe)?;
@@ -71,6 +102,7 @@ pub fn test(floe: &Floe) -> Tried {
     same(longest <= Some(100), true, || {
         format!("a line of {longest:?}")
     })?;
+    in_readme(&text)?;
     for command in COMMANDS {
         let line = text
             .lines()
@@ -90,7 +122,8 @@ pub fn test(floe: &Floe) -> Tried {
         same((printed.status, is_told), (Some(2), true), || {
             format!("{words:?}: {}", printed.report())
         })?;
-        if words.len() < 2 && *words != ["plan"] && *words != ["verdict"] {
+        let is_command = |word: &&str| COMMANDS.contains(word);
+        if words.len() < 2 && !words.iter().any(is_command) {
             let errors = String::from_utf8_lossy(&printed.errors).into_owned();
             let names_all = COMMANDS.iter().all(|command| errors.contains(command));
             same(names_all, true, || format!("{words:?}: {errors}"))?;

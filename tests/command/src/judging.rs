@@ -292,7 +292,7 @@ fn asked(floe: &Floe, file: &[u8], budget: Option<u32>, lent: &[u16]) -> Result<
     let text = match floe.answer(&words.collect::<Vec<_>>(), file)? {
         Ok(text) => String::from_utf8(text).map_err(|fault| fault.to_string())?,
         Err((number, said)) => {
-            let before = said.split(" vert").next().unwrap_or_default();
+            let before = said.split_once(" vert").map_or("", |(before, _)| before);
             let word = before.rsplit([' ', '(']).next();
             let count = word.and_then(|word| word.parse().ok());
             let count = count.filter(|_| number == 19 || number == 20);

@@ -3,21 +3,31 @@
 //! only those tests that have it in their names.
 
 mod both_ways;
+mod calls;
+mod conflicts;
+mod exports;
 mod floe;
 mod help;
 mod judging;
 mod malformed;
+mod manual;
+mod names;
 mod parts;
 mod pictures;
 mod planning;
 mod pty;
 mod second;
 mod sentences;
+mod sheet_words;
 mod sheets;
+mod sources;
+mod steps;
 mod streams;
+mod svg;
 mod terminal;
 mod texts;
 mod third;
+mod wide_pictures;
 
 use floe::{Floe, Tried};
 use outside::running::readme;
@@ -28,7 +38,7 @@ use std::thread;
 
 type Test = fn(&Floe) -> Tried;
 
-const TESTS: [(&str, Test); 18] = [
+const TESTS: [(&str, Test); 26] = [
     ("plans and refusals of files", planning::test),
     ("plans of recorders", planning::recorders),
     ("write and show", both_ways::test),
@@ -39,10 +49,18 @@ const TESTS: [(&str, Test); 18] = [
     ("any plan at all", judging::possible),
     ("parts of a catalogue", parts::test),
     ("sheets", sheets::test),
+    ("what is said of sheets", sheet_words::test),
+    ("requests from sheets", sources::test),
+    ("exported sheets", exports::test),
+    ("names and units", names::test),
+    ("stepping", steps::test),
+    ("jobs that do not fit", conflicts::test),
     ("pictures", pictures::test),
+    ("pictures of crowded rounds", wide_pictures::test),
     ("wrong texts", malformed::test),
     ("what refusals say", sentences::test),
     ("help and wrong usage", help::test),
+    ("the commands of the manual", manual::test),
     ("failing streams", streams::failing),
     ("slow streams", streams::slow),
     ("ten megabytes", streams::large),

@@ -68,25 +68,25 @@ fn places(floe: &Floe, catalogue: &Path, others: &Path) -> Tried {
             "\npart b 1 5 1 3\n",
             request,
             &["B"],
-            "refused 21: part 0 (line 2): ",
+            "refused 21: line 2 of ",
         ),
         (
             "part A 1 5 1 3\npart B 1 5 1 3\npart A 1 5 1 3",
             request,
             &["B"],
-            "refused 22: part 2 (line 3): ",
+            "refused 22: line 3 of ",
         ),
         (
             "part A 0 5 1 3\n",
             request,
             &["A"],
-            "refused 4: device 0 (bytes 3 to 9): ",
+            "refused 4: part 'A' (line 1 of ",
         ),
         (
             good,
             "horizon 5\njob 0 5 6 0\n",
             &["417"],
-            "refused 13: job 0 (line 2, bytes 12 to 18): ",
+            "refused 13: job 0 (line 2 of ",
         ),
         (
             "part ABCDEFGHI 1 5 1 3\n",
@@ -132,7 +132,11 @@ fn as_text(call: &Call) -> Option<(String, Vec<String>, String)> {
     for (number, [t, working, sleeping, moving]) in parts(call)? {
         let _ = writeln!(text, "part {number} {t} {working} {sleeping} {moving}");
     }
-    Some((text, wanted(call)?, others(&call.others)?))
+    let wanted = wanted(call)?;
+    // What is empty is no catalogue.
+    (!text.is_empty()).then_some(())?;
+    let others = others(&call.others, &wanted)?;
+    Some((text, wanted, others))
 }
 
 /// The parts of a call by number and figures, if every number is a word.
@@ -164,7 +168,14 @@ pub fn wanted(call: &Call) -> Option<Vec<String>> {
     call.wanted.chunks(8).map(name).collect()
 }
 
-fn others(given: &Given) -> Option<String> {
+/// The number of a device as a word that is no wanted part: else it would be both.
+fn number(device: u8, wanted: &[String]) -> String {
+    let mut words = (1..).map(|width| format!("{device:0width$}"));
+    let is_free = |word: &String| !wanted.contains(word);
+    words.find(is_free).unwrap_or_default()
+}
+
+fn others(given: &Given, wanted: &[String]) -> Option<String> {
     let mut text = format!("horizon {}\n", given.horizon);
     let whole = |table: &Table| usize::from(table.count) == table.records.len();
     given.tables.iter().all(whole).then_some(())?;
@@ -176,7 +187,7 @@ fn others(given: &Given) -> Option<String> {
                 .map(|pair| u16::from_be_bytes([pair[0], pair[1]]).to_string());
             let devices: Vec<String> = (0..8)
                 .filter(|device| set >> device & 1 == 1)
-                .map(|device: u8| device.to_string())
+                .map(|device: u8| number(device, wanted))
                 .collect();
             let set = if devices.is_empty() {
                 "-".to_string()

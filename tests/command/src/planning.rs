@@ -174,6 +174,10 @@ fn place_told(said: &str) -> Option<(String, usize, usize)> {
 }
 
 fn place(file: &[u8], number: u8) -> Option<(String, usize, usize)> {
+    // An empty one is told as such, without a place.
+    if file.is_empty() {
+        return None;
+    }
     match (number, end_of_fault(file)) {
         (2, Some(end)) => Some(("end".to_string(), end, file.len() - 1)),
         (_, Some(end)) => {

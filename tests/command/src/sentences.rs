@@ -5,7 +5,7 @@ use crate::floe::{same, Floe, Tried};
 const A: &str = "device 1 5 1 3\n";
 
 /// A text, the words after `floe COMMAND -`, and the line on standard error.
-const REFUSALS: [(&str, &str, &str); 58] = [
+const REFUSALS: [(&str, &str, &str); 68] = [
     (
         "9 of A",
         "check",
@@ -154,22 +154,22 @@ const REFUSALS: [(&str, &str, &str); 58] = [
     (
         "horizon 4\njob 0 2 2 -\njob 0 2 2 -",
         "plan --budget 3",
-        "19: no schedule meets all deadlines (3 vertices searched)",
+        "19: no schedule meets all deadlines (3 vertices searched): jobs 0 and 1 alone do not fit: they run for 4 ticks in all, between the ticks 0 and 2",
     ),
     (
         "horizon 4\njob 0 2 2 -\njob 0 2 2 -",
         "plan",
-        "19: no schedule meets all deadlines",
+        "19: no schedule meets all deadlines: jobs 0 and 1 alone do not fit: they run for 4 ticks in all, between the ticks 0 and 2",
     ),
     (
         "horizon 2\njob 0 2 2 -\njob 0 2 1 -",
         "possible --budget 1",
-        "19: no schedule meets all deadlines (1 vertex searched)",
+        "19: no schedule meets all deadlines (1 vertex searched): jobs 0 and 1 alone do not fit: they run for 3 ticks in all, between the ticks 0 and 2",
     ),
     (
         "horizon 2\njob 0 2 2 -\njob 0 2 1 -",
         "possible",
-        "19: no schedule meets all deadlines",
+        "19: no schedule meets all deadlines: jobs 0 and 1 alone do not fit: they run for 3 ticks in all, between the ticks 0 and 2",
     ),
     (
         "horizon 5\njob 0 5 2 -",
@@ -268,6 +268,58 @@ const REFUSALS: [(&str, &str, &str); 58] = [
         "check",
         "13: job 0 (line 4, bytes 17 to 23): deadline 6 > horizon 5",
     ),
+    // By their names.
+    (
+        "horizon 5\ndevice 0 5 1 3 name flash",
+        "check",
+        "4: device 0 flash (line 2, bytes 3 to 9): a transition time of 0",
+    ),
+    (
+        "horizon 5\njob 0 6 1 - name send",
+        "plan",
+        "13: job 0 send (line 2, bytes 5 to 11): deadline 6 > horizon 5",
+    ),
+    (
+        "task 4 5 - name poll",
+        "check",
+        "8: task 0 poll (line 1, bytes 4 to 8): running time 5 > period 4",
+    ),
+    (
+        "horizon 9\njob 0 9 2 - name read\njob 0 9 3 - name send",
+        "rows 3,1",
+        "18: job 0 read: runs from 3 to 5 and overlaps job 1 send, from 1 to 4",
+    ),
+    (
+        "task 4 2 - name read\ntask 4 3 - name send",
+        "verdict 3 0",
+        "17: job 0 read: start 3 + running time 2 > deadline 4",
+    ),
+    (
+        "horizon 4\njob 0 4 1 -\njob 0 2 2 - name read\njob 0 2 2 - name send",
+        "plan",
+        "19: no schedule meets all deadlines: jobs 1 (read) and 2 (send) alone do not fit: they run for 4 ticks in all, between the ticks 0 and 2",
+    ),
+    (
+        "task 4 2 -\ntask 4 3 - name send",
+        "possible",
+        "19: no schedule meets all deadlines: jobs 0 (task 0) and 1 (task 1 send) alone do not fit: they run for 5 ticks in all, between the ticks 0 and 4",
+    ),
+    // Stepping.
+    (
+        "horizon 9\ndevice 2 5 1 3\njob 0 9 1 0",
+        "step 0",
+        "24: a job that runs for fewer ticks than some device takes to move: job 0 runs for 1, and device 0 takes 2",
+    ),
+    (
+        "kind 2\nhorizon 9\ndevice 1 1 9 1 4 2\njob 0 9 2 0",
+        "step 0",
+        "25: stepping is for devices of kind 1, and the request is of kind 2",
+    ),
+    (
+        "horizon 9\ndevice 1 5 1 3\ndevice 1 5 1 5 name flash\njob 0 9 2 0",
+        "step 0",
+        "25: device 1 flash: stepping is for devices that cost less to move than at work: P0 5 is not below Pw 5",
+    ),
     // Of the first, though the horizon's bytes are those of a mark.
     (
         "horizon 65283",
@@ -301,10 +353,14 @@ const REFUSALS: [(&str, &str, &str); 58] = [
     ),
 ];
 
-const FILES: [(&[u8], &str); 25] = [
+const FILES: [(&[u8], &str); 26] = [
     (
         &[],
-        "1: horizon (bytes 0 to 1): the file ends here, with 0 of 2 bytes",
+        "1: standard input is empty (if a command stands before the pipe, what it says is the reason)",
+    ),
+    (
+        &[0],
+        "1: horizon (bytes 0 to 1): the file ends here, with 1 of 2 bytes",
     ),
     (
         &[0, 5],

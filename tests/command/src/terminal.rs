@@ -56,6 +56,8 @@ fn in_folder(floe: &Floe, folder: &Path) -> Tried {
     same((printed.status, is_told), (Some(0), true), || said.clone())?;
     runs += 1 + interrupted(forgetful())?;
 
+    runs += bytes_to_a_terminal(floe, &request)?;
+
     // The script finds its house from anywhere, through a link too.
     let script = Path::new(env!("CARGO_MANIFEST_DIR")).join("../../floe");
     let link = folder.join("floe");
@@ -73,6 +75,22 @@ fn in_folder(floe: &Floe, folder: &Path) -> Tried {
         runs += 1;
     }
     Ok(runs)
+}
+
+/// A request file is bytes, which would only spoil a terminal: it is not written there, and what to do
+/// is said. Its text is.
+fn bytes_to_a_terminal(floe: &Floe, request: &str) -> Tried {
+    let (printed, shown) = pty::shown(floe.command(&["write", request]))?;
+    let words = "floe write: a request file is bytes and no text, and standard output is a terminal: \
+                 send it to a file (> request.floe) or a pipe, or ask for its text (show, build --text)\n";
+    let is_told = shown.starts_with(words);
+    same((printed.status, is_told), (Some(2), true), || shown.clone())?;
+    let (printed, shown) = pty::shown(floe.command(&["show", request]))?;
+    let is_shown = shown.starts_with("horizon 14\n");
+    same((printed.status, is_shown), (Some(0), true), || {
+        shown.clone()
+    })?;
+    Ok(2)
 }
 
 /// Interrupted while it is at work: the line is wiped, a word is said, there is no plan, and the signal is
