@@ -54,25 +54,39 @@ pub fn is_sheet(bytes: &[u8], words: &[&str]) -> bool {
 }
 
 /// A sheet as the library takes it: its lines end in CR LF. Where they end in LF alone, as a spreadsheet
-/// program on Linux writes them, the CR is put back, and that is said.
+/// program on Linux writes them, or all in CR alone, the other is put back, and that is said.
 fn ready<'a>(path: &OsStr, bytes: &'a [u8]) -> Cow<'a, [u8]> {
     let sheet = unmarked(bytes);
-    let is_bare = |at: usize| sheet[at] == b'\n' && (at == 0 || sheet[at - 1] != b'\r');
-    if !(0..sheet.len()).any(is_bare) {
+    let (whole, ends) = match sheet.contains(&b'\n') {
+        true => (with_returns(sheet), "LF"),
+        false => (with_feeds(sheet), "CR"),
+    };
+    if whole == sheet {
         return Cow::Borrowed(sheet);
-    }
-    let mut whole = Vec::new();
-    for at in 0..sheet.len() {
-        if is_bare(at) {
-            whole.push(b'\r');
-        }
-        whole.push(sheet[at]);
     }
     let name = streams::name(path);
     streams::complain(&format!(
-        "floe: {name}: its lines end in LF alone; it is taken as if they ended in CR LF"
+        "floe: {name}: its lines end in {ends} alone; it is taken as if they ended in CR LF"
     ));
     Cow::Owned(whole)
+}
+
+/// With a CR before every LF.
+fn with_returns(sheet: &[u8]) -> Vec<u8> {
+    let mut whole = Vec::new();
+    for &byte in sheet {
+        if byte == b'\n' && whole.last() != Some(&b'\r') {
+            whole.push(b'\r');
+        }
+        whole.push(byte);
+    }
+    whole
+}
+
+/// With an LF after every CR.
+fn with_feeds(sheet: &[u8]) -> Vec<u8> {
+    let pieces: Vec<&[u8]> = sheet.split(|&byte| byte == b'\r').collect();
+    pieces.join(&b"\r\n"[..])
 }
 
 type Records = Vec<Vec<u8>>;
@@ -169,6 +183,15 @@ pub fn jobs(path: &OsStr, sheet: &[u8], horizon: u16) -> Result<Text, Failure> {
 #[cfg(test)]
 mod tests {
     use super::*;
+
+    #[test]
+    fn lines_end_in_both_bytes() {
+        for sheet in ["a\nb\n", "a\r\nb\n", "a\r\nb\r\n"] {
+            assert_eq!(with_returns(sheet.as_bytes()), b"a\r\nb\r\n");
+        }
+        assert_eq!(with_feeds(b"a\rb\r"), b"a\r\nb\r\n");
+        assert_eq!(with_feeds(b"a"), b"a");
+    }
 
     #[test]
     fn a_sheet_is_told_from_a_text() {

@@ -59,6 +59,14 @@ pub fn bare(horizon: u16) -> Text {
 /// without lines.
 pub fn content(path: &OsStr, what: &str) -> Result<Vec<u8>, Failure> {
     let bytes = streams::read(path)?;
+    let is_wide = [&b"\xFF\xFE"[..], b"\xFE\xFF"]
+        .iter()
+        .any(|mark| bytes.starts_with(mark));
+    if is_wide {
+        let name = streams::name(path);
+        let words = "it is text in UTF-16: save it as CSV, and not as Unicode text";
+        return Err(Failure::Refused(format!("floe: {name}: {words}")));
+    }
     match bytes.iter().all(u8::is_ascii_whitespace) {
         true => Err(streams::empty(path, &format!("{what} has a line for each"))),
         false => Ok(bytes),

@@ -307,6 +307,21 @@ fn taken(floe: &Floe, folder: &Path) -> Tried {
     same(said, note(&bare_parts) + &note(&bare_jobs), || {
         "a note for each".to_string()
     })?;
+    let returns = file(folder, "cr.csv", PARTS.replace('\n', "").as_bytes())?;
+    let (of_returns, said) = plan(&returns, &jobs)?;
+    let note = note(&returns).replace("LF alone", "CR alone");
+    same((of_returns, said), (expected.clone(), note), || {
+        "a sheet in CR".to_string()
+    })?;
+    let wide: Vec<u8> = format!("\u{FEFF}{PARTS}")
+        .encode_utf16()
+        .flat_map(u16::to_le_bytes)
+        .collect();
+    let wide = file(folder, "wide.csv", &wide)?;
+    let (status, said) = floe.failed(&["export", "catalogue", &wide], b"")?;
+    let words =
+        format!("floe: {wide}: it is text in UTF-16: save it as CSV, and not as Unicode text\n");
+    same((status, said), (1, words), || "UTF-16".to_string())?;
     let marked = format!(
         "\u{FEFF}{}",
         PARTS.replace("417,2,9", "\"417\",\"2\",\"9\"")
@@ -315,5 +330,5 @@ fn taken(floe: &Floe, folder: &Path) -> Tried {
     same(plan(&marked, &jobs)?, (expected, String::new()), || {
         "a mark and quotes".to_string()
     })?;
-    Ok(3)
+    Ok(5)
 }
