@@ -6,7 +6,7 @@ use std::fs::{File, OpenOptions};
 use std::io::{self, Read};
 use std::os::fd::AsRawFd;
 use std::os::unix::fs::OpenOptionsExt;
-use std::os::unix::process::ExitStatusExt;
+use std::os::unix::process::{CommandExt, ExitStatusExt};
 use std::process::{Command, Stdio};
 use std::thread;
 
@@ -17,6 +17,7 @@ extern "C" {
     fn unlockpt(terminal: c_int) -> c_int;
     fn ptsname_r(terminal: c_int, name: *mut c_char, room: usize) -> c_int;
     fn kill(process: c_int, signal: c_int) -> c_int;
+    fn signal(signal: c_int, handler: usize) -> usize;
 }
 
 fn open(path: &str) -> io::Result<File> {
@@ -67,11 +68,20 @@ pub fn shown(mut command: Command) -> Result<(Printed, String), String> {
 /// and all that is shown.
 pub fn interrupted(mut command: Command, words: &str) -> Result<(Option<i32>, String), String> {
     const SIGINT: c_int = 2;
+    const SIG_DFL: usize = 0;
     let said = |fault: io::Error| format!("a terminal: {fault}");
     let (mut ours, theirs) = terminal().map_err(said)?;
     command.stdin(Stdio::null());
     command.stdout(theirs.try_clone().map_err(said)?);
     command.stderr(theirs);
+    // Who runs the tests in the background may have the signal ignored, and a child would keep that.
+    // SAFETY: signal is one of the calls that are allowed between fork and exec.
+    unsafe {
+        command.pre_exec(|| {
+            signal(SIGINT, SIG_DFL);
+            Ok(())
+        })
+    };
     let mut child = command.spawn().map_err(said)?;
     drop(command);
     let (mut shown, mut piece, mut is_sent) = (String::new(), [0; 256], false);
