@@ -3,6 +3,7 @@ ghost use mathlib.Core.Path.{_≡_};
 ghost use Rattle.planner.specs.Promises as Promises;
 use crate::Answer;
 use base::JobNumber;
+use visit::Found;
 
 pub fn success(horizon: u16, energy: u32, count: u32) -> Answer
     ensures { λ a. ⌜ a ≡ Promises.success horizon energy count ⌝ }
@@ -52,4 +53,14 @@ pub fn refusal_after(number: u8, count: u32) -> Answer
         energy: 0,
         count,
     }
+}
+
+// The answer of a search, by what it found.
+pub fn answer_of(horizon: u16, found: Found) -> Answer
+    ensures { λ a. ⌜ ((found .number ≡ 0 → ⊥) → a ≡ Promises.refusalAfter (found .number) (found .count)) × (found .number ≡ 0 → a ≡ Promises.success horizon (found .energy) (found .count)) ⌝ }
+{
+    if found.number != 0 {
+        return refusal_after(found.number, found.count);
+    }
+    success(horizon, found.energy, found.count)
 }

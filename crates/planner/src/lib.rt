@@ -14,6 +14,7 @@ use tables::tables_in;
 mod answers; // answers.rt: the answers, each made in one place
 mod recorders; // recorders.rt: the operations on a recorder, once its file is read
 
+pub use crate::answers::answer_of;
 pub use crate::answers::refusal;
 pub use crate::answers::refusal_after;
 pub use crate::answers::refusal_at;

@@ -3,8 +3,8 @@ ghost use Prim.Native.Nat.{_≤_};
 ghost use Rattle.schedule.specs.Quantities.{Valid};
 ghost use Rattle.planner.specs.Promises.{SizesOf, MarginsOf, VerdictOf, RowsOf, SearchOf};
 use crate::Answer;
+use crate::answers::answer_of;
 use crate::answers::refusal;
-use crate::answers::refusal_after;
 use crate::answers::refusal_at;
 use crate::answers::success;
 use schedule::Recorder;
@@ -79,14 +79,12 @@ pub fn rows_of(r: Recorder, starts: &[u16], out: &mut [u8]) -> Answer
     success(r.horizon, total, 0)
 }
 
-// Writes the start times of the first of the least-energy schedules that meet all deadlines, if the budget covers the vertices of the search. The search remembers in
-// 2,048 entries of six words.
+// Writes the start times of the first of the least-energy schedules that meet all deadlines, if the budget covers the vertices of the search.
 pub fn search_of(r: Recorder, budget: u32, starts: &mut [u16]) -> Answer
     requires { ⌜ Valid r ⌝ }
     ensures { λ a. ⌜ SearchOf budget (now (starts .entry)) r a (now (starts .exit)) ⌝ }
 {
-    let mut memory = [0u64; 12288];
-    search_in_of(r, budget, &mut memory, starts)
+    answer_of(r.horizon, visit::search(r, budget, starts))
 }
 
 // The same with a memory that is lent, of any length and whatever it holds: the more, the faster.
@@ -94,9 +92,5 @@ pub fn search_in_of(r: Recorder, budget: u32, memory: &mut [u64], starts: &mut [
     requires { ⌜ Valid r ⌝ }
     ensures { λ a. ⌜ SearchOf budget (now (starts .entry)) r a (now (starts .exit)) ⌝ }
 {
-    let found = visit::search(r, budget, memory, starts);
-    if found.number != 0 {
-        return refusal_after(found.number, found.count);
-    }
-    success(r.horizon, found.energy, found.count)
+    answer_of(r.horizon, visit::search_in(r, budget, memory, starts))
 }

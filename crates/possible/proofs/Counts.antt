@@ -1,6 +1,6 @@
 -- The count of the visit that stops when a schedule is found, beside that of the search: never above it, and the same where nothing is feasible.
 use mathlib.Core.Path.{_≡_, refl, sym, ap, subst}
-use mathlib.Core.Bool.{cond}
+use mathlib.Core.Bool.{false, cond}
 use mathlib.Core.Option.{Option, none, some}
 use mathlib.Core.List.{List, [], _∷_}
 use mathlib.Core.Logic.{_⊎_, inl, inr, ⊎-elim}
@@ -14,7 +14,14 @@ use Rattle.schedule.specs.Listing.{Feasible}
 use Rattle.schedule.specs.Visiting.{Vertex, Visited, Walk, counted, root, child, starts, choices, cutA, better, cutB, complete, examine, visit, visited, vertices}
 use Rattle.possible.specs.TillFound.{unlessFound, found, enter, visitTillFound, visitedTillFound, verticesTillFound}
 use Rattle.possible.proofs.Found.{none-found}
-use Rattle.possible.proofs.Steady.{Grows, search-grows}
+use Rattle.visit.proofs.Stopping.{visit-whole}
+use Rattle.visit.proofs.Visits.{visit-grows}
+
+abbrev Grows : Walk → Type 0
+Grows f = (st : Visited) → st .count ≤ f st .count
+
+search-grows : (R : Recorder) (m : ℕ) (v : Vertex) → Grows (visit R m v)
+search-grows R m v st = subst (λ (w : Visited). st .count ≤ w .count) (visit-whole R m v st) (visit-grows R false m v st)
 
 -- What the one visit p has come to, beside the search q: the same; or p has found a schedule and stands, and q counts on.
 abbrev Behind : Visited → Visited → Type 0

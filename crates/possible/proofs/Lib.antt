@@ -1,13 +1,9 @@
 pub mod Found
-pub mod Steady
 pub mod Counts
 pub mod Only
 pub mod Larger
 pub mod Beside
-pub mod Alike
-pub mod Budget
-pub mod Tallies
-pub mod Walking
-pub mod Ending
+pub mod Idling
+pub mod Without
+pub mod Stopping
 pub mod Figures
-pub mod Starts

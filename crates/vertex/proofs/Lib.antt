@@ -1,12 +1,3 @@
-pub mod Flags
-pub mod Adding
-pub mod Limits
-pub mod Cutting
-pub mod Soonest
-pub mod Offering
-pub mod Reading
-pub mod Marking
-pub mod Rooting
 pub mod Showing
 pub mod Charged
 pub mod Roots

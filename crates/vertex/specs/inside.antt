@@ -1,5 +1,3 @@
-pub mod Lasts
-pub mod Layout
-pub mod Shown
 pub mod Sums
-pub mod Vertices
+pub mod Lasts
+pub mod Shown

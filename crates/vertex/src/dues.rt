@@ -1,5 +1,4 @@
 // Cut A (rule 43) as one comparison: the latest time at which a child passes it depends on its parent and its job alone. No device plays a part here.
-use crate::Cells;
 use base::JobNumber;
 use flat::Flat;
 use flat::deadline_of;
@@ -8,14 +7,11 @@ use flat::numbers::sooner;
 use flat::numbers::wide;
 use flat::run_of;
 ghost use mathlib.Core.Path.{_≡_};
-ghost use mathlib.Core.Bool.{true};
-ghost use Prim.Native.Nat.{ℕ, _<_, _≤_};
-ghost use lib.ListN.{set};
+ghost use Prim.Native.Nat.{_≤_};
 ghost use Rattle.schedule.specs.Quantities.{Valid, jobs};
 ghost use Rattle.flat.specs.inside.Flat.{recorderOf};
 ghost use Rattle.vertex.specs.inside.Lasts.{TwoLeast};
-ghost use Rattle.vertex.specs.inside.Layout.{placedOf};
-ghost use Rattle.vertex.specs.inside.Sums.{due, dueWith, dueFor, limitFor};
+ghost use Rattle.vertex.specs.inside.Sums.{dueWith, limitFor};
 
 // The two smallest last starts of the unplaced jobs, and the job of the smaller one: they tell the smallest without any one job.
 pub struct Dues {
@@ -42,28 +38,6 @@ fn due_with(d: Dues, j: JobNumber, x: u32) -> Dues
         first: d.first,
         second,
     }
-}
-
-// The two smallest over all unplaced jobs.
-pub fn dues_of(r: &Flat, v: &Cells) -> Dues
-    requires { ⌜ Valid (recorderOf (now r)) ⌝ }
-    ensures { λ x. ⌜ ((j : ℕ) → j < 16 → due (recorderOf (now (r .entry))) (set (placedOf (now (v .entry))) j true) ≡ dueFor x j) ⌝ }
-{
-    let n = job_count(r);
-    let mut dues = Dues {
-        at: JobNumber(0),
-        first: 65536,
-        second: 65536,
-    };
-    let mut i = 0;
-    while i < n {
-        if v[24 + i] == 0 {
-            let last = wide(deadline_of(r, i)) - wide(run_of(r, i));
-            dues = due_with(dues, JobNumber(i), last);
-        }
-        i += 1;
-    }
-    dues
 }
 
 // The two smallest over the jobs of a set.

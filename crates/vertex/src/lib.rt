@@ -3,8 +3,3 @@
 pub mod cells; // cells.rt: a vertex as lent numbers, and a job placed
 pub mod gaps; // gaps.rt: what a job and the end add
 pub mod dues; // dues.rt: cut A as one comparison
-pub mod placing; // placing.rt: a vertex without devices: the root, and a job placed
-
-// Of job j at 24 + j: 0 as long as it is unplaced, and then one more than its start. At 48 the running times of the unplaced jobs, at 16 + k the ticks to come of
-// device k.
-pub type Cells = [u32; 49];

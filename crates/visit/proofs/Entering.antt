@@ -5,7 +5,7 @@ use mathlib.Core.List.{List}
 use mathlib.Core.Logic.{_⊎_, inl, inr, ⊎-elim}
 use Prim.Native.Nat.{ℕ, suc, _+_, _-_, _^_, _≤_, _<_, max, min}
 use native.Mathlib.Omega.{arith}
-use lib.Dec.{ltb}
+use lib.Dec.{eqb, ltb}
 use lib.ListN.{set, length}
 use lib.Pow.{pow-pos}
 use borrow.Author.Tests.{lt-ltb, le-ltb}
@@ -15,7 +15,6 @@ use Rattle.base.proofs.Numbers.{length-nil, total-remove}
 use Rattle.schedule.specs.declared.Recorder.{Recorder}
 use Rattle.schedule.specs.Quantities.{Valid, jobs, release, run, deadline, device}
 use Rattle.schedule.specs.Visiting.{Vertex, Visited, child, starts, startsOf, cutA, counted, floor, planEnergy, choices}
-use Rattle.schedule.specs.Visiting as order
 use Rattle.schedule.proofs.Tree.{Reached, child-reached}
 use Rattle.latest.specs.inside.Sets.{has}
 use Rattle.latest.specs.inside.Latest.{jobsOf}
@@ -30,10 +29,11 @@ use Rattle.vertex.specs.inside.Sums.{limitFor}
 use Rattle.vertex.proofs.Lasting.{cut-limit}
 use Rattle.vertex.proofs.Most.{floor-most, uncut-room}
 use Rattle.vertex.proofs.Showing.{some-suc, ordered-later, shown-ordered, leads-shown, ends-shown, child-shown, job-in, in-job}
-use Rattle.visit.specs.inside.Lent.{countAt, energyAt, Tells, Came, done, over, Stands, Starts, Tries, Drops, Enters, entered}
+use Rattle.visit.specs.inside.Lent.{countAt, energyAt, stopAt, Tells, Came, done, over, Stands, Starts, Tries, Drops, Enters}
+use Rattle.visit.specs.inside.Stops.{visitBy, entered}
 use Rattle.visit.specs.inside.Offers.{Offered}
-use Rattle.visit.proofs.Visits.{visit-grows, visit-dropped, visit-entered, cutB-spared}
-use Rattle.visit.proofs.Telling.{tells-counted, tells-noted, tells-back, came-back, tells-offered}
+use Rattle.visit.proofs.Visits.{visit-one, visit-dropped, visit-entered, cutB-spared}
+use Rattle.visit.proofs.Telling.{tells-none, tells-counted, tells-noted, came-back, came-offered}
 
 -- From the start `cut` on every child is dropped: from x on by cut A, and before it by cut B.
 abbrev pub Cuts : Recorder → List ℕ → ℕ → ℕ → ℕ → ℕ → ℕ → Type 0
@@ -153,7 +153,7 @@ module _ (R : Recorder) (valid : Valid R) (narrow : (k : ℕ) → k < R .devices
 
   -- ---- the visit of it
 
-  module _ (budget : ℕ) (l : List ℕ) (a from cut f j s m : ℕ) (v : Vertex) (st : Visited) (tally : List ℕ) (t : Tries R l (energyAt tally) a from cut f j s m v) (tells : Tells R budget tally v st) where
+  module _ (stop : Bool) (budget : ℕ) (l : List ℕ) (a from cut f j s m : ℕ) (v : Vertex) (st : Visited) (tally : List ℕ) (t : Tries R l (energyAt tally) a from cut f j s m v) (tells : Tells R stop budget tally v st) where
     w : Vertex
     w = child R v j s
 
@@ -161,22 +161,22 @@ module _ (R : Recorder) (valid : Valid R) (narrow : (k : ℕ) → k < R .devices
     unfolding w
     reached = starts-reached m v j s (t .starts) (t .stands .shows .reached)
 
-    pub visit-over : countAt tally ≡ budget → (x : List ℕ) → Came R budget x v (order.visit R m (child R v j s) st) true
-    visit-over e x = over (omega (arith, e, tells .count, visit-grows R m (child R v j s) st))
+    pub visit-over : countAt tally ≡ budget → Came R stop budget tally v (visitBy R stop m (child R v j s) st) true
+    visit-over e = over (tells .stops) (omega (arith, e, tells .count, visit-one R stop m (child R v j s) st (tells .going))) (tells-none R stop budget tally v st tells)
 
     module _ (less : countAt tally < budget) (x : List ℕ) (x-is : x ≡ set tally 0 (countAt tally + 1)) where
-      pub tells-more : Tells R budget x v (counted st)
-      tells-more = rw x-is (tells-counted R budget tally v st tells less)
+      pub tells-more : Tells R stop budget x v (counted st)
+      tells-more = rw x-is (tells-counted R stop budget tally v st tells less)
 
-      pub visit-drops : (cutA R (child R v j s) ≡ true) ⊎ (energyAt tally ≤ floor R (child R v j s)) → Came R budget x v (order.visit R m (child R v j s) st) false
+      pub visit-drops : (cutA R (child R v j s) ≡ true) ⊎ (energyAt tally ≤ floor R (child R v j s)) → Came R stop budget x v (visitBy R stop m (child R v j s) st) false
       unfolding w
-      visit-drops q = done (subst (Tells R budget x v) (sym (visit-dropped R valid narrow m (child R v j s) reached tally st (tells .best) q)) tells-more)
+      visit-drops q = done (subst (Tells R stop budget x v) (sym (visit-dropped R stop valid narrow m (child R v j s) reached tally st (tells .going) (tells .best) q)) tells-more)
 
-    pub visit-enters : s < cut → f < energyAt tally → (x : List ℕ) (b : Bool) → Came R budget x v (entered R m (child R v j s) (counted st)) b → Came R budget x v (order.visit R m (child R v j s) st) b
+    pub visit-enters : s < cut → f < energyAt tally → (x : List ℕ) (b : Bool) → Came R stop budget x v (entered R stop m (child R v j s) (counted st)) b → Came R stop budget x v (visitBy R stop m (child R v j s) st) b
     visit-enters early low x b c =
         let q = t .spared early in
-        subst (λ (z : Visited). Came R budget x v z b)
-        (sym (visit-entered R m (child R v j s) st (q .0) (cutB-spared R (child R v j s) (st .best) tally (tells .best) (omega (arith, q .1, low))))) c
+        subst (λ (z : Visited). Came R stop budget x v z b)
+        (sym (visit-entered R stop m (child R v j s) st (tells .going) (q .0) (cutB-spared R stop (child R v j s) (st .best) tally (tells .best) (omega (arith, q .1, low))))) c
 
   pub bit-room : (l : List ℕ) (a m : ℕ) (v : Vertex) (j p : ℕ) → Shows R l a (suc m) v → In j (v .unplaced) → p ≡ 2 ^ j → (1 ≤ p) × (p ≤ a)
   bit-room l a m v j p h i e = (omega (arith, e, pow-pos j), omega (arith, e, has-le a j (in-job R valid l a (suc m) v h j i .1)))
@@ -195,7 +195,7 @@ module _ (R : Recorder) (valid : Valid R) (narrow : (k : ℕ) → k < R .devices
 
   -- ---- entering it
 
-  module _ (budget : ℕ) (l : List ℕ) (left f j s m : ℕ) (v : Vertex) (t : Enters R l left f j s m v) where
+  module _ (stop : Bool) (budget : ℕ) (l : List ℕ) (left f j s m : ℕ) (v : Vertex) (t : Enters R l left f j s m v) where
     set-left : setOf (child R v j s .unplaced) ≡ left
     set-left = let e = set-without j (v .unplaced) (t .starts .job) in omega (arith, e, t .shows .set)
 
@@ -216,20 +216,21 @@ module _ (R : Recorder) (valid : Valid R) (narrow : (k : ℕ) → k < R .devices
     pub enters-small : f ≤ 2147450880
     enters-small = omega (arith, t .floor-is, floor-most R valid narrow m (child R v j s) reached-child (t .spared))
 
-    module _ (tally : List ℕ) (st : Visited) (tells : Tells R budget tally v st) where
-      pub enters-noted : (x : List ℕ) → x ≡ set tally (2 + j) s → Tells R budget x (child R v j s) st
-      enters-noted x e = rw e (tells-noted R budget v j s (t .starts .job) tally st (starts-known m v j s (t .starts) (t .shows .reached) .1) (valid .few-jobs) tells)
+    module _ (tally : List ℕ) (st : Visited) (tells : Tells R stop budget tally v st) where
+      pub enters-noted : (x : List ℕ) → x ≡ set tally (2 + j) s → Tells R stop budget x (child R v j s) st
+      enters-noted x e = rw e (tells-noted R stop budget v j s (t .starts .job) tally st (starts-known m v j s (t .starts) (t .shows .reached) .1) (valid .few-jobs) tells)
 
-    pub enters-complete : left ≡ 0 → (x y : List ℕ) (e : ℕ) (st : Visited) → Tells R budget x (child R v j s) st → e ≡ f + endsBy R l j s → e < 4294967295 → Offered e x y
-        → Came R budget y v (entered R m (child R v j s) st) false
-    enters-complete z x y e st tells e-is small o =
+    pub enters-complete :
+        left ≡ 0 → (x y : List ℕ) (e : ℕ) (st : Visited) → Tells R stop budget x (child R v j s) st → e ≡ f + endsBy R l j s → e < 4294967295 → Offered e x y
+        → (b : Bool) → b ≡ eqb (stopAt y) 1 → Came R stop budget y v (entered R stop m (child R v j s) st) b
+    enters-complete z x y e st tells e-is small o b b-is =
         let n = left-none z in
         let r : Reached R 0 (child R v j s) = subst (λ (k : ℕ). Reached R k (child R v j s)) n reached-child in
         let energy = energy-complete R valid (child R v j s) r in
         let is : e ≡ planEnergy R (startsOf R (child R v j s)) = omega (arith, e-is, t .floor-is, energy, ends-shown R valid l (suc m) (left + 2 ^ j) v (t .shows) j s) in
-        done (tells-back R budget v j s (t .starts .job) y (entered R m (child R v j s) st)
-        (subst (λ (k : ℕ). Tells R budget y (child R v j s) (entered R k (child R v j s) st)) (sym n)
-        (tells-offered R budget (child R v j s) r (valid .few-jobs) x y e st is small o tells)))
+        came-back R stop budget v j s (t .starts .job) y (entered R stop m (child R v j s) st) b
+        (subst (λ (k : ℕ). Came R stop budget y (child R v j s) (entered R stop k (child R v j s) st) b) (sym n)
+        (came-offered R stop budget (child R v j s) r valid x y e st is small o b b-is tells))
 
     module _ (w : List ℕ) (placed : Placed R l w j s) where
       pub stands-child : (n : ℕ) → m ≡ suc n → Stands R w left f n (child R v j s)
@@ -242,9 +243,9 @@ module _ (R : Recorder) (valid : Valid R) (narrow : (k : ℕ) → k < R .devices
             spared = t .spared;
           }
 
-    pub enters-came : (n : ℕ) → m ≡ suc n → (x : List ℕ) (st : Visited) (b : Bool) → Came R budget x (child R v j s) (choices R (order.visit R n) (child R v j s) st) b
-        → Came R budget x v (entered R m (child R v j s) st) b
+    pub enters-came : (n : ℕ) → m ≡ suc n → (x : List ℕ) (st : Visited) (b : Bool) → Came R stop budget x (child R v j s) (choices R (visitBy R stop n) (child R v j s) st) b
+        → Came R stop budget x v (entered R stop m (child R v j s) st) b
     unfolding entered
     enters-came n e x st b c =
-        subst (λ (k : ℕ). Came R budget x v (entered R k (child R v j s) st) b) (sym e)
-        (came-back R budget v j s (t .starts .job) x (choices R (order.visit R n) (child R v j s) st) b c)
+        subst (λ (k : ℕ). Came R stop budget x v (entered R stop k (child R v j s) st) b) (sym e)
+        (came-back R stop budget v j s (t .starts .job) x (choices R (visitBy R stop n) (child R v j s) st) b c)

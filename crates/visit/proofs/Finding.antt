@@ -1,37 +1,84 @@
--- What the search answers, by what the visit of the root came to. The recorder R is read through its flat form F, which is R.
-use mathlib.Core.Path.{_≡_, subst}
-use mathlib.Core.Bool.{Bool, true, false}
+-- What the search answers, by what its visit came to. The recorder R is read through its flat form F, which is R.
+use mathlib.Core.Path.{_≡_, refl, sym, subst}
+use mathlib.Core.Bool.{Bool, true, false, true≢false}
 use mathlib.Core.List.{List, _++_}
-use Prim.Native.Nat.{ℕ, _≤_, _<_}
-use lib.ListN.{length, drop}
+use Prim.Native.Nat.{ℕ, zero, suc, _≤_, _<_}
+use native.Mathlib.Omega.{arith}
+use lib.ListN.{getD, length, drop, replicate}
 use Rattle.base.specs.Lists.{upTo}
 use Rattle.schedule.specs.declared.Recorder.{Recorder}
 use Rattle.schedule.specs.Quantities.{Valid, jobs}
-use Rattle.schedule.specs.Visiting.{root, visited}
-use Rattle.visit.specs.inside.Lent.{countAt, energyAt, bestAt, Tells, Came, refusal, success, Finds, beyond, nowhere, found}
-use Rattle.visit.proofs.Going.{came-over, came-done}
+use Rattle.schedule.specs.Visiting.{Visited, visited}
+use Rattle.extras.specs.inside.Tabled.{Tabled, capAt}
+use Rattle.stored.specs.inside.Cleared.{noKey}
+use Rattle.recall.specs.inside.Counts.{Counts}
+use Rattle.recall.proofs.Kept.{right-clear}
+use Rattle.recall.proofs.Recalling.{counts-none}
+use Rattle.visit.specs.inside.Lent.{countAt, energyAt, bestAt, Lends, Holds, Ran, whole, spent, refusal, success, Finds, beyond, nowhere, found}
+use Rattle.visit.specs.declared.Found.{Found}
+use Rattle.visit.specs.inside.Stops.{visitedBy}
+use Rattle.visit.proofs.Stopping.{visited-whole}
 use Rattle.visit.proofs.Rooted.{best-none, best-held, starts-are, starts-fit}
 
-tells-of : (R : Recorder) (budget : ℕ) (F : Recorder) → F ≡ R → (l : List ℕ) (b : Bool) → Came F budget l (root F) (visited F) b → b ≡ false → Tells R budget l (root R) (visited R)
-tells-of R budget F e l b c q = subst (λ (x : Recorder). Tells x budget l (root x) (visited x)) e (came-done F budget l (root F) (visited F) b c q)
+-- ---- what the stages come to
 
-pub tells-fit :
-    (R : Recorder) (budget : ℕ) → Valid R → (F : Recorder) → F ≡ R → (l : List ℕ) (b : Bool) → Came F budget l (root F) (visited F) b → b ≡ false → (energyAt l ≡ 4294967295 → ⊥)
-    → (j : ℕ) → j < jobs R → bestAt l j < 65536
-tells-fit R budget valid F e l b c q ne = let t = tells-of R budget F e l b c q in starts-fit R budget l t (best-held R budget l t ne) valid
+-- A memory of zeros is right: no entry counts.
+pub lends-clear : (R : Recorder) (ex memory : List ℕ) → Tabled R ex → ((i : ℕ) → getD memory i 0 ≡ 0) → Lends R ex memory
+lends-clear R ex memory tabled clear =
+    record { tabled = tabled; right = right-clear (Counts R (capAt ex)) memory (counts-none R (tabled .valid) (capAt ex) noKey) clear }
 
-module _ (R : Recorder) (budget : ℕ) (lent : List ℕ) (room : jobs R ≤ length lent) (F : Recorder) (e : F ≡ R) (l : List ℕ) (b : Bool) (c : Came F budget l (root F) (visited F) b) where
-  pub finds-over : b ≡ true → Finds R budget lent (refusal 20 budget) lent
-  finds-over q = beyond room (subst (λ (x : Recorder). budget < visited x .count) e (came-over F budget l (root F) (visited F) b c q))
+pub getD-zeros : (n i : ℕ) → _≡_ {A = ℕ} (getD (replicate n 0) i 0) 0
+getD-zeros zero i = refl
+getD-zeros (suc n) zero = refl
+getD-zeros (suc n) (suc i) = getD-zeros n i
 
-  module _ (q : b ≡ false) where
-    t : Tells R budget l (root R) (visited R)
-    t = tells-of R budget F e l b c q
+module _ (R : Recorder) (stop : Bool) where
+  -- The budget by another name.
+  pub ran-as : (budget budget′ : ℕ) → budget ≡ budget′ → (l : List ℕ) (b : Bool) → Ran R stop budget l b → Ran R stop budget′ l b
+  ran-as budget budget′ e l b r = subst (λ (n : ℕ). Ran R stop n l b) e r
 
-    pub finds-none : energyAt l ≡ 4294967295 → Finds R budget lent (refusal 19 (countAt l)) lent
-    finds-none z = rw (t .count) (nowhere room (t .within) (best-none R budget l t z))
+  -- A larger budget changes nothing where the smaller one suffices,
+  pub ran-larger : (few budget : ℕ) → few ≤ budget → (l : List ℕ) (b : Bool) → Ran R stop few l b → b ≡ false → Ran R stop budget l false
+  ran-larger few budget less l false (whole h) e = whole (record { count = h .count; best = h .best; within = omega (arith, h .within, less) })
+  ran-larger few budget less l true (spent q) e = absurd (true≢false e)
 
-    pub finds-found : (energyAt l ≡ 4294967295 → ⊥) → (after : List ℕ) → after ≡ upTo (bestAt l) (jobs R) ++ drop (jobs R) lent → Finds R budget lent (success (energyAt l) (countAt l)) after
-    finds-found ne after a =
-        let h = best-held R budget l t ne in
-        rw (a, starts-are R budget l t h, t .count, h .energy) (found room (t .within) (h .best))
+  -- and where there is none, the answer stands.
+  pub ran-spent : (few budget : ℕ) → few ≡ budget → (l : List ℕ) (b : Bool) → Ran R stop few l b → b ≡ true → Ran R stop budget l true
+  ran-spent few budget e l false (whole h) q = absurd (true≢false (sym q))
+  ran-spent few budget e l true (spent q) _ = ran-as few budget e l true (spent q)
+
+-- ---- the answer
+
+module _ (R : Recorder) (stop : Bool) (budget : ℕ) (F : Recorder) (e : F ≡ R) (l : List ℕ) (b : Bool) (c : Ran F stop budget l b) where
+  ran-over : (x : Bool) → Ran F stop budget l x → x ≡ true → budget < visitedBy R stop .count
+  ran-over false (whole h) q = absurd (true≢false (sym q))
+  ran-over true (spent h) q = subst (λ (x : Recorder). budget < visitedBy x stop .count) e h
+
+  ran-holds : (x : Bool) → Ran F stop budget l x → x ≡ false → Holds R budget l (visitedBy R stop)
+  ran-holds false (whole h) q = subst (λ (x : Recorder). Holds x budget l (visitedBy x stop)) e h
+  ran-holds true (spent h) q = absurd (true≢false q)
+
+  pub finds-fit : Valid R → b ≡ false → (energyAt l ≡ 4294967295 → ⊥) → (j : ℕ) → j < jobs R → bestAt l j < 65536
+  finds-fit valid q ne = let h = ran-holds b c q in starts-fit R budget l (visitedBy R stop) h (best-held R budget l (visitedBy R stop) h ne) valid
+
+  module _ (lent : List ℕ) (room : jobs R ≤ length lent) where
+    pub finds-over : b ≡ true → Finds R (visitedBy R stop) budget lent (refusal 20 budget) lent
+    finds-over q = beyond room (ran-over b c q)
+
+    module _ (q : b ≡ false) where
+      h : Holds R budget l (visitedBy R stop)
+      h = ran-holds b c q
+
+      pub finds-none : energyAt l ≡ 4294967295 → Finds R (visitedBy R stop) budget lent (refusal 19 (countAt l)) lent
+      finds-none z = rw (h .count) (nowhere room (h .within) (best-none R budget l (visitedBy R stop) h z))
+
+      pub finds-found :
+          (energyAt l ≡ 4294967295 → ⊥) → (after : List ℕ) → after ≡ upTo (bestAt l) (jobs R) ++ drop (jobs R) lent
+          → Finds R (visitedBy R stop) budget lent (success (energyAt l) (countAt l)) after
+      finds-found ne after a =
+          let k = best-held R budget l (visitedBy R stop) h ne in
+          rw (a, starts-are R budget l (visitedBy R stop) h k, h .count, k .energy) (found room (h .within) (k .best))
+
+-- Where the visit does not stop, it is the search's own.
+pub finds-whole : (R : Recorder) (budget : ℕ) (lent : List ℕ) (f : Found) (l : List ℕ) → Finds R (visitedBy R false) budget lent f l → Finds R (visited R) budget lent f l
+finds-whole R budget lent f l h = subst (λ (st : Visited). Finds R st budget lent f l) (visited-whole R) h

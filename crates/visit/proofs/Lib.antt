@@ -1,3 +1,4 @@
+pub mod Stopping
 pub mod Visits
 pub mod Offering
 pub mod Telling

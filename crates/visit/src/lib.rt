@@ -1,5 +1,5 @@
-// The search for the cheapest schedule: depth first, under a budget of vertices (rules 40 to 48). The parent is lent for reading, and a child is made only where
-// no cut drops it and jobs are left to place.
+// The search for the cheapest schedule, and for the first one whatever it costs: depth first, under a budget of vertices (rules 40 to 48, 60 to 63). The parent is
+// lent for reading, and a child is made only where no cut drops it and jobs are left to place.
 use base::JobNumber;
 use extras::Extras;
 use extras::laying::lay_extras;
@@ -20,6 +20,7 @@ use recall::memory::keep;
 use schedule::Recorder;
 use stored::clear;
 use vertex::cells::Cells;
+use vertex::cells::LOAD;
 use vertex::cells::place;
 use vertex::cells::root_of;
 use vertex::dues::Dues;
@@ -31,7 +32,7 @@ use vertex::gaps::is_steady;
 use vertex::gaps::lead_of;
 use vertex::gaps::root_floor;
 ghost use mathlib.Core.Path.{_≡_};
-ghost use mathlib.Core.Bool.{true};
+ghost use mathlib.Core.Bool.{Bool, true, false, cond};
 ghost use mathlib.Core.Logic.{_⊎_};
 ghost use mathlib.Core.List.{_++_};
 ghost use Prim.Native.Nat.{ℕ, suc, _+_, _-_, _^_, _<_, _≤_, min};
@@ -48,16 +49,26 @@ ghost use Rattle.vertex.specs.inside.Lasts.{TwoLeast};
 ghost use Rattle.vertex.specs.inside.Shown.{loadAt, leadsBy, Ordered};
 ghost use Rattle.vertex.specs.inside.Sums.{limitFor};
 ghost use Rattle.recall.specs.inside.Asks.{Asks};
-ghost use Rattle.visit.specs.inside.Lent.{countAt, energyAt, bestAt, slackBy, Lends, Tells, Came, Stands, Tries, Drops, Enters, Some, entered, Finds};
+ghost use Rattle.visit.specs.inside.Stops.{visitBy, visitedBy, entered};
+ghost use Rattle.visit.specs.inside.Lent.{countAt, energyAt, bestAt, stopAt, slackBy, Lends, Tells, Came, Ran, Stands, Tries, Drops, Enters, Some, Finds};
 
 mod tally; // tally.rt: the count, the best so far and the starts of the placed jobs
 
+use crate::tally::BEST;
+use crate::tally::COUNT;
+use crate::tally::ENERGY;
 use crate::tally::NONE;
 use crate::tally::Tally;
 use crate::tally::add_count;
+use crate::tally::begin;
 use crate::tally::count_one;
+use crate::tally::is_over;
 use crate::tally::note;
 use crate::tally::offer;
+use crate::tally::stops;
+
+// So many vertices are visited without a memory.
+const FEW: u32 = 1024;
 
 // The answer of the search: 0 or the number of its refusal, and what goes with it.
 pub struct Found {
@@ -79,7 +90,7 @@ fn first_cut(r: &Flat, v: &Cells, dues: Dues, j: JobNumber) -> u32
     ensures { λ x. ⌜ x ≡ min (limitFor (recorderOf (now (r .entry)) .horizon) (loadAt (now (v .entry)) - run (recorderOf (now (r .entry))) (j .0)) dues (j .0)) (deadline (recorderOf (now (r .entry))) (j .0)) + 1 - run (recorderOf (now (r .entry))) (j .0) ⌝ }
 {
     let c = wide(run_of(r, j.0));
-    let limit = limit_of(dues, wide(horizon_of(r)), v[24] - c, j);
+    let limit = limit_of(dues, wide(horizon_of(r)), v[LOAD] - c, j);
     lessened(sooner(limit, wide(deadline_of(r, j.0))) + 1, c)
 }
 
@@ -127,7 +138,17 @@ fn slack_of(best: u32, floor: u32) -> u32
     if best == NONE { 0 } else { best - floor }
 }
 
-// The child of v that places job j at s, and all below it. From the start `cut` on it is dropped; before, its floor is `floor`. Answers whether the budget is used up.
+// Whether a count may be remembered: it was not cut short, and the best is as it was.
+fn is_whole(short: bool, best: u32, after: u32) -> bool
+    ensures { λ x. ⌜ (x ≡ true → (short ≡ false) × (after ≡ best)) ⌝ }
+{
+    if short {
+        return false;
+    }
+    best == after
+}
+
+// The child of v that places job j at s, and all below it. From the start `cut` on it is dropped; before, its floor is `floor`. Answers whether the visit goes no further: the budget is used up, or what it stops at is found.
 fn visit(
     r: &Flat,
     extras: &Extras,
@@ -144,17 +165,17 @@ fn visit(
     s: u32,
 ) -> bool
     requires { ⌜ Lends (recorderOf (now r)) (now extras) (now memory) × ((p ≡ 2 ^ j .0) × Some (recorderOf (now r)) budget (now tally) (Tries (recorderOf (now r)) (now v) (energyAt (now tally)) set from cut floor (j .0) s)) ⌝ }
-    ensures kept { λ _. ⌜ Lends (recorderOf (now (r .entry))) (now (extras .entry)) (now (memory .exit)) × ((length (now (tally .exit)) ≡ 34) × (energyAt (now (tally .exit)) ≤ energyAt (now (tally .entry)))) ⌝ }
-    ensures came { λ x. ⌜ ((m : ℕ) (u : Vertex) (st : Visited) → Tries (recorderOf (now (r .entry))) (now (v .entry)) (energyAt (now (tally .entry))) set from cut floor (j .0) s m u → Tells (recorderOf (now (r .entry))) budget (now (tally .entry)) u st → Came (recorderOf (now (r .entry))) budget (now (tally .exit)) u (order.visit (recorderOf (now (r .entry))) m (child (recorderOf (now (r .entry))) u (j .0) s) st) x) ⌝ }
+    ensures kept { λ _. ⌜ Lends (recorderOf (now (r .entry))) (now (extras .entry)) (now (memory .exit)) × ((length (now (tally .exit)) ≡ 35) × (energyAt (now (tally .exit)) ≤ energyAt (now (tally .entry)))) ⌝ }
+    ensures came { λ x. ⌜ ((stop : Bool) (m : ℕ) (u : Vertex) (st : Visited) → Tries (recorderOf (now (r .entry))) (now (v .entry)) (energyAt (now (tally .entry))) set from cut floor (j .0) s m u → Tells (recorderOf (now (r .entry))) stop budget (now (tally .entry)) u st → Came (recorderOf (now (r .entry))) stop budget (now (tally .exit)) u (visitBy (recorderOf (now (r .entry))) stop m (child (recorderOf (now (r .entry))) u (j .0) s) st) x) ⌝ }
 {
-    if tally[0] == budget {
+    if tally[COUNT] == budget {
         return true;
     }
     count_one(tally);
     if cut <= s {
         return false;
     }
-    if tally[1] <= floor {
+    if tally[ENERGY] <= floor {
         return false;
     }
     enter(r, extras, memory, v, tally, budget, set - p, floor, j, s)
@@ -174,14 +195,14 @@ fn enter(
     s: u32,
 ) -> bool
     requires { ⌜ Lends (recorderOf (now r)) (now extras) (now memory) × ((floor < energyAt (now tally)) × Some (recorderOf (now r)) budget (now tally) (Enters (recorderOf (now r)) (now v) left floor (j .0) s)) ⌝ }
-    ensures kept { λ _. ⌜ Lends (recorderOf (now (r .entry))) (now (extras .entry)) (now (memory .exit)) × ((length (now (tally .exit)) ≡ 34) × (energyAt (now (tally .exit)) ≤ energyAt (now (tally .entry)))) ⌝ }
-    ensures came { λ x. ⌜ ((m : ℕ) (u : Vertex) (st : Visited) → Enters (recorderOf (now (r .entry))) (now (v .entry)) left floor (j .0) s m u → Tells (recorderOf (now (r .entry))) budget (now (tally .entry)) u st → Came (recorderOf (now (r .entry))) budget (now (tally .exit)) u (entered (recorderOf (now (r .entry))) m (child (recorderOf (now (r .entry))) u (j .0) s) st) x) ⌝ }
+    ensures kept { λ _. ⌜ Lends (recorderOf (now (r .entry))) (now (extras .entry)) (now (memory .exit)) × ((length (now (tally .exit)) ≡ 35) × (energyAt (now (tally .exit)) ≤ energyAt (now (tally .entry)))) ⌝ }
+    ensures came { λ x. ⌜ ((stop : Bool) (m : ℕ) (u : Vertex) (st : Visited) → Enters (recorderOf (now (r .entry))) (now (v .entry)) left floor (j .0) s m u → Tells (recorderOf (now (r .entry))) stop budget (now (tally .entry)) u st → Came (recorderOf (now (r .entry))) stop budget (now (tally .exit)) u (entered (recorderOf (now (r .entry))) stop m (child (recorderOf (now (r .entry))) u (j .0) s) st) x) ⌝ }
 {
     note(tally, j.0, s);
     if left == 0 {
         let e = floor + end_of(r, extras, v, j.0, s);
         offer(tally, e);
-        return false;
+        return stops(tally);
     }
     let mut w = *v;
     place(r, &mut w, j.0, s);
@@ -202,13 +223,13 @@ fn below(
     time: u32,
 ) -> bool
     requires { ⌜ Lends (recorderOf (now r)) (now extras) (now memory) × ((from < energyAt (now tally)) × Some (recorderOf (now r)) budget (now tally) (λ m u. Stands (recorderOf (now r)) (now v) set from m u × (u .time ≡ time))) ⌝ }
-    ensures kept { λ _. ⌜ Lends (recorderOf (now (r .entry))) (now (extras .entry)) (now (memory .exit)) × ((length (now (tally .exit)) ≡ 34) × (energyAt (now (tally .exit)) ≤ energyAt (now (tally .entry)))) ⌝ }
-    ensures came { λ x. ⌜ ((m : ℕ) (u : Vertex) (st : Visited) → Stands (recorderOf (now (r .entry))) (now (v .entry)) set from m u → u .time ≡ time → Tells (recorderOf (now (r .entry))) budget (now (tally .entry)) u st → Came (recorderOf (now (r .entry))) budget (now (tally .exit)) u (order.choices (recorderOf (now (r .entry))) (order.visit (recorderOf (now (r .entry))) m) u st) x) ⌝ }
+    ensures kept { λ _. ⌜ Lends (recorderOf (now (r .entry))) (now (extras .entry)) (now (memory .exit)) × ((length (now (tally .exit)) ≡ 35) × (energyAt (now (tally .exit)) ≤ energyAt (now (tally .entry)))) ⌝ }
+    ensures came { λ x. ⌜ ((stop : Bool) (m : ℕ) (u : Vertex) (st : Visited) → Stands (recorderOf (now (r .entry))) (now (v .entry)) set from m u → u .time ≡ time → Tells (recorderOf (now (r .entry))) stop budget (now (tally .entry)) u st → Came (recorderOf (now (r .entry))) stop budget (now (tally .exit)) u (order.choices (recorderOf (now (r .entry))) (visitBy (recorderOf (now (r .entry))) stop m) u st) x) ⌝ }
 {
     if !is_many(set) {
         return choices(r, extras, memory, v, tally, budget, set, from, time);
     }
-    let slack = slack_of(tally[1], from);
+    let slack = slack_of(tally[ENERGY], from);
     let asked = ask(r, extras, memory, v, set, time, slack);
     if 0 < asked.count {
         return add_count(tally, budget, asked.count);
@@ -230,18 +251,16 @@ fn learn(
     asked: Asked,
 ) -> bool
     requires { ⌜ Lends (recorderOf (now r)) (now extras) (now memory) × ((from < energyAt (now tally)) × (Asks (recorderOf (now r)) (capAt (now extras)) (now v) set time (slackBy (energyAt (now tally)) from) asked × Some (recorderOf (now r)) budget (now tally) (λ m u. Stands (recorderOf (now r)) (now v) set from m u × (u .time ≡ time)))) ⌝ }
-    ensures kept { λ _. ⌜ Lends (recorderOf (now (r .entry))) (now (extras .entry)) (now (memory .exit)) × ((length (now (tally .exit)) ≡ 34) × (energyAt (now (tally .exit)) ≤ energyAt (now (tally .entry)))) ⌝ }
-    ensures came { λ x. ⌜ ((m : ℕ) (u : Vertex) (st : Visited) → Stands (recorderOf (now (r .entry))) (now (v .entry)) set from m u → u .time ≡ time → Tells (recorderOf (now (r .entry))) budget (now (tally .entry)) u st → Came (recorderOf (now (r .entry))) budget (now (tally .exit)) u (order.choices (recorderOf (now (r .entry))) (order.visit (recorderOf (now (r .entry))) m) u st) x) ⌝ }
+    ensures kept { λ _. ⌜ Lends (recorderOf (now (r .entry))) (now (extras .entry)) (now (memory .exit)) × ((length (now (tally .exit)) ≡ 35) × (energyAt (now (tally .exit)) ≤ energyAt (now (tally .entry)))) ⌝ }
+    ensures came { λ x. ⌜ ((stop : Bool) (m : ℕ) (u : Vertex) (st : Visited) → Stands (recorderOf (now (r .entry))) (now (v .entry)) set from m u → u .time ≡ time → Tells (recorderOf (now (r .entry))) stop budget (now (tally .entry)) u st → Came (recorderOf (now (r .entry))) stop budget (now (tally .exit)) u (order.choices (recorderOf (now (r .entry))) (visitBy (recorderOf (now (r .entry))) stop m) u st) x) ⌝ }
 {
-    let before = tally[0];
-    let best = tally[1];
-    if choices(r, extras, memory, v, tally, budget, set, from, time) {
-        return true;
+    let before = tally[COUNT];
+    let best = tally[ENERGY];
+    let short = choices(r, extras, memory, v, tally, budget, set, from, time);
+    if is_whole(short, best, tally[ENERGY]) {
+        keep(memory, asked.slot, asked.key, tally[COUNT] - before);
     }
-    if tally[1] == best {
-        keep(memory, asked.slot, asked.key, tally[0] - before);
-    }
-    false
+    short
 }
 
 // Each unplaced job in turn.
@@ -257,8 +276,8 @@ fn choices(
     time: u32,
 ) -> bool
     requires { ⌜ Lends (recorderOf (now r)) (now extras) (now memory) × Some (recorderOf (now r)) budget (now tally) (λ m u. Stands (recorderOf (now r)) (now v) set from m u × (u .time ≡ time)) ⌝ }
-    ensures kept { λ _. ⌜ Lends (recorderOf (now (r .entry))) (now (extras .entry)) (now (memory .exit)) × ((length (now (tally .exit)) ≡ 34) × (energyAt (now (tally .exit)) ≤ energyAt (now (tally .entry)))) ⌝ }
-    ensures came { λ x. ⌜ ((m : ℕ) (u : Vertex) (st : Visited) → Stands (recorderOf (now (r .entry))) (now (v .entry)) set from m u → u .time ≡ time → Tells (recorderOf (now (r .entry))) budget (now (tally .entry)) u st → Came (recorderOf (now (r .entry))) budget (now (tally .exit)) u (order.choices (recorderOf (now (r .entry))) (order.visit (recorderOf (now (r .entry))) m) u st) x) ⌝ }
+    ensures kept { λ _. ⌜ Lends (recorderOf (now (r .entry))) (now (extras .entry)) (now (memory .exit)) × ((length (now (tally .exit)) ≡ 35) × (energyAt (now (tally .exit)) ≤ energyAt (now (tally .entry)))) ⌝ }
+    ensures came { λ x. ⌜ ((stop : Bool) (m : ℕ) (u : Vertex) (st : Visited) → Stands (recorderOf (now (r .entry))) (now (v .entry)) set from m u → u .time ≡ time → Tells (recorderOf (now (r .entry))) stop budget (now (tally .entry)) u st → Came (recorderOf (now (r .entry))) stop budget (now (tally .exit)) u (order.choices (recorderOf (now (r .entry))) (visitBy (recorderOf (now (r .entry))) stop m) u st) x) ⌝ }
 {
     let n = job_count(r);
     let dues = dues_in(r, set);
@@ -307,14 +326,14 @@ fn tries(
     j: JobNumber,
 ) -> bool
     requires { ⌜ Lends (recorderOf (now r)) (now extras) (now memory) × ((j .0 < jobs (recorderOf (now r))) × ((has set (j .0) ≡ true) × ((p ≡ 2 ^ j .0) × (TwoLeast (recorderOf (now r)) set (jobs (recorderOf (now r))) dues × Some (recorderOf (now r)) budget (now tally) (λ m u. Stands (recorderOf (now r)) (now v) set from m u × (u .time ≡ time)))))) ⌝ }
-    ensures kept { λ _. ⌜ Lends (recorderOf (now (r .entry))) (now (extras .entry)) (now (memory .exit)) × ((length (now (tally .exit)) ≡ 34) × (energyAt (now (tally .exit)) ≤ energyAt (now (tally .entry)))) ⌝ }
-    ensures came { λ x. ⌜ ((m : ℕ) (u : Vertex) (st : Visited) → Stands (recorderOf (now (r .entry))) (now (v .entry)) set from m u → u .time ≡ time → Tells (recorderOf (now (r .entry))) budget (now (tally .entry)) u st → Came (recorderOf (now (r .entry))) budget (now (tally .exit)) u (through (λ (x : ℕ). order.visit (recorderOf (now (r .entry))) m (child (recorderOf (now (r .entry))) u (j .0) x)) (starts (recorderOf (now (r .entry))) (u .time) (j .0)) st) x) ⌝ }
+    ensures kept { λ _. ⌜ Lends (recorderOf (now (r .entry))) (now (extras .entry)) (now (memory .exit)) × ((length (now (tally .exit)) ≡ 35) × (energyAt (now (tally .exit)) ≤ energyAt (now (tally .entry)))) ⌝ }
+    ensures came { λ x. ⌜ ((stop : Bool) (m : ℕ) (u : Vertex) (st : Visited) → Stands (recorderOf (now (r .entry))) (now (v .entry)) set from m u → u .time ≡ time → Tells (recorderOf (now (r .entry))) stop budget (now (tally .entry)) u st → Came (recorderOf (now (r .entry))) stop budget (now (tally .exit)) u (through (λ (x : ℕ). visitBy (recorderOf (now (r .entry))) stop m (child (recorderOf (now (r .entry))) u (j .0) x)) (starts (recorderOf (now (r .entry))) (u .time) (j .0)) st) x) ⌝ }
 {
     let mut cut = first_cut(r, v, dues, j);
     let mut s = later(time, wide(release_of(r, j.0)));
     while s < cut {
         let floor = from + lead_of(r, extras, v, j.0, s);
-        cut = cut_at(r, extras, v, tally[1], floor, cut, j.0, s);
+        cut = cut_at(r, extras, v, tally[ENERGY], floor, cut, j.0, s);
         if visit(
             r,
             extras,
@@ -352,8 +371,8 @@ fn drops(
     start: u32,
 ) -> bool
     requires { ⌜ Lends (recorderOf (now r)) (now extras) (now memory) × ((j .0 < jobs (recorderOf (now r))) × ((has set (j .0) ≡ true) × ((p ≡ 2 ^ j .0) × ((start ≤ 65536) × (Drops (recorderOf (now r)) (now v) set from (energyAt (now tally)) (j .0) start × Some (recorderOf (now r)) budget (now tally) (λ m u. Stands (recorderOf (now r)) (now v) set from m u × (earliest (recorderOf (now r)) (u .time) (j .0) ≤ start))))))) ⌝ }
-    ensures kept { λ _. ⌜ Lends (recorderOf (now (r .entry))) (now (extras .entry)) (now (memory .exit)) × ((length (now (tally .exit)) ≡ 34) × (energyAt (now (tally .exit)) ≤ energyAt (now (tally .entry)))) ⌝ }
-    ensures came { λ x. ⌜ ((m : ℕ) (u : Vertex) (st : Visited) → Stands (recorderOf (now (r .entry))) (now (v .entry)) set from m u → earliest (recorderOf (now (r .entry))) (u .time) (j .0) ≤ start → Tells (recorderOf (now (r .entry))) budget (now (tally .entry)) u st → Came (recorderOf (now (r .entry))) budget (now (tally .exit)) u (through (λ (x : ℕ). order.visit (recorderOf (now (r .entry))) m (child (recorderOf (now (r .entry))) u (j .0) x)) (upFrom start (suc (deadline (recorderOf (now (r .entry))) (j .0)) - (start + run (recorderOf (now (r .entry))) (j .0)))) st) x) ⌝ }
+    ensures kept { λ _. ⌜ Lends (recorderOf (now (r .entry))) (now (extras .entry)) (now (memory .exit)) × ((length (now (tally .exit)) ≡ 35) × (energyAt (now (tally .exit)) ≤ energyAt (now (tally .entry)))) ⌝ }
+    ensures came { λ x. ⌜ ((stop : Bool) (m : ℕ) (u : Vertex) (st : Visited) → Stands (recorderOf (now (r .entry))) (now (v .entry)) set from m u → earliest (recorderOf (now (r .entry))) (u .time) (j .0) ≤ start → Tells (recorderOf (now (r .entry))) stop budget (now (tally .entry)) u st → Came (recorderOf (now (r .entry))) stop budget (now (tally .exit)) u (through (λ (x : ℕ). visitBy (recorderOf (now (r .entry))) stop m (child (recorderOf (now (r .entry))) u (j .0) x)) (upFrom start (suc (deadline (recorderOf (now (r .entry))) (j .0)) - (start + run (recorderOf (now (r .entry))) (j .0)))) st) x) ⌝ }
 {
     let c = wide(run_of(r, j.0));
     let d = wide(deadline_of(r, j.0));
@@ -383,15 +402,15 @@ fn drops(
 
 // The root and all below it.
 fn root_visit(r: &Flat, extras: &Extras, memory: &mut [u64], tally: &mut Tally, budget: u32) -> bool
-    requires { ⌜ Lends (recorderOf (now r)) (now extras) (now memory) × ((length (now tally) ≡ 34) × ((countAt (now tally) ≡ 0) × (energyAt (now tally) ≡ 4294967295))) ⌝ }
-    ensures { λ x. ⌜ Came (recorderOf (now (r .entry))) budget (now (tally .exit)) (order.root (recorderOf (now (r .entry)))) (visited (recorderOf (now (r .entry)))) x ⌝ }
+    requires { ⌜ Lends (recorderOf (now r)) (now extras) (now memory) × ((length (now tally) ≡ 35) × ((countAt (now tally) ≡ 0) × ((energyAt (now tally) ≡ 4294967295) × ((stop : Bool) × (stopAt (now tally) ≡ cond stop 1 0))))) ⌝ }
+    ensures { λ x. ⌜ (length (now (tally .exit)) ≡ 35) × ((stop : Bool) → stopAt (now (tally .entry)) ≡ cond stop 1 0 → Came (recorderOf (now (r .entry))) stop budget (now (tally .exit)) (order.root (recorderOf (now (r .entry)))) (visitedBy (recorderOf (now (r .entry))) stop) x) ⌝ }
 {
     if budget == 0 {
         return true;
     }
     count_one(tally);
     let v = root_of(r);
-    if wide(horizon_of(r)) < v[24] {
+    if wide(horizon_of(r)) < v[LOAD] {
         return false;
     }
     let floor = root_floor(r, extras, &v);
@@ -399,9 +418,86 @@ fn root_visit(r: &Flat, extras: &Extras, memory: &mut [u64], tally: &mut Tally, 
     if n == 0 {
         let e = floor + close_of(r, extras, &v);
         offer(tally, e);
-        return false;
+        return stops(tally);
     }
     choices(r, extras, memory, &v, tally, budget, all_jobs(r), floor, 0)
+}
+
+// The whole visit, from nothing counted. Answers whether the budget is used up.
+fn whole_visit(
+    r: &Flat,
+    extras: &Extras,
+    memory: &mut [u64],
+    tally: &mut Tally,
+    stop: bool,
+    budget: u32,
+) -> bool
+    requires { ⌜ Lends (recorderOf (now r)) (now extras) (now memory) × (length (now tally) ≡ 35) ⌝ }
+    ensures { λ x. ⌜ (length (now (tally .exit)) ≡ 35) × Ran (recorderOf (now (r .entry))) stop budget (now (tally .exit)) x ⌝ }
+{
+    begin(tally, stop);
+    let ended = root_visit(r, extras, memory, tally, budget);
+    is_over(tally, ended)
+}
+
+// The same with a memory that is lent, whatever it holds.
+fn lent_visit(
+    r: &Flat,
+    extras: &Extras,
+    memory: &mut [u64],
+    tally: &mut Tally,
+    stop: bool,
+    budget: u32,
+) -> bool
+    requires { ⌜ Tabled (recorderOf (now r)) (now extras) × (length (now tally) ≡ 35) ⌝ }
+    ensures { λ x. ⌜ Ran (recorderOf (now (r .entry))) stop budget (now (tally .exit)) x ⌝ }
+{
+    clear(memory);
+    whole_visit(r, extras, memory, tally, stop, budget)
+}
+
+// The same with a memory of its own, of 2,048 entries of six words.
+fn own_visit(r: &Flat, extras: &Extras, tally: &mut Tally, stop: bool, budget: u32) -> bool
+    requires { ⌜ Tabled (recorderOf (now r)) (now extras) × (length (now tally) ≡ 35) ⌝ }
+    ensures { λ x. ⌜ Ran (recorderOf (now (r .entry))) stop budget (now (tally .exit)) x ⌝ }
+{
+    let mut memory = [0u64; 12288];
+    whole_visit(r, extras, &mut memory, tally, stop, budget)
+}
+
+// The same without one, under a budget of few vertices.
+fn few_visit(r: &Flat, extras: &Extras, tally: &mut Tally, stop: bool, budget: u32) -> bool
+    requires { ⌜ Tabled (recorderOf (now r)) (now extras) × (length (now tally) ≡ 35) ⌝ }
+    ensures { λ x. ⌜ (length (now (tally .exit)) ≡ 35) × Ran (recorderOf (now (r .entry))) stop (min budget 1024) (now (tally .exit)) x ⌝ }
+{
+    let mut none = [0u64; 1];
+    whole_visit(r, extras, &mut none, tally, stop, sooner(budget, FEW))
+}
+
+// The same: without a memory first, since to forget one takes longer than a few vertices; with one where these do not suffice and the budget has more, its own or the
+// one that is lent.
+fn staged_visit(
+    r: &Flat,
+    extras: &Extras,
+    memory: &mut [u64],
+    own: bool,
+    tally: &mut Tally,
+    stop: bool,
+    budget: u32,
+) -> bool
+    requires { ⌜ Tabled (recorderOf (now r)) (now extras) × (length (now tally) ≡ 35) ⌝ }
+    ensures { λ x. ⌜ Ran (recorderOf (now (r .entry))) stop budget (now (tally .exit)) x ⌝ }
+{
+    if !few_visit(r, extras, tally, stop, budget) {
+        return false;
+    }
+    if budget <= FEW {
+        return true;
+    }
+    if own {
+        return own_visit(r, extras, tally, stop, budget);
+    }
+    lent_visit(r, extras, memory, tally, stop, budget)
 }
 
 // Writes the first n starts of the best into the lent list.
@@ -411,15 +507,23 @@ fn write_starts(tally: &Tally, n: usize, out: &mut [u16])
 {
     let mut j = 0;
     while j < n {
-        out[j] = (tally[18 + j] % 65536) as u16;
+        out[j] = (tally[BEST + j] % 65536) as u16;
         j += 1;
     }
 }
 
-// The first of the cheapest schedules, by job number into the lent list; or 15, then 20, then 19, and the list as it was.
-pub fn search(r: Recorder, budget: u32, memory: &mut [u64], out: &mut [u16]) -> Found
+// What a visit finds, by job number into the lent list: the first of the cheapest schedules, or where it stops the first of all; or 15, then 20, then 19, and the list
+// as it was.
+fn found_by(
+    r: Recorder,
+    stop: bool,
+    budget: u32,
+    memory: &mut [u64],
+    own: bool,
+    out: &mut [u16],
+) -> Found
     requires { ⌜ Valid r ⌝ }
-    ensures { λ x. ⌜ Finds r budget (now (out .entry)) x (now (out .exit)) ⌝ }
+    ensures { λ x. ⌜ Finds r (visitedBy r stop) budget (now (out .entry)) x (now (out .exit)) ⌝ }
 {
     let jobs = r.jobs;
     let n = jobs.count;
@@ -433,27 +537,51 @@ pub fn search(r: Recorder, budget: u32, memory: &mut [u64], out: &mut [u16]) -> 
     let flat = flat_of(r);
     let mut extras = [0u32; 32800];
     lay_extras(&flat, &mut extras);
-    clear(memory);
-    let mut tally = [0u32; 34];
-    tally[1] = NONE;
-    if root_visit(&flat, &extras, memory, &mut tally, budget) {
+    let mut tally = [0u32; 35];
+    if staged_visit(&flat, &extras, memory, own, &mut tally, stop, budget) {
         return Found {
             number: 20,
             energy: 0,
             count: budget,
         };
     }
-    if tally[1] == NONE {
+    if tally[ENERGY] == NONE {
         return Found {
             number: 19,
             energy: 0,
-            count: tally[0],
+            count: tally[COUNT],
         };
     }
     write_starts(&tally, n, out);
     Found {
         number: 0,
-        energy: tally[1],
-        count: tally[0],
+        energy: tally[ENERGY],
+        count: tally[COUNT],
     }
+}
+
+// The first of the cheapest schedules.
+pub fn search(r: Recorder, budget: u32, out: &mut [u16]) -> Found
+    requires { ⌜ Valid r ⌝ }
+    ensures { λ x. ⌜ Finds r (visited r) budget (now (out .entry)) x (now (out .exit)) ⌝ }
+{
+    let mut none = [0u64; 1];
+    found_by(r, false, budget, &mut none, true, out)
+}
+
+// The same with a memory that is lent, of any length and whatever it holds: the more, the faster.
+pub fn search_in(r: Recorder, budget: u32, memory: &mut [u64], out: &mut [u16]) -> Found
+    requires { ⌜ Valid r ⌝ }
+    ensures { λ x. ⌜ Finds r (visited r) budget (now (out .entry)) x (now (out .exit)) ⌝ }
+{
+    found_by(r, false, budget, memory, false, out)
+}
+
+// The first of all schedules, whatever it costs.
+pub fn first(r: Recorder, budget: u32, out: &mut [u16]) -> Found
+    requires { ⌜ Valid r ⌝ }
+    ensures { λ x. ⌜ Finds r (visitedBy r true) budget (now (out .entry)) x (now (out .exit)) ⌝ }
+{
+    let mut none = [0u64; 1];
+    found_by(r, true, budget, &mut none, true, out)
 }

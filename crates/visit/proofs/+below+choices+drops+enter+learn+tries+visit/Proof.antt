@@ -5,7 +5,8 @@ use borrow.Author.Needs.{needs}
 use Rattle.flat.specs.inside.Flat.{recorderOf}
 use Rattle.extras.specs.inside.Tabled.{capAt}
 use Rattle.recall.specs.inside.Asks.{Asks}
-use Rattle.visit.proofs.Remembering.{choices-grow, added-comes, added-kept, came-tells, came-as, seen-lends, asked-comes}
+use Rattle.visit.proofs.Remembering.{added-comes, added-kept, seen-lends, asked-comes}
+use mathlib.Core.Bool.{Bool, false}
 use mathlib.Core.Logic.{inl, inr, ⊎-elim}
 use mathlib.Core.List.{List, _∷_}
 use native.Mathlib.Nat.{le-refl}
@@ -15,14 +16,15 @@ use Rattle.base.specs.Lists.{upFrom}
 use Rattle.schedule.specs.Quantities.{jobs, release, deadline, run}
 use Rattle.schedule.specs.Visiting.{Vertex, Visited, counted, child, starts, earliest}
 use Rattle.schedule.specs.Visiting as order
+use Rattle.visit.specs.inside.Stops.{visitBy}
 use Rattle.latest.specs.inside.Sets.{members}
 use Rattle.latest.proofs.Tabled.{power-next, halved}
 use Rattle.vertex.proofs.Lasting.{bit-is}
 use Rattle.vertex.proofs.Showing.{jobs-shown, job-in, load-shown, ticks-shown}
 use Rattle.visit.specs.inside.Lent.{countAt, energyAt, Lends, Tells, Stands, Starts, Tries}
-use Rattle.visit.proofs.Visits.{jobWalk, start-grows, job-grows}
+use Rattle.visit.proofs.Visits.{jobWalk, choices-grow}
 use Rattle.visit.proofs.Telling.{counted-less, noted-less, offered-less}
-use Rattle.visit.proofs.Going.{Going, going-from, going-as, going-end, going-next, going-over, up-next, up-done, members-one, members-not, members-over, going-rest}
+use Rattle.visit.proofs.Going.{came-done, start-steady, job-steady, Going, going-from, going-as, going-end, going-next, going-over, up-next, up-done, members-one, members-not, members-over, going-rest}
 use Rattle.visit.proofs.Entering.{Cuts, starts-of, starts-known, starts-end, starts-ordered, cuts-less, cuts-at, from-small, load-room, tries-of, visit-over, tells-more, visit-drops, visit-enters, bit-room, enters-of, left-some, enters-small, enters-noted, enters-complete, stands-child, enters-came, drops-of, tries-dropped}
 use Rattle.base.specs.Loops.{through}
 use Rattle.visit.proofs.drops.Reads as drops
@@ -63,11 +65,13 @@ use Rattle.vertex.proofs.gaps.end_of.Reads as end-of-reads
 use Rattle.visit.proofs.cut_at.Reads as cut-at-reads
 use Rattle.visit.proofs.first_cut.Reads as first-cut-reads
 use Rattle.visit.proofs.is_many.Reads as is-many-reads
+use Rattle.visit.proofs.is_whole.Reads as is-whole-reads
 use Rattle.visit.proofs.slack_of.Reads as slack-of-reads
 use Rattle.visit.proofs.tally.add_count.Reads as add-count-reads
 use Rattle.visit.proofs.tally.count_one.Reads as count-one-reads
 use Rattle.visit.proofs.tally.note.Reads as note-reads
 use Rattle.visit.proofs.tally.offer.Reads as offer-reads
+use Rattle.visit.proofs.tally.stops.Reads as stops-reads
 use Rattle.visit.proofs.+below+choices+drops+enter+learn+tries+visit.{statement}
 use Rattle.visit.proofs.+below+choices+drops+enter+learn+tries+visit.Tie.{close}
 
@@ -144,10 +148,10 @@ abbrev drops-calls : ℕ → drops-lts.Claims
 drops-calls t = (run-of-reads.Asked, run-of-reads.Learnt, wide-reads.Asked, wide-reads.Learnt, deadline-of-reads.Asked, deadline-of-reads.Learnt, visit-below t, visit.Post)
 
 abbrev enter-calls : ℕ → enter-lts.Claims
-enter-calls t = (note-reads.Asked, note-reads.Learnt, end-of-reads.Asked, end-of-reads.Learnt, offer-reads.Asked, offer-reads.Learnt, place-reads.Asked, place-reads.Learnt, run-of-reads.Asked, run-of-reads.Learnt, wide-reads.Asked, wide-reads.Learnt, below-below t, below.Post)
+enter-calls t = (note-reads.Asked, note-reads.Learnt, end-of-reads.Asked, end-of-reads.Learnt, offer-reads.Asked, offer-reads.Learnt, stops-reads.Asked, stops-reads.Learnt, place-reads.Asked, place-reads.Learnt, run-of-reads.Asked, run-of-reads.Learnt, wide-reads.Asked, wide-reads.Learnt, below-below t, below.Post)
 
 abbrev learn-calls : ℕ → learn-lts.Claims
-learn-calls t = (choices-below t, choices.Post, keep-reads.Asked, keep-reads.Learnt)
+learn-calls t = (choices-below t, choices.Post, is-whole-reads.Asked, is-whole-reads.Learnt, keep-reads.Asked, keep-reads.Learnt)
 
 abbrev tries-calls : ℕ → tries-lts.Claims
 tries-calls t = (first-cut-reads.Asked, first-cut-reads.Learnt, release-of-reads.Asked, release-of-reads.Learnt, wide-reads.Asked, wide-reads.Learnt, later-reads.Asked, later-reads.Learnt, lead-of-reads.Asked, lead-of-reads.Learnt, cut-at-reads.Asked, cut-at-reads.Learnt, visit-below t, visit.Post, drops-below t, drops.Post)
@@ -194,9 +198,9 @@ below-returns-2 t c =
     let s = c .before .before .before .before .before .before .before .before .before .before .before in
     let R = recorderOf (s .args .r .now) in
     let asks = subst (λ (x : ℕ). Asks R (capAt (s .args .extras .now)) (s .args .v .now) (s .args .set) (s .args .time) x (c .before .before .before .before .ask .result)) (c .before .before .before .before .before .before .slack-of .ensures) (c .before .before .before .before .ask .ensures) in (
-      (s .pre .1 .0, added-kept R (s .args .budget) _ _ _ _ (s .pre .1 .1 .1 .tells .long) (c .add-count .ensures)),
-      λ m u st h q w. added-comes R (s .args .budget) _ _ _ _ (c .add-count .ensures) u st _
-          (asked-comes R (s .args .budget) (s .args .extras .now) (s .args .v .now) (s .args .set) (s .args .from) (s .args .time) (c .before .before .before .before .ask .result) (s .args .tally .now) asks
+      (s .pre .1 .0, added-kept R (s .pre .1 .1 .1 .stop) (s .args .budget) _ _ _ _ (s .pre .1 .1 .1 .tells .long) (c .add-count .ensures)),
+      λ stop m u st h q w. added-comes R stop (s .args .budget) _ _ _ _ (c .add-count .ensures) u st _
+          (asked-comes R stop (s .args .budget) (s .args .extras .now) (s .args .v .now) (s .args .set) (s .args .from) (s .args .time) (c .before .before .before .before .ask .result) (s .args .tally .now) asks
           (s .pre .1 .1 .0) (c .before .before .if2 .taken) m u h q st w) w,
     )
 
@@ -215,9 +219,9 @@ below-returns-3 t c = c .before .before .learn .ensures
 
 abbrev choices-Inv-loop : choices-lts.InvT-loop
 choices-Inv-loop r extras memory₀ v tally₀ budget set from time n dues rest₀ p₀ j₀ memory tally rest p j =
-    (j ≤ n) × (p ≡ 2 ^ j) × (rest ≡ set / 2 ^ j) × (length tally ≡ 34) × (energyAt tally ≤ energyAt tally₀)
-    × ((m : ℕ) (u : Vertex) (st : Visited) → Stands (recorderOf r) v set from m u → u .time ≡ time → Tells (recorderOf r) budget tally₀ u st
-    → Going (recorderOf r) budget u (jobWalk (recorderOf r) m u) tally (members j (n - j) rest) (order.choices (recorderOf r) (order.visit (recorderOf r) m) u st))
+    (j ≤ n) × (p ≡ 2 ^ j) × (rest ≡ set / 2 ^ j) × (length tally ≡ 35) × (energyAt tally ≤ energyAt tally₀)
+    × ((stop : Bool) (m : ℕ) (u : Vertex) (st : Visited) → Stands (recorderOf r) v set from m u → u .time ≡ time → Tells (recorderOf r) stop budget tally₀ u st
+    → Going (recorderOf r) stop budget u (jobWalk (recorderOf r) stop m u) tally (members j (n - j) rest) (order.choices (recorderOf r) (visitBy (recorderOf r) stop m) u st))
     × Lends (recorderOf r) extras memory × (length memory ≡ length memory₀)
 
 abbrev choices-μ-loop : choices-lts.MeasureT-loop
@@ -240,9 +244,9 @@ choices-loop-holds t c =
       omega arith,
       s .pre .1 .1 .tells .long,
       le-refl _,
-      (λ m u st stands time tells.
-          going-as R (s .args .budget) u (jobWalk R m u) (s .args .tally .now) (u .unplaced) _ _ (sym (jobs-shown R (s .pre .1 .0 .tabled .valid) _ _ _ u (stands .shows)) ∙ ap (λ (n : ℕ). members 0 n (s .args .set)) all)
-          (going-from R (s .args .budget) u (jobWalk R m u) (s .args .tally .now) (u .unplaced) st tells)),
+      (λ stop m u st stands time tells.
+          going-as R stop (s .args .budget) u (jobWalk R stop m u) (s .args .tally .now) (u .unplaced) _ _ (sym (jobs-shown R (s .pre .1 .0 .tabled .valid) _ _ _ u (stands .shows)) ∙ ap (λ (n : ℕ). members 0 n (s .args .set)) all)
+          (going-from R stop (s .args .budget) u (jobWalk R stop m u) (s .args .tally .now) (u .unplaced) st tells)),
       s .pre .1 .0,
       refl,
     )
@@ -252,8 +256,8 @@ choices-tries-requires t c κs =
     let s = c .before .before .before .before .before .before .before .before in
     let l = c .before .before .before .before .loop in
     let o = s .pre .1 .1 in
-    let g = l .inv .5 (o .left) (o .vertex) (o .state) (o .holds .0) (o .holds .1) (o .tells) in
-    (omega arith, (l .inv .6, (omega (arith, c .before .before .before .loop-test .taken, c .before .before .before .before .before .before .job-count .ensures), (bit-is _ _ _ (l .inv .2) (c .before .before .if1 .taken), (l .inv .1, (c .before .before .before .before .before .dues-in .ensures, record { left = o .left; vertex = o .vertex; state = g .state; holds = o .holds; tells = g .tells }))))))
+    let g = l .inv .5 (o .stop) (o .left) (o .vertex) (o .state) (o .holds .0) (o .holds .1) (o .tells) in
+    (omega arith, (l .inv .6, (omega (arith, c .before .before .before .loop-test .taken, c .before .before .before .before .before .before .job-count .ensures), (bit-is _ _ _ (l .inv .2) (c .before .before .if1 .taken), (l .inv .1, (c .before .before .before .before .before .dues-in .ensures, record { stop = o .stop; left = o .left; vertex = o .vertex; state = g .state; holds = o .holds; tells = g .tells }))))))
 
 choices-same-length : (t : ℕ) → choices-lts.Need-same-length (choices-calls t) (choices-at t) choices.Post choices-Inv-loop choices-μ-loop
 choices-same-length t c = omega arith
@@ -264,13 +268,13 @@ choices-returns t c =
     let R = recorderOf (s .args .r .now) in
     let l = c .before .before .before .before .before .before .before .before .loop in
     let e = c .before .before .before .tries in
-    let first : (m : ℕ) (u : Vertex) (st : Visited) → Stands R (s .args .v .now) (s .args .set) (s .args .from) m u → u .time ≡ s .args .time → Tells R (s .args .budget) (s .args .tally .now) u st
-    → Going R (s .args .budget) u (jobWalk R m u) (l .tally) (l .j ∷ members (l .j + 1) (c .before .before .before .before .before .before .before .before .before .before .job-count .result - (l .j + 1)) (l .rest / 2)) (order.choices R (order.visit R m) u st)
-    = λ m u st a b d. going-as R _ u _ _ _ _ _ (members-one (l .j) _ (l .rest) (c .before .before .before .before .before .before .before .loop-test .taken) (c .before .before .before .before .before .before .if1 .taken)) (l .inv .5 m u st a b d) in (
+    let first : (stop : Bool) (m : ℕ) (u : Vertex) (st : Visited) → Stands R (s .args .v .now) (s .args .set) (s .args .from) m u → u .time ≡ s .args .time → Tells R stop (s .args .budget) (s .args .tally .now) u st
+    → Going R stop (s .args .budget) u (jobWalk R stop m u) (l .tally) (l .j ∷ members (l .j + 1) (c .before .before .before .before .before .before .before .before .before .before .job-count .result - (l .j + 1)) (l .rest / 2)) (order.choices R (visitBy R stop m) u st)
+    = λ stop m u st a b d. going-as R stop _ u _ _ _ _ _ (members-one (l .j) _ (l .rest) (c .before .before .before .before .before .before .before .loop-test .taken) (c .before .before .before .before .before .before .if1 .taken)) (l .inv .5 stop m u st a b d) in (
       (e .ensures .0 .0, (e .ensures .0 .1 .0, omega (arith, e .ensures .0 .1 .1, l .inv .4))),
-      λ m u st stands time tells.
-          let g = first m u st stands time tells in
-          going-over R _ u (jobWalk R m u) _ _ _ _ g _ _ (e .ensures .1 m u (g .state) stands time (g .tells)) (job-grows R m u) (c .if2 .taken),
+      λ stop m u st stands time tells.
+          let g = first stop m u st stands time tells in
+          going-over R stop _ u (jobWalk R stop m u) _ _ _ _ g _ _ (e .ensures .1 stop m u (g .state) stands time (g .tells)) (job-steady R stop _ m u) (c .if2 .taken),
     )
 
 choices-mul-p : (t : ℕ) → choices-lts.Need-mul-p (choices-calls t) (choices-at t) choices.Post choices-Inv-loop choices-μ-loop
@@ -298,10 +302,10 @@ choices-loop-again t c =
       rw (l .inv .2) (halved _ _),
       ap length (w .8) ∙ w .3 .ensures .0 .1 .0,
       omega (arith, ap energyAt (w .8), w .3 .ensures .0 .1 .1, l .inv .4),
-      (λ m u st stands time tells.
-          let g = going-as R (s .args .budget) u (jobWalk R m u) (l .tally) _ _ _ (members-one (l .j) n (l .rest) test (w .0 .taken)) (l .inv .5 m u st stands time tells) in
-          subst (λ (x : List ℕ). Going R (s .args .budget) u (jobWalk R m u) x (members (l .j + 1) (n - (l .j + 1)) (l .rest / 2)) (order.choices R (order.visit R m) u st)) (sym (w .8))
-          (going-next R (s .args .budget) u (jobWalk R m u) (l .tally) _ _ _ g _ _ (w .3 .ensures .1 m u (g .state) stands time (g .tells)) (w .6 .left))),
+      (λ stop m u st stands time tells.
+          let g = going-as R stop (s .args .budget) u (jobWalk R stop m u) (l .tally) _ _ _ (members-one (l .j) n (l .rest) test (w .0 .taken)) (l .inv .5 stop m u st stands time tells) in
+          subst (λ (x : List ℕ). Going R stop (s .args .budget) u (jobWalk R stop m u) x (members (l .j + 1) (n - (l .j + 1)) (l .rest / 2)) (order.choices R (visitBy R stop m) u st)) (sym (w .8))
+          (going-next R stop (s .args .budget) u (jobWalk R stop m u) (l .tally) _ _ _ g _ _ (w .3 .ensures .1 stop m u (g .state) stands time (g .tells)) (w .6 .left))),
       rw (w .7) (w .3 .ensures .0 .0),
       omega (arith, ap length (w .7), l .inv .7),
     ))
@@ -311,9 +315,9 @@ choices-loop-again t c =
       rw (l .inv .2) (halved _ _),
       ap length (w .2) ∙ l .inv .3,
       omega (arith, ap energyAt (w .2), l .inv .4),
-      (λ m u st stands time tells.
-          subst (λ (x : List ℕ). Going R (s .args .budget) u (jobWalk R m u) x (members (l .j + 1) (n - (l .j + 1)) (l .rest / 2)) (order.choices R (order.visit R m) u st)) (sym (w .2))
-          (going-as R (s .args .budget) u (jobWalk R m u) (l .tally) _ _ _ (members-not (l .j) n (l .rest) test (w .0 .left)) (l .inv .5 m u st stands time tells))),
+      (λ stop m u st stands time tells.
+          subst (λ (x : List ℕ). Going R stop (s .args .budget) u (jobWalk R stop m u) x (members (l .j + 1) (n - (l .j + 1)) (l .rest / 2)) (order.choices R (visitBy R stop m) u st)) (sym (w .2))
+          (going-as R stop (s .args .budget) u (jobWalk R stop m u) (l .tally) _ _ _ (members-not (l .j) n (l .rest) test (w .0 .left)) (l .inv .5 stop m u st stands time tells))),
       rw (w .1) (l .inv .6),
       omega (arith, ap length (w .1), l .inv .7),
     ))
@@ -328,19 +332,19 @@ choices-returns-2 t c =
     let R = recorderOf (s .args .r .now) in
     let l = c .before .loop in (
       (l .inv .6, (l .inv .3, l .inv .4)),
-      λ m u st stands time tells.
-          going-end R (s .args .budget) u (jobWalk R m u) (l .tally) _ (going-as R (s .args .budget) u (jobWalk R m u) (l .tally) _ _ _ (members-over (l .j) _ (l .rest) (omega (arith, c .loop-test .left))) (l .inv .5 m u st stands time tells)),
+      λ stop m u st stands time tells.
+          going-end R stop (s .args .budget) u (jobWalk R stop m u) (l .tally) _ (going-as R stop (s .args .budget) u (jobWalk R stop m u) (l .tally) _ _ _ (members-over (l .j) _ (l .rest) (omega (arith, c .loop-test .left))) (l .inv .5 stop m u st stands time tells)),
     )
 
 -- The start is noted.
 enter-tells :
     (t : ℕ) (c : enter-lts.After-note (enter-calls t) (enter-at t) enter.Post) → let s = c .before .before .before in let R = recorderOf (s .args .r .now) in
-    let o = s .pre .1 .1 .1 in Tells R (s .args .budget) (c .note .last .0) (child R (o .vertex) (s .args .j .0) (s .args .s)) (o .state)
+    let o = s .pre .1 .1 .1 in Tells R (o .stop) (s .args .budget) (c .note .last .0) (child R (o .vertex) (s .args .j .0) (s .args .s)) (o .state)
 enter-tells t c =
     let s = c .before .before .before in
     let o = s .pre .1 .1 .1 in
     let x = s .pre .1 .0 .tabled in
-    enters-noted (recorderOf (s .args .r .now)) (x .valid) (x .narrow) _ _ _ _ _ _ _ _ (o .holds) _ _ (o .tells) _ (c .note .ensures)
+    enters-noted (recorderOf (s .args .r .now)) (x .valid) (x .narrow) _ _ _ _ _ _ _ _ _ (o .holds) _ _ (o .tells) _ (c .note .ensures)
 
 enter-note-requires : (t : ℕ) → enter-lts.Need-note-requires (enter-calls t) (enter-at t) enter.Post
 enter-note-requires t c κs =
@@ -361,26 +365,39 @@ enter-add-e : (t : ℕ) → enter-lts.Need-add-e (enter-calls t) (enter-at t) en
 enter-add-e t c =
     let s = c .before .before .before .before .before in
     let x = s .pre .1 .0 .tabled in
-    omega (arith, c .end-of .ensures .1, enters-small (recorderOf (s .args .r .now)) (x .valid) (x .narrow) 0 _ _ _ _ _ _ _ (s .pre .1 .1 .1 .holds))
+    omega (arith, c .end-of .ensures .1, enters-small (recorderOf (s .args .r .now)) (x .valid) (x .narrow) false 0 _ _ _ _ _ _ _ (s .pre .1 .1 .1 .holds))
 
 enter-offer-requires : (t : ℕ) → enter-lts.Need-offer-requires (enter-calls t) (enter-at t) enter.Post
 enter-offer-requires t c κs =
     let n = c .before .before .before in
     noted-less (n .before .before .before .args .tally .now) _ (n .before .before .before .args .j .0) (n .before .before .before .args .s) (n .before .before .before .pre .1 .1 .1 .tells .long) (n .note .ensures) .0
 
+-- The tally that the complete vertex was offered to.
+enter-offered :
+    (t : ℕ) (c : enter-lts.After-offer (enter-calls t) (enter-at t) enter.Post) → let n = c .before .before .before .before in
+    (length (c .offer .last .0) ≡ 35) × (energyAt (c .offer .last .0) ≤ energyAt (n .before .before .before .args .tally .now))
+enter-offered t c =
+    let n = c .before .before .before .before in
+    let s = n .before .before .before in
+    let q = noted-less (s .args .tally .now) _ (s .args .j .0) (s .args .s) (s .pre .1 .1 .1 .tells .long) (n .note .ensures) in
+    let k = offered-less _ _ _ (q .0) (c .offer .ensures) in
+    (k .0, omega (arith, k .1, q .1))
+
+enter-stops-requires : (t : ℕ) → enter-lts.Need-stops-requires (enter-calls t) (enter-at t) enter.Post
+enter-stops-requires t c κs = enter-offered t (c .before) .0
+
 enter-returns : (t : ℕ) → enter-lts.Need-returns (enter-calls t) (enter-at t) enter.Post
 enter-returns t c =
-    let n = c .before .before .before .before in
+    let o = c .before .before in
+    let n = o .before .before .before .before in
     let s = n .before .before .before in
     let R = recorderOf (s .args .r .now) in
     let x = s .pre .1 .0 .tabled in
-    let e = c .before .before .end-of in
-    let q = noted-less (s .args .tally .now) _ (s .args .j .0) (s .args .s) (s .pre .1 .1 .1 .tells .long) (n .note .ensures) in
-    let k = offered-less _ _ _ (q .0) (c .offer .ensures) in
-    let few = enters-small R (x .valid) (x .narrow) 0 _ _ _ _ _ _ _ (s .pre .1 .1 .1 .holds) in (
-      (s .pre .1 .0, (k .0, omega (arith, k .1, q .1))),
-      λ m u st enters tells.
-          enters-complete R (x .valid) (x .narrow) _ _ _ _ _ _ _ _ enters (c .before .before .before .if1 .taken) _ _ _ st (enters-noted R (x .valid) (x .narrow) _ _ _ _ _ _ _ _ enters _ st tells _ (n .note .ensures)) (ap (λ (y : ℕ). s .args .floor + y) (e .ensures .0)) (omega (arith, e .ensures .1, few)) (c .offer .ensures),
+    let e = o .before .before .end-of in
+    let few = enters-small R (x .valid) (x .narrow) false 0 _ _ _ _ _ _ _ (s .pre .1 .1 .1 .holds) in (
+      (s .pre .1 .0, enter-offered t o),
+      λ stop m u st enters tells.
+          enters-complete R (x .valid) (x .narrow) _ _ _ _ _ _ _ _ _ enters (o .before .before .before .if1 .taken) _ _ _ st (enters-noted R (x .valid) (x .narrow) _ _ _ _ _ _ _ _ _ enters _ st tells _ (n .note .ensures)) (ap (λ (y : ℕ). s .args .floor + y) (e .ensures .0)) (omega (arith, e .ensures .1, few)) (o .offer .ensures) _ (c .stops .ensures),
     )
 
 enter-place-requires : (t : ℕ) → enter-lts.Need-place-requires (enter-calls t) (enter-at t) enter.Post
@@ -417,18 +434,19 @@ enter-below-requires t c κs =
     let o = s .pre .1 .1 .1 in
     let x = s .pre .1 .0 .tabled in
     let R = recorderOf (s .args .r .now) in
-    let k = left-some R (x .valid) (x .narrow) 0 _ _ _ _ _ _ _ (o .holds) (c .before .before .before .before .before .before .before .before .if1 .left) in (
+    let k = left-some R (x .valid) (x .narrow) false 0 _ _ _ _ _ _ _ (o .holds) (c .before .before .before .before .before .before .before .before .if1 .left) in (
       omega arith,
       (
         s .pre .1 .0,
         (
           omega (arith, s .pre .1 .1 .0, noted-less (s .args .tally .now) _ (s .args .j .0) (s .args .s) (o .tells .long) (n .note .ensures) .1),
           record {
+            stop = o .stop;
             left = k .0;
             vertex = child R (o .vertex) (s .args .j .0) (s .args .s);
             state = o .state;
-            holds = (stands-child R (x .valid) (x .narrow) 0 _ _ _ _ _ _ _ (o .holds) _ (c .before .before .before .before .before .place .ensures) (k .0) (k .1), ap (λ (y : ℕ). s .args .s + y) (sym (c .before .before .before .wide .ensures .0 ∙ c .before .before .before .before .run-of .ensures)));
-            tells = enters-noted R (x .valid) (x .narrow) _ _ _ _ _ _ _ _ (o .holds) _ _ (o .tells) _ (n .note .ensures);
+            holds = (stands-child R (x .valid) (x .narrow) false 0 _ _ _ _ _ _ _ (o .holds) _ (c .before .before .before .before .before .place .ensures) (k .0) (k .1), ap (λ (y : ℕ). s .args .s + y) (sym (c .before .before .before .wide .ensures .0 ∙ c .before .before .before .before .run-of .ensures)));
+            tells = enters-noted R (x .valid) (x .narrow) _ _ _ _ _ _ _ _ _ (o .holds) _ _ (o .tells) _ (n .note .ensures);
           },
         ),
       ),
@@ -446,12 +464,12 @@ enter-returns-2 t c =
     let e = c .before .before .below in
     let q = noted-less (s .args .tally .now) _ (s .args .j .0) (s .args .s) (s .pre .1 .1 .1 .tells .long) (n .note .ensures) in (
       (e .ensures .0 .0, (e .ensures .0 .1 .0, omega (arith, e .ensures .0 .1 .1, q .1))),
-      λ m u st enters tells.
-          let k = left-some R (x .valid) (x .narrow) 0 _ _ _ _ _ _ _ enters (c .before .before .before .before .before .before .before .before .before .before .before .if1 .left) in
-          enters-came R (x .valid) (x .narrow) _ _ _ _ _ _ _ _ enters (k .0) (k .1) _ st _
-          (e .ensures .1 (k .0) (child R u (s .args .j .0) (s .args .s)) st (stands-child R (x .valid) (x .narrow) 0 _ _ _ _ _ _ _ enters _ (c .before .before .before .before .before .before .before .before .place .ensures) (k .0) (k .1))
+      λ stop m u st enters tells.
+          let k = left-some R (x .valid) (x .narrow) false 0 _ _ _ _ _ _ _ enters (c .before .before .before .before .before .before .before .before .before .before .before .if1 .left) in
+          enters-came R (x .valid) (x .narrow) _ _ _ _ _ _ _ _ _ enters (k .0) (k .1) _ st _
+          (e .ensures .1 stop (k .0) (child R u (s .args .j .0) (s .args .s)) st (stands-child R (x .valid) (x .narrow) false 0 _ _ _ _ _ _ _ enters _ (c .before .before .before .before .before .before .before .before .place .ensures) (k .0) (k .1))
           (ap (λ (y : ℕ). s .args .s + y) (sym (c .before .before .before .before .before .before .wide .ensures .0 ∙ c .before .before .before .before .before .before .before .run-of .ensures)))
-          (enters-noted R (x .valid) (x .narrow) _ _ _ _ _ _ _ _ enters _ st tells _ (n .note .ensures))),
+          (enters-noted R (x .valid) (x .narrow) _ _ _ _ _ _ _ _ _ enters _ st tells _ (n .note .ensures))),
     )
 
 learn-element-copy-out-before : (t : ℕ) → learn-lts.Need-element-copy-out-before (learn-calls t) (learn-at t) learn.Post
@@ -465,64 +483,67 @@ learn-choices-requires t c κs =
     let s = c .before .before .before .before .before in
     (omega arith, (s .pre .1 .0, s .pre .1 .1 .1 .1))
 
-learn-same-length : (t : ℕ) → learn-lts.Need-same-length (learn-calls t) (learn-at t) learn.Post
-learn-same-length t c = omega arith
+learn-element-copy-out-is-whole : (t : ℕ) → learn-lts.Need-element-copy-out-is-whole (learn-calls t) (learn-at t) learn.Post
+learn-element-copy-out-is-whole t c = omega (arith, c .before .before .choices .ensures .0 .1 .0)
 
-learn-returns : (t : ℕ) → learn-lts.Need-returns (learn-calls t) (learn-at t) learn.Post
-learn-returns t c =
-    let e = c .before .before .before .choices in
-    (e .ensures .0, λ m u st h q w. came-as _ _ _ _ _ _ _ (c .if1 .taken) (e .ensures .1 m u st h q w))
-
-learn-element-copy-out-if2 : (t : ℕ) → learn-lts.Need-element-copy-out-if2 (learn-calls t) (learn-at t) learn.Post
-learn-element-copy-out-if2 t c = omega (arith, c .before .before .before .choices .ensures .0 .1 .0)
+learn-is-whole-requires : (t : ℕ) → learn-lts.Need-is-whole-requires (learn-calls t) (learn-at t) learn.Post
+learn-is-whole-requires t c κs = search needs
 
 learn-element-copy-out-keep : (t : ℕ) → learn-lts.Need-element-copy-out-keep (learn-calls t) (learn-at t) learn.Post
 learn-element-copy-out-keep t c = omega (arith, c .before .before .before .before .before .before .choices .ensures .0 .1 .0)
+
+-- The count was not cut short, and the tally tells what was seen.
+learn-tells :
+    (t : ℕ) (c : learn-lts.Then1 (learn-calls t) (learn-at t) learn.Post) → let e = c .before .before .before .before .before in
+    let s = e .before .before .before .before .before .before in let R = recorderOf (s .args .r .now) in let w = s .pre .1 .1 .1 .1 in
+    Tells R (w .stop) (s .args .budget) (e .choices .last .1 .1 .1 .1 .0) (w .vertex) (order.choices R (visitBy R (w .stop) (w .left)) (w .vertex) (w .state))
+learn-tells t c =
+    let e = c .before .before .before .before .before in
+    let s = e .before .before .before .before .before .before in
+    let w = s .pre .1 .1 .1 .1 in
+    came-done _ _ _ _ _ _ _ (e .choices .ensures .1 (w .stop) (w .left) (w .vertex) (w .state) (w .holds .0) (w .holds .1) (w .tells)) (c .before .is-whole .ensures (c .if1 .taken) .0)
 
 learn-sub-keep : (t : ℕ) → learn-lts.Need-sub-keep (learn-calls t) (learn-at t) learn.Post
 learn-sub-keep t c =
     let s = c .before .before .before .before .before .before .before .before .before .before .before .before .before in
     let w = s .pre .1 .1 .1 .1 in
-    let t = came-tells _ _ _ _ _ _ (c .before .before .before .before .if1 .left) (c .before .before .before .before .before .before .before .choices .ensures .1 (w .left) (w .vertex) (w .state) (w .holds .0) (w .holds .1) (w .tells)) in
-    omega (arith, w .tells .count, t .count, choices-grow (recorderOf (s .args .r .now)) (w .left) (w .vertex) (w .state))
+    omega (arith, w .tells .count, learn-tells t (c .before .before) .count, choices-grow (recorderOf (s .args .r .now)) (w .stop) (w .left) (w .vertex) (w .state))
 
 learn-keep-requires : (t : ℕ) → learn-lts.Need-keep-requires (learn-calls t) (learn-at t) learn.Post
 learn-keep-requires t c κs = search needs
+
+learn-same-length : (t : ℕ) → learn-lts.Need-same-length (learn-calls t) (learn-at t) learn.Post
+learn-same-length t c = omega arith
+
+learn-returns : (t : ℕ) → learn-lts.Need-returns (learn-calls t) (learn-at t) learn.Post
+learn-returns t c =
+    let k = c .before .before .before .before .before in
+    let e = k .before .before .before .before .before in
+    let s = e .before .before .before .before .before .before in
+    let R = recorderOf (s .args .r .now) in
+    let w = s .pre .1 .1 .1 .1 in (
+      (
+        seen-lends R (w .stop) (s .args .budget) (s .args .extras .now) _ (s .args .v .now) (e .choices .ensures .0 .0) (s .args .set) (s .args .from) (s .args .time) (s .args .asked) (s .args .tally .now) _
+            (s .pre .1 .1 .1 .0) (s .pre .1 .1 .0) (w .left) (w .vertex) (w .holds .0) (w .holds .1) (w .state) (w .tells) (learn-tells t k) (k .before .is-whole .ensures (k .if1 .taken) .1) _ refl (omega (arith, learn-tells t k .count, learn-tells t k .within, s .fits .budget)) _
+            (c .before .before .keep .ensures),
+        e .choices .ensures .0 .1,
+      ),
+      e .choices .ensures .1,
+    )
 
 learn-same-length-2 : (t : ℕ) → learn-lts.Need-same-length-2 (learn-calls t) (learn-at t) learn.Post
 learn-same-length-2 t c = omega arith
 
 learn-returns-2 : (t : ℕ) → learn-lts.Need-returns-2 (learn-calls t) (learn-at t) learn.Post
-learn-returns-2 t c =
-    let s = c .before .before .before .before .before .before .before .before .before .before .before .before .before .before .before .before in
-    let R = recorderOf (s .args .r .now) in
-    let w = s .pre .1 .1 .1 .1 in
-    let e = c .before .before .before .before .before .before .before .before .before .before .choices in
-    let t = came-tells _ _ _ _ _ _ (c .before .before .before .before .before .before .before .if1 .left) (c .before .before .before .before .before .before .before .before .before .before .choices .ensures .1 (w .left) (w .vertex) (w .state) (w .holds .0) (w .holds .1) (w .tells)) in (
-      (
-        seen-lends R (s .args .budget) (s .args .extras .now) _ (s .args .v .now) (e .ensures .0 .0) (s .args .set) (s .args .from) (s .args .time) (s .args .asked) (s .args .tally .now) _
-            (s .pre .1 .1 .1 .0) (s .pre .1 .1 .0) (w .left) (w .vertex) (w .holds .0) (w .holds .1) (w .state) (w .tells) t (c .before .before .before .before .before .if2 .taken) _ refl (omega arith) _
-            (c .before .before .keep .ensures),
-        e .ensures .0 .1,
-      ),
-      λ m u st h q z. came-as _ _ _ _ _ _ _ (c .before .before .before .before .before .before .before .if1 .left) (e .ensures .1 m u st h q z),
-    )
-
-learn-same-length-3 : (t : ℕ) → learn-lts.Need-same-length-3 (learn-calls t) (learn-at t) learn.Post
-learn-same-length-3 t c = omega arith
-
-learn-returns-3 : (t : ℕ) → learn-lts.Need-returns-3 (learn-calls t) (learn-at t) learn.Post
-learn-returns-3 t c =
-    let e = c .before .before .before .before .before .choices in
-    (e .ensures .0, λ m u st h q w. came-as _ _ _ _ _ _ _ (c .before .before .if1 .left) (e .ensures .1 m u st h q w))
+learn-returns-2 t c = c .before .before .before .before .before .choices .ensures
 
 -- ---- tries
 
 abbrev tries-Inv-loop : tries-lts.InvT-loop
 tries-Inv-loop r extras memory₀ v tally₀ budget set p from time j cut₀ s₀ memory tally cut s =
-    (s₀ ≤ s) × (length tally ≡ 34) × (energyAt tally ≤ energyAt tally₀) × Cuts (recorderOf r) v (energyAt tally) from (j .0) cut₀ cut × (cut ≤ cut₀)
-    × ((m : ℕ) (u : Vertex) (st : Visited) → Stands (recorderOf r) v set from m u → u .time ≡ time → Tells (recorderOf r) budget tally₀ u st
-    → Going (recorderOf r) budget u (λ (x : ℕ). order.visit (recorderOf r) m (child (recorderOf r) u (j .0) x)) tally (upFrom s (suc (deadline (recorderOf r) (j .0)) - (s + run (recorderOf r) (j .0)))) (jobWalk (recorderOf r) m u (j .0) st))
+    (s₀ ≤ s) × (length tally ≡ 35) × (energyAt tally ≤ energyAt tally₀) × Cuts (recorderOf r) v (energyAt tally) from (j .0) cut₀ cut × (cut ≤ cut₀)
+    × ((stop : Bool) (m : ℕ) (u : Vertex) (st : Visited) → Stands (recorderOf r) v set from m u → u .time ≡ time → Tells (recorderOf r) stop budget tally₀ u st
+    → Going (recorderOf r) stop budget u (λ (x : ℕ). visitBy (recorderOf r) stop m (child (recorderOf r) u (j .0) x)) tally (upFrom s (suc (deadline (recorderOf r) (j .0)) - (s + run (recorderOf r) (j .0)))) (jobWalk (recorderOf r) stop m u (j .0) st))
     × (s ≤ 65536) × Lends (recorderOf r) extras memory × (length memory ≡ length memory₀)
 
 abbrev tries-μ-loop : tries-lts.MeasureT-loop
@@ -577,10 +598,10 @@ tries-loop-holds t c =
       le-refl _,
       (λ t a b. inl a),
       le-refl _,
-      (λ m u st stands time tells.
-          going-as R (s .args .budget) u (λ (x : ℕ). order.visit R m (child R u j x)) (s .args .tally .now) (starts R (u .time) j) _ _
+      (λ stop m u st stands time tells.
+          going-as R stop (s .args .budget) u (λ (x : ℕ). visitBy R stop m (child R u j x)) (s .args .tally .now) (starts R (u .time) j) _ _
           (rw (time, ← tries-from t c))
-          (going-from R (s .args .budget) u (λ (x : ℕ). order.visit R m (child R u j x)) (s .args .tally .now) (starts R (u .time) j) st tells)),
+          (going-from R stop (s .args .budget) u (λ (x : ℕ). visitBy R stop m (child R u j x)) (s .args .tally .now) (starts R (u .time) j) st tells)),
       omega (arith, c .later .ensures, c .before .wide .ensures .1, o .holds .1, o .holds .0 .shows .reached .time, s .pre .1 .0 .tabled .valid .few-ticks),
       s .pre .1 .0,
       refl,
@@ -644,20 +665,20 @@ tries-visit-requires t c κs =
     let l = k .before .before .before .before in
     let s = l .before .before .before .before .before .before in
     let o = s .pre .1 .1 .1 .1 .1 .1 in
-    let g = l .loop .inv .5 (o .left) (o .vertex) (o .state) (o .holds .0) (o .holds .1) (o .tells) in
-    (omega arith, (l .loop .inv .7, (s .pre .1 .1 .1 .1 .0, record { left = o .left; vertex = o .vertex; state = g .state; holds = tries-tries t k (o .left) (o .vertex) (o .holds .0) (o .holds .1); tells = g .tells })))
+    let g = l .loop .inv .5 (o .stop) (o .left) (o .vertex) (o .state) (o .holds .0) (o .holds .1) (o .tells) in
+    (omega arith, (l .loop .inv .7, (s .pre .1 .1 .1 .1 .0, record { stop = o .stop; left = o .left; vertex = o .vertex; state = g .state; holds = tries-tries t k (o .left) (o .vertex) (o .holds .0) (o .holds .1); tells = g .tells })))
 
 -- The walk with the start at hand in front.
 tries-first :
     (t : ℕ) (c : tries-lts.After-cut-at (tries-calls t) (tries-at t) tries.Post tries-Inv-loop tries-μ-loop) → let l = c .before .before .before .before in
     let a = l .before .before .before .before .before .before .args in let R = recorderOf (a .r .now) in
-    (m : ℕ) (u : Vertex) (st : Visited) → Stands R (a .v .now) (a .set) (a .from) m u → u .time ≡ a .time → Tells R (a .budget) (a .tally .now) u st
-    → Going R (a .budget) u (λ (x : ℕ). order.visit R m (child R u (a .j .0) x)) (l .loop .tally)
-    (l .loop .s ∷ upFrom (l .loop .s + 1) (suc (deadline R (a .j .0)) - (l .loop .s + 1 + run R (a .j .0)))) (jobWalk R m u (a .j .0) st)
-tries-first t c m u st stands time tells =
+    (stop : Bool) (m : ℕ) (u : Vertex) (st : Visited) → Stands R (a .v .now) (a .set) (a .from) m u → u .time ≡ a .time → Tells R stop (a .budget) (a .tally .now) u st
+    → Going R stop (a .budget) u (λ (x : ℕ). visitBy R stop m (child R u (a .j .0) x)) (l .loop .tally)
+    (l .loop .s ∷ upFrom (l .loop .s + 1) (suc (deadline R (a .j .0)) - (l .loop .s + 1 + run R (a .j .0)))) (jobWalk R stop m u (a .j .0) st)
+tries-first t c stop m u st stands time tells =
     let l = c .before .before .before .before in
     let a = l .before .before .before .before .before .before .args in
-    going-as (recorderOf (a .r .now)) (a .budget) u _ (l .loop .tally) _ _ _ (up-next (l .loop .s) _ _ (tries-due t (c .before .before .before))) (l .loop .inv .5 m u st stands time tells)
+    going-as (recorderOf (a .r .now)) stop (a .budget) u _ (l .loop .tally) _ _ _ (up-next (l .loop .s) _ _ (tries-due t (c .before .before .before))) (l .loop .inv .5 stop m u st stands time tells)
 
 tries-returns : (t : ℕ) → tries-lts.Need-returns (tries-calls t) (tries-at t) tries.Post tries-Inv-loop tries-μ-loop
 tries-returns t c =
@@ -667,9 +688,9 @@ tries-returns t c =
     let R = recorderOf (a .r .now) in
     let e = c .before .before .before .visit in (
       (e .ensures .0 .0, (e .ensures .0 .1 .0, omega (arith, e .ensures .0 .1 .1, l .loop .inv .2))),
-      λ m u st stands time tells.
-          let g = tries-first t k m u st stands time tells in
-          going-over R (a .budget) u (λ (x : ℕ). order.visit R m (child R u (a .j .0) x)) (l .loop .tally) _ _ _ g _ _ (e .ensures .1 m u (g .state) (tries-tries t k m u stands time) (g .tells)) (start-grows R m u (a .j .0)) (c .if1 .taken),
+      λ stop m u st stands time tells.
+          let g = tries-first t k stop m u st stands time tells in
+          going-over R stop (a .budget) u (λ (x : ℕ). visitBy R stop m (child R u (a .j .0) x)) (l .loop .tally) _ _ _ g _ _ (e .ensures .1 stop m u (g .state) (tries-tries t k m u stands time) (g .tells)) (start-steady R stop _ m u (a .j .0)) (c .if1 .taken),
     )
 
 tries-add-s : (t : ℕ) → tries-lts.Need-add-s (tries-calls t) (tries-at t) tries.Post tries-Inv-loop tries-μ-loop
@@ -703,9 +724,9 @@ tries-loop-again t c =
       omega (arith, e .ensures .0 .1 .1, l .loop .inv .2),
       cuts-less R (x .valid) (x .narrow) _ _ _ _ _ _ _ (e .ensures .0 .1 .1) (q .0),
       q .1,
-      (λ m u st stands time tells.
-          let g = tries-first t k m u st stands time tells in
-          going-next R (a .budget) u (λ (x : ℕ). order.visit R m (child R u (a .j .0) x)) (l .loop .tally) _ _ _ g _ _ (e .ensures .1 m u (g .state) (tries-tries t k m u stands time) (g .tells)) (c .if1 .left)),
+      (λ stop m u st stands time tells.
+          let g = tries-first t k stop m u st stands time tells in
+          going-next R stop (a .budget) u (λ (x : ℕ). visitBy R stop m (child R u (a .j .0) x)) (l .loop .tally) _ _ _ g _ _ (e .ensures .1 stop m u (g .state) (tries-tries t k m u stands time) (g .tells)) (c .if1 .left)),
       omega (arith, tries-early t (k .before .before .before)),
       e .ensures .0 .0,
       omega arith,
@@ -724,7 +745,7 @@ tries-drops-requires t c κs =
     let x = s .pre .1 .0 .tabled in
     let R = recorderOf (s .args .r .now) in
     let o = s .pre .1 .1 .1 .1 .1 .1 in
-    let g = l .loop .inv .5 (o .left) (o .vertex) (o .state) (o .holds .0) (o .holds .1) (o .tells) in (
+    let g = l .loop .inv .5 (o .stop) (o .left) (o .vertex) (o .state) (o .holds .0) (o .holds .1) (o .tells) in (
       omega arith,
       (
         l .loop .inv .7,
@@ -738,7 +759,7 @@ tries-drops-requires t c κs =
                 l .loop .inv .6,
                 (
                   drops-of R (x .valid) (x .narrow) _ _ _ _ _ _ _ _ _ (s .pre .1 .1 .1 .1 .1 .0) (l .before .before .before .before .first-cut .ensures) (l .loop .inv .3) (omega (arith, c .before .before .loop-test .left)),
-                  record { left = o .left; vertex = o .vertex; state = g .state; holds = (o .holds .0, tries-after t l (o .vertex) (o .holds .1)); tells = g .tells },
+                  record { stop = o .stop; left = o .left; vertex = o .vertex; state = g .state; holds = (o .holds .0, tries-after t l (o .vertex) (o .holds .1)); tells = g .tells },
                 ),
               ),
             ),
@@ -754,19 +775,19 @@ tries-returns-2 t c =
     let R = recorderOf (a .r .now) in
     let e = c .before .before .drops in (
       (e .ensures .0 .0, (e .ensures .0 .1 .0, omega (arith, e .ensures .0 .1 .1, l .loop .inv .2))),
-      λ m u st stands time tells.
-          let g = l .loop .inv .5 m u st stands time tells in
-          going-rest R (a .budget) u (λ (x : ℕ). order.visit R m (child R u (a .j .0) x)) (l .loop .tally) _ _ g _ _ (e .ensures .1 m u (g .state) stands (tries-after t l u time) (g .tells)),
+      λ stop m u st stands time tells.
+          let g = l .loop .inv .5 stop m u st stands time tells in
+          going-rest R stop (a .budget) u (λ (x : ℕ). visitBy R stop m (child R u (a .j .0) x)) (l .loop .tally) _ _ g _ _ (e .ensures .1 stop m u (g .state) stands (tries-after t l u time) (g .tells)),
     )
 
 -- ---- drops
 
 abbrev drops-Inv-loop : drops-lts.InvT-loop
 drops-Inv-loop r extras memory₀ v tally₀ budget set p from j start c d s₀ memory tally s =
-    (start ≤ s) × (length tally ≡ 34) × (energyAt tally ≤ energyAt tally₀)
-    × ((m : ℕ) (u : Vertex) (st : Visited) → Stands (recorderOf r) v set from m u → earliest (recorderOf r) (u .time) (j .0) ≤ start → Tells (recorderOf r) budget tally₀ u st
-    → Going (recorderOf r) budget u (λ (x : ℕ). order.visit (recorderOf r) m (child (recorderOf r) u (j .0) x)) tally (upFrom s (suc (deadline (recorderOf r) (j .0)) - (s + run (recorderOf r) (j .0))))
-    (through (λ (x : ℕ). order.visit (recorderOf r) m (child (recorderOf r) u (j .0) x)) (upFrom start (suc (deadline (recorderOf r) (j .0)) - (start + run (recorderOf r) (j .0)))) st))
+    (start ≤ s) × (length tally ≡ 35) × (energyAt tally ≤ energyAt tally₀)
+    × ((stop : Bool) (m : ℕ) (u : Vertex) (st : Visited) → Stands (recorderOf r) v set from m u → earliest (recorderOf r) (u .time) (j .0) ≤ start → Tells (recorderOf r) stop budget tally₀ u st
+    → Going (recorderOf r) stop budget u (λ (x : ℕ). visitBy (recorderOf r) stop m (child (recorderOf r) u (j .0) x)) tally (upFrom s (suc (deadline (recorderOf r) (j .0)) - (s + run (recorderOf r) (j .0))))
+    (through (λ (x : ℕ). visitBy (recorderOf r) stop m (child (recorderOf r) u (j .0) x)) (upFrom start (suc (deadline (recorderOf r) (j .0)) - (start + run (recorderOf r) (j .0)))) st))
     × (s ≤ 65536) × Lends (recorderOf r) extras memory × (length memory ≡ length memory₀)
 
 abbrev drops-μ-loop : drops-lts.MeasureT-loop
@@ -812,8 +833,8 @@ drops-loop-holds t c =
       le-refl _,
       s .pre .1 .1 .1 .1 .1 .1 .1 .tells .long,
       le-refl _,
-      (λ m u st stands early tells.
-          going-from R (s .args .budget) u (λ (x : ℕ). order.visit R m (child R u (s .args .j .0) x)) (s .args .tally .now) _ st tells),
+      (λ stop m u st stands early tells.
+          going-from R stop (s .args .budget) u (λ (x : ℕ). visitBy R stop m (child R u (s .args .j .0) x)) (s .args .tally .now) _ st tells),
       s .pre .1 .1 .1 .1 .1 .0,
       s .pre .1 .0,
       refl,
@@ -828,21 +849,21 @@ drops-visit-requires t c κs =
     let l = k .before in
     let s = l .before .before .before .before .before .before in
     let o = s .pre .1 .1 .1 .1 .1 .1 .1 in
-    let g = l .loop .inv .3 (o .left) (o .vertex) (o .state) (o .holds .0) (o .holds .1) (o .tells) in
-    (omega arith, (l .loop .inv .5, (s .pre .1 .1 .1 .1 .0, record { left = o .left; vertex = o .vertex; state = g .state; holds = drops-tries t k (o .left) (o .vertex) (o .holds .0) (o .holds .1); tells = g .tells })))
+    let g = l .loop .inv .3 (o .stop) (o .left) (o .vertex) (o .state) (o .holds .0) (o .holds .1) (o .tells) in
+    (omega arith, (l .loop .inv .5, (s .pre .1 .1 .1 .1 .0, record { stop = o .stop; left = o .left; vertex = o .vertex; state = g .state; holds = drops-tries t k (o .left) (o .vertex) (o .holds .0) (o .holds .1); tells = g .tells })))
 
 -- The walk with the start at hand in front.
 drops-first :
     (t : ℕ) (c : drops-lts.In-loop (drops-calls t) (drops-at t) drops.Post drops-Inv-loop drops-μ-loop) → let l = c .before in
     let a = l .before .before .before .before .before .before .args in let R = recorderOf (a .r .now) in
-    (m : ℕ) (u : Vertex) (st : Visited) → Stands R (a .v .now) (a .set) (a .from) m u → earliest R (u .time) (a .j .0) ≤ a .start → Tells R (a .budget) (a .tally .now) u st
-    → Going R (a .budget) u (λ (x : ℕ). order.visit R m (child R u (a .j .0) x)) (l .loop .tally)
+    (stop : Bool) (m : ℕ) (u : Vertex) (st : Visited) → Stands R (a .v .now) (a .set) (a .from) m u → earliest R (u .time) (a .j .0) ≤ a .start → Tells R stop (a .budget) (a .tally .now) u st
+    → Going R stop (a .budget) u (λ (x : ℕ). visitBy R stop m (child R u (a .j .0) x)) (l .loop .tally)
     (l .loop .s ∷ upFrom (l .loop .s + 1) (suc (deadline R (a .j .0)) - (l .loop .s + 1 + run R (a .j .0))))
-    (through (λ (x : ℕ). order.visit R m (child R u (a .j .0) x)) (upFrom (a .start) (suc (deadline R (a .j .0)) - (a .start + run R (a .j .0)))) st)
-drops-first t c m u st stands early tells =
+    (through (λ (x : ℕ). visitBy R stop m (child R u (a .j .0) x)) (upFrom (a .start) (suc (deadline R (a .j .0)) - (a .start + run R (a .j .0)))) st)
+drops-first t c stop m u st stands early tells =
     let l = c .before in
     let a = l .before .before .before .before .before .before .args in
-    going-as (recorderOf (a .r .now)) (a .budget) u _ (l .loop .tally) _ _ _ (up-next (l .loop .s) _ _ (drops-due t c .0)) (l .loop .inv .3 m u st stands early tells)
+    going-as (recorderOf (a .r .now)) stop (a .budget) u _ (l .loop .tally) _ _ _ (up-next (l .loop .s) _ _ (drops-due t c .0)) (l .loop .inv .3 stop m u st stands early tells)
 
 drops-returns : (t : ℕ) → drops-lts.Need-returns (drops-calls t) (drops-at t) drops.Post drops-Inv-loop drops-μ-loop
 drops-returns t c =
@@ -852,9 +873,9 @@ drops-returns t c =
     let R = recorderOf (a .r .now) in
     let e = c .before .before .before .visit in (
       (e .ensures .0 .0, (e .ensures .0 .1 .0, omega (arith, e .ensures .0 .1 .1, l .loop .inv .2))),
-      λ m u st stands early tells.
-          let g = drops-first t k m u st stands early tells in
-          going-over R (a .budget) u (λ (x : ℕ). order.visit R m (child R u (a .j .0) x)) (l .loop .tally) _ _ _ g _ _ (e .ensures .1 m u (g .state) (drops-tries t k m u stands early) (g .tells)) (start-grows R m u (a .j .0)) (c .if1 .taken),
+      λ stop m u st stands early tells.
+          let g = drops-first t k stop m u st stands early tells in
+          going-over R stop (a .budget) u (λ (x : ℕ). visitBy R stop m (child R u (a .j .0) x)) (l .loop .tally) _ _ _ g _ _ (e .ensures .1 stop m u (g .state) (drops-tries t k m u stands early) (g .tells)) (start-steady R stop _ m u (a .j .0)) (c .if1 .taken),
     )
 
 drops-add-s : (t : ℕ) → drops-lts.Need-add-s (drops-calls t) (drops-at t) drops.Post drops-Inv-loop drops-μ-loop
@@ -873,9 +894,9 @@ drops-loop-again t c =
       omega (arith, l .loop .inv .0),
       e .ensures .0 .1 .0,
       omega (arith, e .ensures .0 .1 .1, l .loop .inv .2),
-      (λ m u st stands early tells.
-          let g = drops-first t k m u st stands early tells in
-          going-next R (a .budget) u (λ (x : ℕ). order.visit R m (child R u (a .j .0) x)) (l .loop .tally) _ _ _ g _ _ (e .ensures .1 m u (g .state) (drops-tries t k m u stands early) (g .tells)) (c .if1 .left)),
+      (λ stop m u st stands early tells.
+          let g = drops-first t k stop m u st stands early tells in
+          going-next R stop (a .budget) u (λ (x : ℕ). visitBy R stop m (child R u (a .j .0) x)) (l .loop .tally) _ _ _ g _ _ (e .ensures .1 stop m u (g .state) (drops-tries t k m u stands early) (g .tells)) (c .if1 .left)),
       omega (arith, drops-due t k .1),
       e .ensures .0 .0,
       omega arith,
@@ -890,9 +911,9 @@ drops-returns-2 t c =
     let run-is = l .before .before .before .wide .ensures .0 ∙ l .before .before .before .before .run-of .ensures in
     let due-is = l .before .wide2 .ensures .0 ∙ l .before .before .deadline-of .ensures in (
       (l .loop .inv .5, (l .loop .inv .1, l .loop .inv .2)),
-      λ m u st stands early tells.
-          going-end R (a .budget) u (λ (x : ℕ). order.visit R m (child R u (a .j .0) x)) (l .loop .tally) _
-          (going-as R (a .budget) u _ (l .loop .tally) _ _ _ (up-done (l .loop .s) _ _ (omega (arith, c .loop-test .left, run-is, due-is))) (l .loop .inv .3 m u st stands early tells)),
+      λ stop m u st stands early tells.
+          going-end R stop (a .budget) u (λ (x : ℕ). visitBy R stop m (child R u (a .j .0) x)) (l .loop .tally) _
+          (going-as R stop (a .budget) u _ (l .loop .tally) _ _ _ (up-done (l .loop .s) _ _ (omega (arith, c .loop-test .left, run-is, due-is))) (l .loop .inv .3 stop m u st stands early tells)),
     )
 
 tries-same-length : (t : ℕ) → tries-lts.Need-same-length (tries-calls t) (tries-at t) tries.Post tries-Inv-loop tries-μ-loop
@@ -914,7 +935,7 @@ visit-returns : (t : ℕ) → visit-lts.Need-returns (visit-calls t) (visit-at t
 visit-returns t c =
     let s = c .before .before .before in
     let x = s .pre .1 .0 .tabled in
-    ((s .pre .1 .0, (s .pre .1 .1 .1 .tells .long, le-refl _)), λ m u st tries tells. visit-over (recorderOf (s .args .r .now)) (x .valid) (x .narrow) _ _ _ _ _ _ _ _ _ _ _ _ tries tells (c .if1 .taken) _)
+    ((s .pre .1 .0, (s .pre .1 .1 .1 .tells .long, le-refl _)), λ stop m u st tries tells. visit-over (recorderOf (s .args .r .now)) (x .valid) (x .narrow) _ _ _ _ _ _ _ _ _ _ _ _ _ tries tells (c .if1 .taken))
 
 -- The budget is not used up.
 visit-less : (t : ℕ) (c : visit-lts.Else1 (visit-calls t) (visit-at t) visit.Post) → let a = c .before .before .before .args in countAt (a .tally .now) < a .budget
@@ -932,7 +953,7 @@ visit-returns-2 t c =
     let s = b .before .before .before in
     let x = s .pre .1 .0 .tabled in
     let q = counted-less (s .args .tally .now) _ (s .pre .1 .1 .1 .tells .long) (k .count-one .ensures) in
-    ((s .pre .1 .0, (q .0, omega (arith, q .1))), λ m u st tries tells. visit-drops (recorderOf (s .args .r .now)) (x .valid) (x .narrow) _ _ _ _ _ _ _ _ _ _ _ _ tries tells (visit-less t b) _ (k .count-one .ensures) (tries .dropped (c .if2 .taken)))
+    ((s .pre .1 .0, (q .0, omega (arith, q .1))), λ stop m u st tries tells. visit-drops (recorderOf (s .args .r .now)) (x .valid) (x .narrow) _ _ _ _ _ _ _ _ _ _ _ _ _ tries tells (visit-less t b) _ (k .count-one .ensures) (tries .dropped (c .if2 .taken)))
 
 visit-element-copy-out-if3 : (t : ℕ) → visit-lts.Need-element-copy-out-if3 (visit-calls t) (visit-at t) visit.Post
 visit-element-copy-out-if3 t c =
@@ -948,8 +969,8 @@ visit-returns-3 t c =
     let x = s .pre .1 .0 .tabled in
     let q = counted-less (s .args .tally .now) _ (s .pre .1 .1 .1 .tells .long) (k .count-one .ensures) in (
       (s .pre .1 .0, (q .0, omega (arith, q .1))),
-      λ m u st tries tells.
-          visit-drops (recorderOf (s .args .r .now)) (x .valid) (x .narrow) _ _ _ _ _ _ _ _ _ _ _ _ tries tells (visit-less t b) _ (k .count-one .ensures)
+      λ stop m u st tries tells.
+          visit-drops (recorderOf (s .args .r .now)) (x .valid) (x .narrow) _ _ _ _ _ _ _ _ _ _ _ _ _ tries tells (visit-less t b) _ (k .count-one .ensures)
           (inr (omega (arith, q .1, c .if3 .taken, tries .spared (omega (arith, c .before .before .if2 .left)) .1))),
     )
 
@@ -976,11 +997,12 @@ visit-enter-requires t c κs =
         (
           omega (arith, q .1, c .before .before .if3 .left),
           record {
+            stop = o .stop;
             left = o .left;
             vertex = o .vertex;
             state = counted (o .state);
             holds = enters-of R (x .valid) (x .narrow) _ _ _ _ _ _ _ _ _ _ _ (o .holds) (s .pre .1 .1 .0) (omega (arith, c .before .before .before .before .if2 .left));
-            tells = tells-more R (x .valid) (x .narrow) _ _ _ _ _ _ _ _ _ _ _ _ (o .holds) (o .tells) (visit-less t b) _ (k .count-one .ensures);
+            tells = tells-more R (x .valid) (x .narrow) _ _ _ _ _ _ _ _ _ _ _ _ _ (o .holds) (o .tells) (visit-less t b) _ (k .count-one .ensures);
           },
         ),
       ),
@@ -1000,10 +1022,10 @@ visit-returns-4 t c =
     let q = counted-less (s .args .tally .now) _ (s .pre .1 .1 .1 .tells .long) (k .count-one .ensures) in
     let early : s .args .s < s .args .cut = omega (arith, c .before .before .before .before .before .before .before .if2 .left) in (
       (e .ensures .0 .0, (e .ensures .0 .1 .0, omega (arith, e .ensures .0 .1 .1, q .1))),
-      λ m u st tries tells.
-          visit-enters R (x .valid) (x .narrow) _ _ _ _ _ _ _ _ _ _ _ _ tries tells early (omega (arith, q .1, c .before .before .before .before .before .if3 .left)) _ _
-          (e .ensures .1 m u (counted st) (enters-of R (x .valid) (x .narrow) _ _ _ _ _ _ _ _ _ _ _ tries (s .pre .1 .1 .0) early)
-          (tells-more R (x .valid) (x .narrow) _ _ _ _ _ _ _ _ _ _ _ _ tries tells (visit-less t b) _ (k .count-one .ensures))),
+      λ stop m u st tries tells.
+          visit-enters R (x .valid) (x .narrow) _ _ _ _ _ _ _ _ _ _ _ _ _ tries tells early (omega (arith, q .1, c .before .before .before .before .before .if3 .left)) _ _
+          (e .ensures .1 stop m u (counted st) (enters-of R (x .valid) (x .narrow) _ _ _ _ _ _ _ _ _ _ _ tries (s .pre .1 .1 .0) early)
+          (tells-more R (x .valid) (x .narrow) _ _ _ _ _ _ _ _ _ _ _ _ _ tries tells (visit-less t b) _ (k .count-one .ensures))),
     )
 
 pub +below+choices+drops+enter+learn+tries+visit-spec : {M : Type 1} → statement M
@@ -1087,6 +1109,8 @@ pub +below+choices+drops+enter+learn+tries+visit-spec : {M : Type 1} → stateme
       end-of-reads.Learnt,
       offer-reads.Asked,
       offer-reads.Learnt,
+      stops-reads.Asked,
+      stops-reads.Learnt,
       place-reads.Asked,
       place-reads.Learnt,
       run-of-reads.Asked,
@@ -1102,6 +1126,7 @@ pub +below+choices+drops+enter+learn+tries+visit-spec : {M : Type 1} → stateme
     (enter-end-of-requires t)
     (enter-add-e t)
     (enter-offer-requires t)
+    (enter-stops-requires t)
     (enter-returns t)
     (enter-place-requires t)
     (enter-run-of-requires t)
@@ -1111,22 +1136,21 @@ pub +below+choices+drops+enter+learn+tries+visit-spec : {M : Type 1} → stateme
     (enter-same-length t)
     (enter-returns-2 t))
     (λ t. learn-lts.spec
-    (choices-below t, choices.Post, keep-reads.Asked, keep-reads.Learnt)
+    (choices-below t, choices.Post, is-whole-reads.Asked, is-whole-reads.Learnt, keep-reads.Asked, keep-reads.Learnt)
     (learn-at t)
     learn.Post
     (learn-element-copy-out-before t)
     (learn-element-copy-out-best t)
     (learn-choices-requires t)
-    (learn-same-length t)
-    (learn-returns t)
-    (learn-element-copy-out-if2 t)
+    (learn-element-copy-out-is-whole t)
+    (learn-is-whole-requires t)
     (learn-element-copy-out-keep t)
     (learn-sub-keep t)
     (learn-keep-requires t)
+    (learn-same-length t)
+    (learn-returns t)
     (learn-same-length-2 t)
-    (learn-returns-2 t)
-    (learn-same-length-3 t)
-    (learn-returns-3 t))
+    (learn-returns-2 t))
     (λ t. tries-lts.spec (tries-calls t)
     (tries-at t)
     tries.Post

@@ -1,22 +1,24 @@
--- What the search lends and what its calls come to. The tally is thirty-four numbers: 0 the count, 1 the energy of the best (4294967295 where there is none), 2 to 17
--- the starts of the jobs that are placed, by job number, and 18 to 33 those of the best.
+-- What the search lends and what its calls come to. The tally is thirty-five numbers: 0 the count, 1 the energy of the best (4294967295 where there is none), 2 to 17
+-- the starts of the jobs that are placed, by job number, 18 to 33 those of the best, and 34 whether the visit ends at the first complete vertex (1).
 use mathlib.Core.Path.{_≡_}
 use mathlib.Core.Bool.{Bool, true, false, cond}
 use mathlib.Core.List.{List, _++_}
 use mathlib.Core.Logic.{_⊎_}
 use mathlib.Core.Option.{Option, none, some}
-use Prim.Native.Nat.{ℕ, zero, suc, _+_, _-_, _^_, _≤_, _<_}
+use Prim.Native.Nat.{ℕ, suc, _+_, _-_, _^_, _≤_, _<_}
 use lib.Dec.{eqb}
 use lib.ListN.{getD, set, length, drop}
 use Rattle.base.specs.Lists.{In}
 use Rattle.schedule.specs.declared.Recorder.{Recorder}
 use Rattle.schedule.specs.Quantities.{jobs, run, deadline}
-use Rattle.schedule.specs.Visiting.{Vertex, Visited, Walk, startsOf, child, earliest, cutA, floor, planEnergy, better, choices, visit, visited, vertices}
+use Rattle.schedule.specs.Listing.{Feasible}
+use Rattle.schedule.specs.Visiting.{Vertex, Visited, startsOf, child, earliest, cutA, floor, planEnergy}
 use Rattle.extras.specs.inside.Tabled.{Tabled, capAt}
 use Rattle.vertex.specs.inside.Shown.{Shows}
 use Rattle.recall.specs.inside.Entries.{Right}
 use Rattle.recall.specs.inside.Counts.{Counts}
 use Rattle.visit.specs.declared.Found.{Found}
+use Rattle.visit.specs.inside.Stops.{Open, visitedBy}
 
 -- ---- the tally
 
@@ -32,24 +34,48 @@ startAt l j = getD l (2 + j) 0
 abbrev pub bestAt : List ℕ → ℕ → ℕ
 bestAt l j = getD l (18 + j) 0
 
+abbrev pub stopAt : List ℕ → ℕ
+stopAt l = getD l 34 0
+
 -- The tally holds the best.
 unfoldable pub Bests : Recorder → List ℕ → Option (List ℕ) → Type 0
 Bests R l none = energyAt l ≡ 4294967295
 Bests R l (some s) =
-    (energyAt l ≡ planEnergy R s) × (energyAt l < 4294967295) × (length s ≡ jobs R) × ((j : ℕ) → j < jobs R → bestAt l j ≡ getD s j 0)
+    (energyAt l ≡ planEnergy R s) × (energyAt l < 4294967295) × (length s ≡ jobs R) × ((j : ℕ) → j < jobs R → bestAt l j ≡ getD s j 0) × Feasible R s
 
--- The tally l tells what the visit has come to at the vertex v, within the budget.
-pub record Tells (R : Recorder) (budget : ℕ) (l : List ℕ) (v : Vertex) (st : Visited) : Type 0 where
-  pub long : length l ≡ 34
+-- The tally l holds what the visit has come to, within the budget.
+pub record Holds (R : Recorder) (budget : ℕ) (l : List ℕ) (st : Visited) : Type 0 where
+  pub count : countAt l ≡ st .count
+  pub best : Bests R l (st .best)
+  pub within : st .count ≤ budget
+
+-- The tally l tells what the visit has come to at the vertex v, within the budget; it has not ended.
+pub record Tells (R : Recorder) (stop : Bool) (budget : ℕ) (l : List ℕ) (v : Vertex) (st : Visited) : Type 0 where
+  pub long : length l ≡ 35
+  pub stops : stopAt l ≡ cond stop 1 0
   pub count : countAt l ≡ st .count
   pub best : Bests R l (st .best)
   pub path : (j : ℕ) → j < jobs R → (In j (v .unplaced) → ⊥) → startAt l j ≡ getD (startsOf R v) j 0
   pub within : st .count ≤ budget
+  pub going : Open stop st
 
--- A call answered whether the budget is used up: the tally tells st; or st has counted more than the budget.
-pub data Came (R : Recorder) (budget : ℕ) (l : List ℕ) (v : Vertex) (st : Visited) : Bool → Type 0 where
-  done : Tells R budget l v st → Came R budget l v st false
-  over : budget < st .count → Came R budget l v st true
+-- A call answered whether the visit goes no further: the tally tells st; or st has counted more than the budget, and what the visit would stop at is not found; or
+-- it is found, and the tally holds st.
+pub data Came (R : Recorder) (stop : Bool) (budget : ℕ) (l : List ℕ) (v : Vertex) (st : Visited) : Bool → Type 0 where
+  done : Tells R stop budget l v st → Came R stop budget l v st false
+  over : stopAt l ≡ cond stop 1 0 → budget < st .count → (stop ≡ true → energyAt l ≡ 4294967295) → Came R stop budget l v st true
+  ended : stopAt l ≡ cond stop 1 0 → stop ≡ true → energyAt l < 4294967295 → Holds R budget l st → Came R stop budget l v st true
+
+-- Whether it was for the budget that a visit ended, by the tally l and whether it did.
+pub data Over (l : List ℕ) : Bool → Bool → Type 0 where
+  goes : Over l false false
+  alone : (stopAt l ≡ 1 → ⊥) → Over l true true
+  told : stopAt l ≡ 1 → (x : Bool) → x ≡ eqb (energyAt l) 4294967295 → Over l true x
+
+-- The whole visit answered whether the budget is used up: the tally holds what it came to; or it counts more than the budget.
+pub data Ran (R : Recorder) (stop : Bool) (budget : ℕ) (l : List ℕ) : Bool → Type 0 where
+  whole : Holds R budget l (visitedBy R stop) → Ran R stop budget l false
+  spent : budget < visitedBy R stop .count → Ran R stop budget l true
 
 -- n vertices more are counted, if the budget has them.
 pub data Added (budget n : ℕ) (l l′ : List ℕ) : Bool → Type 0 where
@@ -103,16 +129,12 @@ pub record Enters (R : Recorder) (l : List ℕ) (left f j s m : ℕ) (v : Vertex
 
 -- There are such a vertex and what the visit has come to there.
 pub record Some (R : Recorder) (budget : ℕ) (tally : List ℕ) (P : ℕ → Vertex → Type 0) : Type 0 where
+  pub stop : Bool
   pub left : ℕ
   pub vertex : Vertex
   pub state : Visited
   pub holds : P left vertex
-  pub tells : Tells R budget tally vertex state
-
--- What the visit of a vertex that no cut drops does after it is counted.
-unfoldable pub entered : Recorder → ℕ → Vertex → Walk
-entered R zero v st = record { count = st .count; best = better R (st .best) (startsOf R v) }
-entered R (suc m) v st = choices R (visit R m) v st
+  pub tells : Tells R stop budget tally vertex state
 
 -- ---- the answer
 
@@ -122,10 +144,10 @@ refusal k c = record { number = k; energy = 0; count = c }
 abbrev pub success : ℕ → ℕ → Found
 success e c = record { number = 0; energy = e; count = c }
 
--- 15 where the list is too short, then 20, then 19; else the starts of the visit's best, with its energy. What is lent beyond stays as it was.
-pub data Finds (R : Recorder) (budget : ℕ) (lent : List ℕ) : Found → List ℕ → Type 0 where
-  short : length lent < jobs R → Finds R budget lent (refusal 15 0) lent
-  beyond : jobs R ≤ length lent → budget < vertices R → Finds R budget lent (refusal 20 budget) lent
-  nowhere : jobs R ≤ length lent → vertices R ≤ budget → visited R .best ≡ none → Finds R budget lent (refusal 19 (vertices R)) lent
-  found : {s : List ℕ} → jobs R ≤ length lent → vertices R ≤ budget → visited R .best ≡ some s
-      → Finds R budget lent (success (planEnergy R s) (vertices R)) (s ++ drop (jobs R) lent)
+-- 15 where the list is too short, then 20, then 19; else the starts of the best of a visit that comes to st, with its energy. What is lent beyond stays as it was.
+pub data Finds (R : Recorder) (st : Visited) (budget : ℕ) (lent : List ℕ) : Found → List ℕ → Type 0 where
+  short : length lent < jobs R → Finds R st budget lent (refusal 15 0) lent
+  beyond : jobs R ≤ length lent → budget < st .count → Finds R st budget lent (refusal 20 budget) lent
+  nowhere : jobs R ≤ length lent → st .count ≤ budget → st .best ≡ none → Finds R st budget lent (refusal 19 (st .count)) lent
+  found : {s : List ℕ} → jobs R ≤ length lent → st .count ≤ budget → st .best ≡ some s
+      → Finds R st budget lent (success (planEnergy R s) (st .count)) (s ++ drop (jobs R) lent)
