@@ -30,10 +30,12 @@
 #include <stddef.h>
 #include <stdint.h>
 
-/* The bytes of a result buffer, of what floe_sizes writes, and of the result buffer of floe_fault and door_fault. */
+/* The bytes of a result buffer, of what floe_sizes writes, of the result buffer of floe_fault and door_fault, and of that of the doors which tell a part or a
+ * line. */
 #define FLOE_RESULT 11
 #define FLOE_SIZES 3
 #define FLOE_PLACE 18
+#define FLOE_COUNTED 8
 
 /* What is enough for every request: the most jobs and devices, the most bytes of start times (two for each job), of rows (8 devices x 4,096 ticks), and of a
  * request file. */
@@ -122,6 +124,10 @@ uint8_t door_tables(const uint8_t *file, size_t file_len, uint8_t *out, size_t o
 uint8_t door_build(const uint8_t *catalogue, size_t catalogue_len, const uint8_t *wanted, size_t wanted_len, const uint8_t *tables, size_t tables_len,
                    uint8_t *out, size_t out_len, uint8_t *result, size_t result_len);
 
+/* For which part door_build refuses: the number 21, 22 or 23, and in eight bytes the part, of 23 the wanted part, counted from 0. 0 and eight zeros where
+ * it refuses for none. With 22 it is the second of two parts that have one number. The door is shut to a result buffer under FLOE_COUNTED bytes. */
+uint8_t door_order_fault(const uint8_t *catalogue, size_t catalogue_len, const uint8_t *wanted, size_t wanted_len, uint8_t *result, size_t result_len);
+
 /* The start times of the first of all plans, two bytes each, if the budget covers the vertices visited till then, which are the count. Those of a file, 15, 19
  * and 20. floe_first gives the same plan without a budget. */
 uint8_t door_possible(const uint8_t *file, size_t file_len, uint32_t budget, uint8_t *starts, size_t starts_len, uint8_t *result, size_t result_len);
@@ -142,12 +148,19 @@ uint8_t door_step(const uint8_t *file, size_t file_len, const uint8_t *starts, s
  * 15. */
 uint8_t door_import_devices(const uint8_t *text, size_t text_len, uint8_t *out, size_t out_len, uint8_t *result, size_t result_len);
 
+/* For which line door_import_devices refuses: its number but for 15, and in eight bytes the line, counted from 0; 0 and eight zeros where it does not. The door
+ * is shut to a result buffer under FLOE_COUNTED bytes. */
+uint8_t door_devices_fault(const uint8_t *text, size_t text_len, uint8_t *result, size_t result_len);
+
 /* The sheet of a catalogue, 2,176 bytes at most. The count of the answer is the bytes of the text, here and below. 21, 22, 15. */
 uint8_t door_export_devices(const uint8_t *catalogue, size_t catalogue_len, uint8_t *out, size_t out_len, uint8_t *result, size_t result_len);
 
 /* The job records of a sheet of jobs (release, deadline, running time, device set): 7 bytes each as in a file, 112 at most. The count is the lines. 27, 28, 29,
  * then 12, 15. */
 uint8_t door_import_jobs(const uint8_t *text, size_t text_len, uint8_t *out, size_t out_len, uint8_t *result, size_t result_len);
+
+/* The same for door_import_jobs. */
+uint8_t door_jobs_fault(const uint8_t *text, size_t text_len, uint8_t *result, size_t result_len);
 
 /* The sheet of job records, 368 bytes at most. 12, 1, 15. */
 uint8_t door_export_jobs(const uint8_t *records, size_t records_len, uint8_t *out, size_t out_len, uint8_t *result, size_t result_len);

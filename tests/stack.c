@@ -36,11 +36,14 @@ static void build(void) {
     static const uint8_t none[] = {1, 0, 5, 0, 0, 0, 0, 0, 0};
     door_build(catalogue, sizeof catalogue, catalogue, 8, none, sizeof none, out, sizeof out, result, sizeof result);
 }
+static void order_fault(void) { door_order_fault(catalogue, sizeof catalogue, catalogue, 8, out, sizeof out); }
 static void possible(void) { door_possible(file, size, BUDGET, out, sizeof starts, result, sizeof result); }
 static void mend(void) { door_mend(file, size, starts, given, out, sizeof starts, moved, sizeof moved, result, sizeof result); }
 static void import_devices(void) { door_import_devices((const uint8_t *)parts, sizeof parts - 1, out, sizeof out, result, sizeof result); }
+static void devices_fault(void) { door_devices_fault((const uint8_t *)parts, sizeof parts - 1, out, sizeof out); }
 static void export_devices(void) { door_export_devices(catalogue, sizeof catalogue, out, sizeof out, result, sizeof result); }
 static void import_jobs(void) { door_import_jobs((const uint8_t *)jobs, sizeof jobs - 1, out, sizeof out, result, sizeof result); }
+static void jobs_fault(void) { door_jobs_fault((const uint8_t *)jobs, sizeof jobs - 1, out, sizeof out); }
 static void export_jobs(void) { door_export_jobs(records, sizeof records, out, sizeof out, result, sizeof result); }
 static void export_plan(void) { door_export_plan(file, size, starts, given, out, sizeof out, result, sizeof result); }
 static void step(void) { door_step(file, size, starts, given, out, sizeof out, result, sizeof result); }
@@ -50,7 +53,7 @@ static const struct {
     const char *name;
     void (*call)(void);
 } CALLS[] = {CALL(nothing), CALL(check), CALL(sizes), CALL(fault), CALL(search), CALL(least), CALL(first), CALL(rows), CALL(verdict), CALL(margins), {"write", write_}, {"door_fault", fault_of_tables}, {"tables", tables_},
-             CALL(build), CALL(possible), CALL(mend), CALL(import_devices), CALL(export_devices), CALL(import_jobs), CALL(export_jobs), CALL(export_plan), CALL(step)};
+             CALL(build), CALL(order_fault), CALL(possible), CALL(mend), CALL(import_devices), CALL(devices_fault), CALL(export_devices), CALL(import_jobs), CALL(jobs_fault), CALL(export_jobs), CALL(export_plan), CALL(step)};
 
 static void *thread(void *call) {
     (*(void (**)(void))call)();

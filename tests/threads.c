@@ -80,6 +80,9 @@ static void without_buffers(void) {
     hold(floe_sizes(r->bytes, r->size, NULL, 0, result, room), 15, "floe_sizes without room");
     hold(floe_fault(NULL, 0, place, sizeof place), 1, "floe_fault without a file");
     hold(door_fault(NULL, 0, place, sizeof place), FLOE_SHUT, "door_fault without tables");
+    hold(door_order_fault(NULL, 0, NULL, 0, place, FLOE_COUNTED), 0, "door_order_fault without parts");
+    hold(door_devices_fault(NULL, 0, place, FLOE_COUNTED), 0, "door_devices_fault without lines");
+    hold(door_jobs_fault(NULL, 0, NULL, 0), FLOE_SHUT, "door_jobs_fault without room");
     hold(floe_search(r->bytes, r->size, 1000, NULL, 0, result, room), 15, "floe_search without start times");
     hold(floe_first(r->bytes, r->size, NULL, 0, result, room), 15, "floe_first without start times");
     hold(floe_least(r->bytes, r->size, 1000, NULL, 0, starts, sizeof starts, result, room), 0, "floe_least without a memory");

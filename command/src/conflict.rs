@@ -53,7 +53,7 @@ fn fits(horizon: usize, jobs: &[Job], set: &[usize]) -> bool {
         record.push(0);
         tables.jobs.add(record, MOST_JOBS);
     }
-    let answer = planner::write(&tables).and_then(|file| planner::first_plan(&file));
+    let answer = planner::write(&tables).and_then(|written| planner::first_plan(&written.file));
     !answer.is_err_and(|refused| refused.number == 19)
 }
 

@@ -37,10 +37,11 @@ impl Order {
         let wanted = self.wanted_numbers();
         let parts = self.catalogue.parts.concat();
         match planner::build(&parts, &wanted.concat(), &self.others.tables) {
-            Ok(file) => {
+            Ok(written) => {
+                let tables = self.tables(&wanted);
                 let mut names = self.others.names;
                 names.devices = Names::of_parts(&self.wanted).devices;
-                Ok(Request::of_file(file, names))
+                Ok(Request::written(written, tables, names))
             }
             Err(refused) => Err(self.refused(refused.number, &wanted)),
         }
@@ -55,18 +56,10 @@ impl Order {
     }
 
     fn refused(&self, number: u8, wanted: &[Vec<u8>]) -> Failure {
-        let parts = &self.catalogue.parts;
-        // The place is that of the first part, or the first wanted one, with which the number comes.
-        let comes = |parts: &[Vec<u8>], wanted: &[Vec<u8>]| {
-            let answer = planner::build(&parts.concat(), &wanted.concat(), &Tables::empty());
-            answer.is_err_and(|refused| refused.number == number)
-        };
-        let faulty = (0..parts.len()).find(|&last| comes(&parts[..=last], &[]));
-        let lacking = (0..wanted.len()).find(|&last| comes(parts, &wanted[..=last]));
-        match (number, faulty, lacking) {
-            (21 | 22, Some(part), _) => self.catalogue.refused(number, part, &self.files.catalogue),
-            (23, _, Some(part)) => self.lacking(part),
-            _ => self.of_the_file(number, wanted),
+        match planner::order_fault(&self.catalogue.parts.concat(), &wanted.concat()) {
+            Some((23, part)) => self.lacking(part),
+            Some((number, part)) => self.catalogue.refused(number, part, &self.files.catalogue),
+            None => self.of_the_file(number, wanted),
         }
     }
 
@@ -96,9 +89,9 @@ impl Order {
         }
     }
 
-    /// A refusal of the file that the parts make: its devices are the wanted parts, as far as there
+    /// The tables of the file that the parts make: its devices are the wanted parts, as far as there
     /// are records of them.
-    fn of_the_file(&self, number: u8, wanted: &[Vec<u8>]) -> Failure {
+    fn tables(&self, wanted: &[Vec<u8>]) -> Tables {
         let mut tables = self.others.tables.clone();
         for name in wanted {
             let mut parts = self.catalogue.parts.iter();
@@ -106,6 +99,12 @@ impl Order {
             let record = part.map_or(&[][..], |part| &part[NUMBER..]);
             tables.devices.add(record.to_vec(), MOST_DEVICES);
         }
+        tables
+    }
+
+    /// A refusal of that file.
+    fn of_the_file(&self, number: u8, wanted: &[Vec<u8>]) -> Failure {
+        let tables = self.tables(wanted);
         let bytes = tables.laid_out();
         let file = File::of_tables(&tables, &bytes);
         if number == 10 && self.lacks_horizon {

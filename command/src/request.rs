@@ -1,9 +1,9 @@
 //! A request as it is given: a request file, or its text form.
 
-use crate::calls::planner::{self, Refused, Sizes};
+use crate::calls::planner::{self, Refused, Sizes, Written};
 use crate::conflict;
 use crate::failure::Failure;
-use crate::jobs::{jobs, Job};
+use crate::jobs::jobs;
 use crate::names::Names;
 use crate::place::File;
 use crate::refusal;
@@ -31,11 +31,18 @@ pub fn is_text(bytes: &[u8]) -> bool {
 pub struct Request {
     pub file: Vec<u8>,
     names: Names,
+    /// The horizon and the tables, of a request that was made of them. Reading it gives the same.
+    made_of: Option<(usize, Tables)>,
 }
 
 impl Request {
-    pub fn of_file(file: Vec<u8>, names: Names) -> Request {
-        Request { file, names }
+    /// What the library has written of these tables.
+    pub fn written(written: Written, tables: Tables, names: Names) -> Request {
+        Request {
+            file: written.file,
+            names,
+            made_of: Some((written.horizon, tables)),
+        }
     }
 
     /// Reads a request; text is written to a file by the library, or refused by it.
@@ -49,7 +56,11 @@ impl Request {
             return Err(refusal::words(1, streams::emptiness(path)));
         }
         if !is_text(&bytes) {
-            return Ok(Request::of_file(bytes, Names::default()));
+            return Ok(Request {
+                file: bytes,
+                names: Names::default(),
+                made_of: None,
+            });
         }
         let text = reader::read(&bytes).map_err(|fault| not_read(path, fault, &bytes))?;
         Request::of_text(text)
@@ -62,7 +73,7 @@ impl Request {
             names,
         } = text;
         match planner::write(&tables) {
-            Ok(file) => Ok(Request { file, names }),
+            Ok(written) => Ok(Request::written(written, tables, names)),
             Err(refused) => {
                 let bytes = tables.laid_out();
                 let file = File::of_tables(&tables, &bytes);
@@ -83,19 +94,19 @@ impl Request {
 
     /// The horizon and the tables of a request that is accepted.
     pub fn tables(&self) -> Result<(usize, Tables), Failure> {
-        let horizon = planner::check(&self.file).map_err(|refused| self.refused(refused))?;
-        let tables = planner::tables(&self.file).map_err(|refused| self.refused(refused))?;
-        Ok((horizon, tables))
+        match &self.made_of {
+            Some((horizon, tables)) => Ok((*horizon, tables.clone())),
+            None => planner::tables(&self.file).map_err(|refused| self.refused(refused)),
+        }
     }
 
-    pub fn jobs(&self) -> Result<Vec<Job>, Failure> {
-        let (horizon, tables) = self.tables()?;
-        Ok(jobs(&tables, horizon))
-    }
-
-    /// What everything is called, the jobs that tasks release too.
-    pub fn names(&self) -> Result<Names, Failure> {
-        Ok(self.names.clone().of_jobs(&self.jobs()?))
+    /// What everything is called, the jobs that tasks release too. In a file nothing has a name.
+    pub fn names(&self) -> Names {
+        let names = self.names.clone();
+        match &self.made_of {
+            Some((horizon, tables)) => names.of_jobs(&jobs(tables, *horizon)),
+            None => names,
+        }
     }
 
     /// What its lines call things: jobs only where they are listed.
@@ -111,12 +122,14 @@ impl Request {
 
     /// A refusal by an operation without start times.
     pub fn not_found(&self, refused: Refused) -> Failure {
-        match (refused.number, self.tables(), self.names()) {
-            (19, Ok((horizon, tables)), Ok(names)) => {
-                let jobs = jobs(&tables, horizon);
-                refusal::of_search(refused, conflict::words(horizon, &jobs, &names))
+        match refused.number {
+            19 => {
+                let words = self.tables().ok().and_then(|(horizon, tables)| {
+                    conflict::words(horizon, &jobs(&tables, horizon), &self.names())
+                });
+                refusal::of_search(refused, words)
             }
-            (19 | 20, _, _) => refusal::of_search(refused, None),
+            20 => refusal::of_search(refused, None),
             _ => self.refused(refused),
         }
     }
@@ -131,10 +144,10 @@ impl Request {
 
     /// A refusal by an operation on these start times.
     pub fn not_judged(&self, refused: Refused, starts: &[u16]) -> Failure {
-        let (Ok((horizon, tables)), Ok(names)) = (self.tables(), self.names()) else {
+        let Ok((horizon, tables)) = self.tables() else {
             return self.refused(refused);
         };
-        let jobs = jobs(&tables, horizon);
+        let (jobs, names) = (jobs(&tables, horizon), self.names());
         match refused.number {
             14 | 16..=18 => refusal::of_starts(refused, &jobs, starts, &names),
             24 | 25 => refusal::of_steps(refused.number, &tables, &jobs, &names),

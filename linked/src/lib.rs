@@ -11,6 +11,9 @@ pub const RESULT: usize = 11;
 /// The bytes of one that takes a place.
 pub const PLACE: usize = 18;
 
+/// The bytes of one that takes a part of a catalogue or a line of a sheet.
+pub const COUNTED: usize = 8;
+
 mod c {
     extern "C" {
         pub fn floe_check(f: *const u8, f_len: usize, r: *mut u8, r_len: usize) -> u8;
@@ -109,6 +112,16 @@ mod c {
             r_len: usize,
         ) -> u8;
         pub fn door_fault(t: *const u8, t_len: usize, r: *mut u8, r_len: usize) -> u8;
+        pub fn door_order_fault(
+            c: *const u8,
+            c_len: usize,
+            w: *const u8,
+            w_len: usize,
+            r: *mut u8,
+            r_len: usize,
+        ) -> u8;
+        pub fn door_devices_fault(g: *const u8, g_len: usize, r: *mut u8, r_len: usize) -> u8;
+        pub fn door_jobs_fault(g: *const u8, g_len: usize, r: *mut u8, r_len: usize) -> u8;
         pub fn door_tables(
             f: *const u8,
             f_len: usize,
@@ -409,6 +422,41 @@ pub fn fault_in_tables(tables: &[u8], result: &mut [u8]) -> u8 {
         c::door_fault(
             tables.as_ptr(),
             tables.len(),
+            result.as_mut_ptr(),
+            result.len(),
+        )
+    }
+}
+
+pub fn order_fault(catalogue: &[u8], wanted: &[u8], result: &mut [u8]) -> u8 {
+    unsafe {
+        c::door_order_fault(
+            catalogue.as_ptr(),
+            catalogue.len(),
+            wanted.as_ptr(),
+            wanted.len(),
+            result.as_mut_ptr(),
+            result.len(),
+        )
+    }
+}
+
+pub fn devices_fault(given: &[u8], result: &mut [u8]) -> u8 {
+    unsafe {
+        c::door_devices_fault(
+            given.as_ptr(),
+            given.len(),
+            result.as_mut_ptr(),
+            result.len(),
+        )
+    }
+}
+
+pub fn jobs_fault(given: &[u8], result: &mut [u8]) -> u8 {
+    unsafe {
+        c::door_jobs_fault(
+            given.as_ptr(),
+            given.len(),
             result.as_mut_ptr(),
             result.len(),
         )

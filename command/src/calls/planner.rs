@@ -1,10 +1,12 @@
 //! The operations of the proved library, with Rust's types.
 //!
-//! Every buffer that is lent here has room for the largest answer, so that 15 does not occur.
+//! Every buffer that is lent here has room for the largest answer, so that 15 does not occur. How many
+//! numbers an operation has written is seen by what stands behind them, which is as it was lent: no file
+//! is read for it.
 
 use crate::place::{Part, Place};
 use crate::tables::Tables;
-use linked::{PLACE, RESULT};
+use linked::{COUNTED, PLACE, RESULT};
 
 /// The most jobs, devices and ticks that a request has, and more bytes than any file or table.
 const JOBS: usize = 16;
@@ -60,13 +62,6 @@ fn numbers(bytes: &[u8]) -> impl Iterator<Item = u16> + '_ {
     bytes
         .chunks_exact(2)
         .map(|pair| u16::from_be_bytes([pair[0], pair[1]]))
-}
-
-/// The horizon of a request that is accepted.
-pub fn check(file: &[u8]) -> Answered<usize> {
-    let mut result = [0; RESULT];
-    let number = linked::check(file, &mut result);
-    Ok(answer(number, &result)?.horizon)
 }
 
 /// How many devices, tasks and jobs a request has, and its horizon. The jobs are those that are planned,
@@ -141,41 +136,37 @@ pub struct Found {
 
 /// The plan of least energy.
 pub fn search(file: &[u8], budget: u32) -> Answered<Found> {
-    found(file, |starts, result| {
-        linked::search(file, budget, starts, result)
-    })
+    found(|starts, result| linked::search(file, budget, starts, result))
 }
 
 /// The plan of least energy, with a memory that is lent and a budget of vertices entered: its start
 /// times. Nothing is counted.
 pub fn least_plan(file: &[u8], budget: u32, memory: &mut [u64]) -> Answered<Vec<u16>> {
-    let found = found(file, |starts, result| {
-        linked::least(file, budget, memory, starts, result)
-    });
+    let found = found(|starts, result| linked::least(file, budget, memory, starts, result));
     found.map(|found| found.starts)
 }
 
 /// The first of all plans, whatever it costs, in some milliseconds: its start times.
 pub fn first_plan(file: &[u8]) -> Answered<Vec<u16>> {
-    let found = found(file, |starts, result| linked::first(file, starts, result));
+    let found = found(|starts, result| linked::first(file, starts, result));
     found.map(|found| found.starts)
 }
 
 /// The same by a visit that counts, if the budget covers its vertices.
 pub fn any_plan(file: &[u8], budget: u32) -> Answered<Found> {
-    found(file, |starts, result| {
-        linked::possible(file, budget, starts, result)
-    })
+    found(|starts, result| linked::possible(file, budget, starts, result))
 }
 
-fn found(file: &[u8], call: impl FnOnce(&mut [u8], &mut [u8]) -> u8) -> Answered<Found> {
-    let mut starts = [0; 2 * JOBS];
+/// No start is as large as what is lent, since a job starts within the horizon.
+fn found(call: impl FnOnce(&mut [u8], &mut [u8]) -> u8) -> Answered<Found> {
+    let mut starts = [0xFF; 2 * JOBS];
     let mut result = [0; RESULT];
     let number = call(&mut starts, &mut result);
-    let success = answer(number, &result)?;
+    let count = answer(number, &result)?.count;
+    let starts = numbers(&starts).take_while(|&start| start != u16::MAX);
     Ok(Found {
-        starts: numbers(&starts).take(sizes(file)?.jobs).collect(),
-        count: success.count,
+        starts: starts.collect(),
+        count,
     })
 }
 
@@ -249,33 +240,67 @@ pub fn mend(file: &[u8], starts: &[u16]) -> Answered<(Vec<u16>, Vec<Move>)> {
     ))
 }
 
-/// The file that tables make.
-pub fn write(tables: &Tables) -> Answered<Vec<u8>> {
-    let tables = tables.bytes();
-    let mut out = [0; BYTES];
-    let mut result = [0; RESULT];
-    let number = linked::write(&tables, &mut out, &mut result);
-    let written = answer(number, &result)?.count as usize;
-    Ok(out.iter().copied().take(written).collect())
+/// A file that the library has written, which it accepts, and the horizon of its round.
+pub struct Written {
+    pub horizon: usize,
+    pub file: Vec<u8>,
 }
 
-/// The tables of a file.
-pub fn tables(file: &[u8]) -> Answered<Tables> {
+fn written(call: impl FnOnce(&mut [u8], &mut [u8]) -> u8) -> Answered<Written> {
     let mut out = [0; BYTES];
     let mut result = [0; RESULT];
-    let number = linked::tables(file, &mut out, &mut result);
-    let length = answer(number, &result)?.count as usize;
-    Ok(Tables::of_bytes(out.get(..length).unwrap_or(&out)))
+    let number = call(&mut out, &mut result);
+    let success = answer(number, &result)?;
+    let file = out.iter().copied().take(success.count as usize);
+    Ok(Written {
+        horizon: success.horizon,
+        file: file.collect(),
+    })
+}
+
+/// The file that tables make.
+pub fn write(tables: &Tables) -> Answered<Written> {
+    let tables = tables.bytes();
+    written(|out, result| linked::write(&tables, out, result))
 }
 
 /// The file of the wanted parts, with the other sections as the tables have them.
-pub fn build(catalogue: &[u8], wanted: &[u8], tables: &Tables) -> Answered<Vec<u8>> {
+pub fn build(catalogue: &[u8], wanted: &[u8], tables: &Tables) -> Answered<Written> {
     let tables = tables.bytes();
+    written(|out, result| linked::build(catalogue, wanted, &tables, out, result))
+}
+
+/// The horizon and the tables of a file.
+pub fn tables(file: &[u8]) -> Answered<(usize, Tables)> {
     let mut out = [0; BYTES];
     let mut result = [0; RESULT];
-    let number = linked::build(catalogue, wanted, &tables, &mut out, &mut result);
-    let written = answer(number, &result)?.count as usize;
-    Ok(out.iter().copied().take(written).collect())
+    let number = linked::tables(file, &mut out, &mut result);
+    let success = answer(number, &result)?;
+    let bytes = out.get(..success.count as usize).unwrap_or(&out);
+    Ok((success.horizon, Tables::of_bytes(bytes)))
+}
+
+/// A number, and the place that is counted from 0, of what is refused.
+fn counted(call: impl FnOnce(&mut [u8]) -> u8) -> Option<(u8, usize)> {
+    let mut result = [0; COUNTED];
+    let number = call(&mut result);
+    let place = usize::try_from(u64::from_be_bytes(result));
+    (number != 0).then(|| (number, place.unwrap_or(usize::MAX)))
+}
+
+/// The part of a catalogue, or of 23 the wanted one, for which an order is refused.
+pub fn order_fault(catalogue: &[u8], wanted: &[u8]) -> Option<(u8, usize)> {
+    counted(|result| linked::order_fault(catalogue, wanted, result))
+}
+
+/// The line for which a sheet of devices is refused.
+pub fn devices_fault(sheet: &[u8]) -> Option<(u8, usize)> {
+    counted(|result| linked::devices_fault(sheet, result))
+}
+
+/// The same of a sheet of jobs.
+pub fn jobs_fault(sheet: &[u8]) -> Option<(u8, usize)> {
+    counted(|result| linked::jobs_fault(sheet, result))
 }
 
 /// Takes a sheet, an output and a result buffer.
@@ -311,16 +336,17 @@ pub fn export_plan(file: &[u8], starts: &[u16]) -> Answered<Vec<u8>> {
     Ok(out.iter().copied().take(written).collect())
 }
 
-/// What each device spends if it is stepped through the round at these start times.
+/// What each device spends if it is stepped through the round at these start times. In a round of 4,096
+/// ticks none spends as much as what is lent.
 pub fn step(file: &[u8], starts: &[u16]) -> Answered<Vec<u32>> {
     let starts = pairs(starts);
-    let mut out = [0; 4 * DEVICES];
+    let mut out = [0xFF; 4 * DEVICES];
     let mut result = [0; RESULT];
     let number = linked::step(file, &starts, &mut out, &mut result);
     answer(number, &result)?;
-    let devices = tables(file)?.devices.count;
     let spent = |four: &[u8]| u32::from_be_bytes([four[0], four[1], four[2], four[3]]);
-    Ok(out.chunks_exact(4).map(spent).take(devices).collect())
+    let spent = out.chunks_exact(4).map(spent);
+    Ok(spent.take_while(|&spent| spent != u32::MAX).collect())
 }
 
 /// Takes records, an output and a result buffer.

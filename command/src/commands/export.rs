@@ -45,18 +45,12 @@ fn catalogue(mut arguments: Arguments) -> Result<Vec<u8>, Failure> {
     sheet.map_err(|refused| refusal::plain(refused.number))
 }
 
-/// The sheet of a catalogue, or the first part with which it is refused.
+/// The sheet of a catalogue, or the part for which it is refused.
 fn parts_in(catalogue: &Catalogue, file: &str) -> Result<Vec<u8>, Failure> {
-    let parts = &catalogue.parts;
-    planner::export_devices(&parts.concat()).map_err(|refused| {
-        let comes = |last: &usize| {
-            let said = planner::export_devices(&parts[..=*last].concat());
-            said.is_err_and(|said| said.number == refused.number)
-        };
-        match (0..parts.len()).find(comes) {
-            Some(part) => catalogue.refused(refused.number, part, file),
-            None => refusal::plain(refused.number),
-        }
+    let parts = catalogue.parts.concat();
+    planner::export_devices(&parts).map_err(|refused| match planner::order_fault(&parts, &[]) {
+        Some((number, part)) => catalogue.refused(number, part, file),
+        None => refusal::plain(refused.number),
     })
 }
 
@@ -145,7 +139,7 @@ fn plan(mut arguments: Arguments) -> Result<Vec<u8>, Failure> {
             of_starts(&starts)?
         }
     };
-    let names = request.names()?;
+    let names = request.names();
     let text = energy_line(plan.energy, &names) + &job_lines(&plan.starts, &plan.margins, &names);
     match arguments.has(&CSV) {
         true => output(&arguments, &request, &plan, text),
@@ -173,7 +167,7 @@ pub fn output(
 
 fn on_output(request: &Request, plan: &Plan) -> Result<Vec<u8>, Failure> {
     let sheet = sheet(request, plan)?;
-    streams::complain(energy_line(plan.energy, &request.names()?).trim_end());
+    streams::complain(energy_line(plan.energy, &request.names()).trim_end());
     Ok(sheet)
 }
 
@@ -181,7 +175,7 @@ fn on_output(request: &Request, plan: &Plan) -> Result<Vec<u8>, Failure> {
 fn sheet(request: &Request, plan: &Plan) -> Result<Vec<u8>, Failure> {
     let sheet = planner::export_plan(&request.file, &plan.starts);
     let sheet = sheet.map_err(|refused| request.not_judged(refused, &plan.starts))?;
-    Ok(with_names(sheet, &request.names()?))
+    Ok(with_names(sheet, &request.names()))
 }
 
 fn with_names(sheet: Vec<u8>, names: &Names) -> Vec<u8> {

@@ -36,7 +36,7 @@ pub fn verdict(mut arguments: Arguments) -> Result<Vec<u8>, Failure> {
     let answer = planner::verdict(&request.file, &starts)
         .and_then(|energy| Ok((energy, planner::margins(&request.file, &starts)?)));
     let (energy, margins) = answer.map_err(|refused| request.not_judged(refused, &starts))?;
-    let names = request.names()?;
+    let names = request.names();
     let jobs = job_lines(&starts, &margins, &names);
     Ok((energy_line(energy, &names) + &jobs).into_bytes())
 }
@@ -45,7 +45,7 @@ pub fn rows(mut arguments: Arguments) -> Result<Vec<u8>, Failure> {
     let (request, starts) = given(&mut arguments)?;
     let rows = planner::rows(&request.file, &starts);
     let Rows { energy, rows } = rows.map_err(|refused| request.not_judged(refused, &starts))?;
-    let names = request.names()?;
+    let names = request.names();
     let lines = row_lines(&rows, &names, arguments.has(&RUNS));
     Ok((energy_line(energy, &names) + &lines).into_bytes())
 }
@@ -58,7 +58,7 @@ pub fn step(mut arguments: Arguments) -> Result<Vec<u8>, Failure> {
     let (spent, rows) = answer.map_err(|refused| request.not_judged(refused, &starts))?;
     let (_, tables) = request.tables()?;
     let least = energies(&tables, &rows)?;
-    let names = request.names()?;
+    let names = request.names();
     let told = |energy| names.units.energy(energy);
     let all: u64 = spent.iter().map(|&spent| u64::from(spent)).sum();
     let mut text = format!(
@@ -82,7 +82,7 @@ pub fn mend(mut arguments: Arguments) -> Result<Vec<u8>, Failure> {
     let (request, given) = given(&mut arguments)?;
     let mended = planner::mend(&request.file, &given);
     let (starts, moves) = mended.map_err(|refused| request.not_judged(refused, &given))?;
-    let names = request.names()?;
+    let names = request.names();
     let called = column(&names.jobs, starts.len());
     let mut text = format!("moved {}\n", moves.len());
     for (job, start) in starts.iter().enumerate() {

@@ -30,7 +30,7 @@ pub fn draw(mut arguments: Arguments) -> Result<Vec<u8>, Failure> {
             .map_err(|refused| request.not_judged(refused, &starts))?,
     };
     let (horizon, tables) = request.tables()?;
-    let round = Round::new(horizon, &tables, plan, request.names()?)?;
+    let round = Round::new(horizon, &tables, plan, request.names())?;
     Ok(picture(&round, width, theme).into_bytes())
 }
 

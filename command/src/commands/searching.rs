@@ -40,7 +40,7 @@ pub fn plan(mut arguments: Arguments) -> Result<Vec<u8>, Failure> {
     let way = Way::given(&arguments)?;
     let request = Source::alone(&mut arguments)?.open()?;
     let plan = best(&request, way)?;
-    let text = plan.text(&request.names()?, arguments.has(&RUNS));
+    let text = plan.text(&request.names(), arguments.has(&RUNS));
     output(&arguments, &request, &plan, text)
 }
 
@@ -110,6 +110,6 @@ pub fn possible(mut arguments: Arguments) -> Result<Vec<u8>, Failure> {
         Ok((vertices, starts, margins))
     });
     let (vertices, starts, margins) = answer.map_err(|refused| request.not_found(refused))?;
-    let jobs = job_lines(&starts, &margins, &request.names()?);
+    let jobs = job_lines(&starts, &margins, &request.names());
     Ok(format!("yes\n{vertices}{jobs}").into_bytes())
 }

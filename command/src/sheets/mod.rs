@@ -90,25 +90,40 @@ fn with_feeds(sheet: &[u8]) -> Vec<u8> {
 }
 
 type Records = Vec<Vec<u8>>;
-type Import = fn(&[u8]) -> Result<Records, Refused>;
+
+/// A kind of sheet: its columns, and what the library says of one.
+struct Kind {
+    columns: &'static [Column],
+    import: fn(&[u8]) -> Result<Records, Refused>,
+    /// The number of one that is refused, and the line, counted from 0.
+    fault: fn(&[u8]) -> Option<(u8, usize)>,
+}
+
+const OF_DEVICES: Kind = Kind {
+    columns: &DEVICES,
+    import: planner::import_devices,
+    fault: planner::devices_fault,
+};
+
+const OF_JOBS: Kind = Kind {
+    columns: &JOBS,
+    import: planner::import_jobs,
+    fault: planner::jobs_fault,
+};
 
 /// The records of a sheet, and the line of each.
-fn records(
-    path: &OsStr,
-    bytes: &[u8],
-    columns: &'static [Column],
-    import: Import,
-) -> Result<(Records, Vec<usize>), Failure> {
+fn records(path: &OsStr, bytes: &[u8], kind: &Kind) -> Result<(Records, Vec<usize>), Failure> {
     let sheet = ready(path, bytes);
-    match import(&sheet) {
+    match (kind.import)(&sheet) {
         Ok(records) => {
             let lines = (1..=records.len()).collect();
             Ok((records, lines))
         }
-        Err(Refused { number, .. }) => {
-            let line = line_of_fault(&sheet, number, import);
+        Err(refused) => {
+            let (number, line) = (kind.fault)(&sheet).unwrap_or((refused.number, 0));
+            let line = line + 1;
             let file = streams::name(path);
-            Err(match fault(number, &lines(&sheet), line, columns) {
+            Err(match fault(number, &lines(&sheet), line, kind.columns) {
                 Some(fault) => refusal::said(number, fault.place(line, &file), fault.words),
                 None => refusal::at(number, format!("line {line} of {file}")),
             })
@@ -143,27 +158,14 @@ fn fault(number: u8, lines: &[&[u8]], line: usize, columns: &'static [Column]) -
     }
 }
 
-/// The first line with which the number comes. It comes with every later one too.
-fn line_of_fault(sheet: &[u8], number: u8, import: Import) -> usize {
-    let mut ends: Vec<usize> = sheet
-        .windows(2)
-        .zip(2..)
-        .filter(|(pair, _)| *pair == b"\r\n")
-        .map(|(_, end)| end)
-        .collect();
-    ends.push(sheet.len());
-    let comes = |end: &usize| import(&sheet[..*end]).is_err_and(|said| said.number == number);
-    ends.partition_point(|end| !comes(end)) + 1
-}
-
 pub fn catalogue(path: &OsStr, sheet: &[u8]) -> Result<Catalogue, Failure> {
-    let (parts, lines) = records(path, sheet, &DEVICES, planner::import_devices)?;
+    let (parts, lines) = records(path, sheet, &OF_DEVICES)?;
     Ok(Catalogue { parts, lines })
 }
 
 /// Jobs, with a horizon that no sheet has.
 pub fn jobs(path: &OsStr, sheet: &[u8], horizon: u16) -> Result<Text, Failure> {
-    let (records, jobs) = records(path, sheet, &JOBS, planner::import_jobs)?;
+    let (records, jobs) = records(path, sheet, &OF_JOBS)?;
     let mut tables = Tables::empty();
     tables.horizon = horizon;
     for record in records {

@@ -1,5 +1,5 @@
--- What a C program gets from `floe_fault` (rule 125): the number that the file is refused with, and in the result buffer the place; and from the door to the same of
--- tables. proofs/Only: each has one outcome for every input.
+-- What a C program gets from `floe_fault` (rule 125): the number that the file is refused with, and in the result buffer the place; and from the doors to the same of
+-- tables, of orders and of sheets. proofs/Only: each has one outcome for every input.
 use mathlib.Core.List.{List, _++_}
 use Prim.Native.Nat.{ℕ, _≤_, _<_}
 use lib.ListN.{length, drop}
@@ -9,6 +9,8 @@ use Rattle.faults.specs.declared.Place.{Place}
 use Rattle.faults.specs.declared.Place.the-variants.{Nowhere, Horizon, DeviceCount, Device, TaskCount, Task, JobCount, Job, End}
 use Rattle.faults.specs.declared.PlaceFault.{PlaceFault}
 use Rattle.faults.specs.Places.{FaultOf, TablesFault}
+use Rattle.catalogue.specs.Faults.{partFault, OrderFault}
+use Rattle.sheet_import.specs.LineFaults.{lineFaultAt, DevicesFault, JobsFault}
 use Rattle.calls.specs.Bytes.{big}
 use Rattle.table_bytes.specs.TableBytes.{AreTables, tablesFrom}
 
@@ -51,3 +53,18 @@ pub data FaultDoor (tables result : List ℕ) : ℕ → List ℕ → Type 0 wher
   shut : (AreTables tables × (18 ≤ length result) → ⊥) → FaultDoor tables result 255 result
   answered : {f : PlaceFault} → AreTables tables → 18 ≤ length result → TablesFault (tablesFrom tables) f
       → FaultDoor tables result (f .number) (eighteen f ++ drop 18 result)
+
+-- ---- `door_order_fault`, `door_devices_fault`, `door_jobs_fault`: a place that is counted goes to eight bytes (rule 130); shut, they return 255 and write nothing
+
+pub data CountedDoor (result : List ℕ) (Told : (number place : ℕ) → Type 0) : ℕ → List ℕ → Type 0 where
+  closed : length result < 8 → CountedDoor result Told 255 result
+  counted : {n k : ℕ} → 8 ≤ length result → Told n k → CountedDoor result Told n (big 8 k ++ drop 8 result)
+
+abbrev pub OrderFaultDoor : (catalogue wanted result : List ℕ) → ℕ → List ℕ → Type 0
+OrderFaultDoor catalogue wanted result = CountedDoor result (λ n k. OrderFault catalogue wanted (partFault n k))
+
+abbrev pub DevicesFaultDoor : (text result : List ℕ) → ℕ → List ℕ → Type 0
+DevicesFaultDoor text result = CountedDoor result (λ n k. DevicesFault text (lineFaultAt n k))
+
+abbrev pub JobsFaultDoor : (text result : List ℕ) → ℕ → List ℕ → Type 0
+JobsFaultDoor text result = CountedDoor result (λ n k. JobsFault text (lineFaultAt n k))

@@ -1,20 +1,27 @@
-// The function by which a C program asks where a file is refused: `fault_of`, with bytes in and out as the functions of crate calls have them; and the door to
-// `fault_of_tables`. include/floebucket.h declares them; specs/FaultCall.antt says the complete outcome of each.
+// The function by which a C program asks where a file is refused: `fault_of`, with bytes in and out as the functions of crate calls have them; and the doors to
+// `fault_of_tables`, and to the places at fault of orders and sheets. include/floebucket.h declares them; specs/FaultCall.antt says the complete outcome of each.
 ghost use mathlib.Core.Path.{_≡_};
 ghost use mathlib.Core.List.{_++_};
 ghost use Prim.Native.Nat.{_≤_};
 ghost use lib.ListN.{length, drop};
-ghost use Rattle.calls_fault.specs.FaultCall.{codeOf, recordOf, eighteen, FaultCalled, FaultDoor};
+ghost use Rattle.calls_fault.specs.FaultCall.{codeOf, recordOf, eighteen, FaultCalled, FaultDoor, OrderFaultDoor, DevicesFaultDoor, JobsFaultDoor};
+ghost use Rattle.calls.specs.Bytes.{big};
 use calls::cramped;
 use calls::put;
+use catalogue::order_fault;
 use faults::Place;
 use faults::PlaceFault;
 use faults::fault_of;
 use faults::fault_of_tables;
+use sheet_import::devices_fault;
+use sheet_import::jobs_fault;
 use table_bytes::is_tables;
 use table_bytes::tables_from;
 
 pub const PLACE: usize = 18;
+
+// What a place takes that is counted: a part of a catalogue, or a line of a sheet.
+pub const COUNTED: usize = 8;
 
 fn code_of(place: Place) -> u8
     ensures { λ r. ⌜ r ≡ codeOf place ⌝ }
@@ -86,4 +93,48 @@ pub extern "C" fn door_fault(tables: &[u8], result: &mut [u8]) -> u8
         return 255;
     }
     tell_place(fault_of_tables(tables_from(tables)), result)
+}
+
+// Puts a place that is counted into the buffer, and returns its number.
+fn tell_counted(number: u8, place: usize, result: &mut [u8]) -> u8
+    requires { ⌜ 8 ≤ length (now result) ⌝ }
+    ensures { λ n. ⌜ (n ≡ number) × (now (result .exit) ≡ big 8 place ++ drop 8 (now (result .entry))) ⌝ }
+{
+    put(&mut result[..8], place as u64);
+    number
+}
+
+// The part, or the wanted number, for which an order is refused. 255: the result buffer has no room.
+#[no_mangle]
+pub extern "C" fn door_order_fault(catalogue: &[u8], wanted: &[u8], result: &mut [u8]) -> u8
+    ensures { λ n. ⌜ OrderFaultDoor (now (catalogue .entry)) (now (wanted .entry)) (now (result .entry)) n (now (result .exit)) ⌝ }
+{
+    if result.len() < COUNTED {
+        return 255;
+    }
+    let fault = order_fault(catalogue, wanted);
+    tell_counted(fault.number, fault.part, result)
+}
+
+// The line for which a sheet of devices is refused, and that of a sheet of jobs. 255: the result buffer has no room.
+#[no_mangle]
+pub extern "C" fn door_devices_fault(text: &[u8], result: &mut [u8]) -> u8
+    ensures { λ n. ⌜ DevicesFaultDoor (now (text .entry)) (now (result .entry)) n (now (result .exit)) ⌝ }
+{
+    if result.len() < COUNTED {
+        return 255;
+    }
+    let fault = devices_fault(text);
+    tell_counted(fault.number, fault.line, result)
+}
+
+#[no_mangle]
+pub extern "C" fn door_jobs_fault(text: &[u8], result: &mut [u8]) -> u8
+    ensures { λ n. ⌜ JobsFaultDoor (now (text .entry)) (now (result .entry)) n (now (result .exit)) ⌝ }
+{
+    if result.len() < COUNTED {
+        return 255;
+    }
+    let fault = jobs_fault(text);
+    tell_counted(fault.number, fault.line, result)
 }

@@ -2,6 +2,7 @@ pub mod PartNumbers
 pub mod Lookup
 pub mod Only
 pub mod Meaning
+pub mod Faults
 pub mod Scanning
 pub mod Members
 pub mod Pieces

@@ -17,7 +17,7 @@ use Rattle.catalogue.proofs.Lookup.{has-found}
 
 -- ---- 22: two places hold the same number
 
-has-at : (ns : List (List ℕ)) (n : List ℕ) → has ns n ≡ true → (j : ℕ) × (j < length ns) × (n ≡ getD ns j [])
+pub has-at : (ns : List (List ℕ)) (n : List ℕ) → has ns n ≡ true → (j : ℕ) × (j < length ns) × (n ≡ getD ns j [])
 has-at [] n h = absurd (true≢false (sym h))
 has-at (m ∷ ns) n h = go (same n m) refl h (has-at ns n)
   where
@@ -26,7 +26,7 @@ has-at (m ∷ ns) n h = go (same n m) refl h (has-at ns n)
     go true e k rest = (0, omega arith, same-true n m e)
     go false e k rest = let r = rest k in (suc (r .0), omega (arith, r .1), r .2)
 
-at-has : (ns : List (List ℕ)) (j : ℕ) → j < length ns → has ns (getD ns j []) ≡ true
+pub at-has : (ns : List (List ℕ)) (j : ℕ) → j < length ns → has ns (getD ns j []) ≡ true
 at-has [] j h = absurd (omega arith)
 at-has (m ∷ ns) zero h = rw (same-self m)
 at-has (m ∷ ns) (suc j) h = or-right (same (getD ns j []) m) (at-has ns j (omega arith))

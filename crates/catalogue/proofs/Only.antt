@@ -1,18 +1,26 @@
--- No second outcome satisfies `Built`, since none satisfies the writer's promise. What a function that works it out has to show. A part that is not wanted does
+-- No second outcome satisfies `Built`, since none satisfies the writer's promise, nor `OrderFault`. What a function that works it out has to show. A part that is not wanted does
 -- not change the outcome.
-use mathlib.Core.Path.{_≡_, refl, sym, subst, _∙_}
+use mathlib.Core.Path.{_≡_, refl, sym, ap, subst, _∙_}
 use mathlib.Core.Bool.{Bool, true, false, true≢false}
 use mathlib.Core.List.{List, _∷_, _++_, map}
-use Prim.Native.Nat.{ℕ}
+use mathlib.Core.Logic.{_⊎_, ⊎-elim}
+use Prim.Native.Nat.{ℕ, _<_}
+use native.Mathlib.Omega.{arith}
+use lib.ListN.{length}
+use borrow.Author.Tests.{ltb-true}
 use Rattle.tables.specs.declared.Kind.the-variants.{First}
 use Rattle.tables.specs.declared.DeviceTable.{DeviceTable}
 use Rattle.planner.specs.declared.Answer.{Answer}
-use Rattle.planner.specs.Promises.{Written}
+use Rattle.planner.specs.Promises.{refusal, Written}
 use Rattle.planner.proofs.Only.{only-written}
 use Rattle.base.specs.Bytes.{pieces}
 use Rattle.catalogue.specs.Parts.{Part, partsOf, numbers, unfit, repeated, has, lacking, recordOf}
 use Rattle.catalogue.specs.Building.{Others, devicesOf, tablesWith, BuiltOf, Built}
 use Rattle.catalogue.specs.Building as B
+use Rattle.catalogue.specs.declared.PartFault.{PartFault}
+use Rattle.catalogue.specs.Faults.{partFault, OrderFaultOf, OrderFault}
+use Rattle.catalogue.specs.Faults as F
+use Rattle.catalogue.proofs.Faults.{first-one, first-unfit, first-repeated, first-lacking}
 use Rattle.catalogue.proofs.Lookup.{one-look-up, looked-up, up-looked, unfit-apart, repeated-apart, lacks-apart, lacks-beside, up-apart, up-beside}
 
 clash : {b : Bool} → b ≡ true → b ≡ false → ⊥
@@ -38,6 +46,13 @@ module _ (ps : List Part) (ws : List (List ℕ)) (o : Others) (lent : List ℕ) 
   only-built-of (B.BuiltOf.built {ds} {a} {after} u r k w) (B.BuiltOf.built {a = a′} {after = after′} u′ r′ k′ w′) =
       only-written (tablesWith o ds) lent w (subst (λ (x : List (List ℕ)). Written (tablesWith o x) lent a′ after′) (sym (one-look-up ps r k k′)) w′)
 
+  -- What `order_fault` tells is what `build` refuses with; where it tells nothing all three have passed.
+  pub fault-built : {f : PartFault} → OrderFaultOf ps ws f → (f .number ≡ 0 → ⊥) → BuiltOf ps ws o lent (refusal (f .number)) lent
+  fault-built (F.OrderFaultOf.bad u k) n = B.BuiltOf.bad u
+  fault-built (F.OrderFaultOf.twice u r k) n = B.BuiltOf.twice u r
+  fault-built (F.OrderFaultOf.missing u r l k) n = B.BuiltOf.missing u r l
+  fault-built (F.OrderFaultOf.none u r l) n = absurd (n refl)
+
   -- Where 21, 22 and 23 pass, the device table d is that of the first part that has each number.
   pub passed-built : (d : DeviceTable) {a : Answer} {after : List ℕ} → unfit ps ≡ false → repeated (numbers ps) ≡ false → lacking ps ws ≡ false
       → d ≡ devicesOf (map (recordOf ps) ws) → Written (record { kind = First; horizon = o .horizon; devices = d; tasks = o .tasks; jobs = o .jobs }) lent a after
@@ -45,6 +60,55 @@ module _ (ps : List Part) (ws : List (List ℕ)) (o : Others) (lent : List ℕ) 
   passed-built d {a} {after} u r k e w =
       B.BuiltOf.built u r (looked-up ps ws k)
       (subst (λ (x : DeviceTable). Written (record { kind = First; horizon = o .horizon; devices = x; tasks = o .tasks; jobs = o .jobs }) lent a after) e w)
+
+module _ (ps : List Part) (ws : List (List ℕ)) where
+  pub fault-passed : {f : PartFault} → OrderFaultOf ps ws f → f .number ≡ 0 → (unfit ps ≡ false) × (repeated (numbers ps) ≡ false) × (lacking ps ws ≡ false)
+  fault-passed (F.OrderFaultOf.bad u k) z = absurd (omega (arith, z))
+  fault-passed (F.OrderFaultOf.twice u r k) z = absurd (omega (arith, z))
+  fault-passed (F.OrderFaultOf.missing u r l k) z = absurd (omega (arith, z))
+  fault-passed (F.OrderFaultOf.none u r l) z = (u, r, l)
+
+  -- The part at fault is one of the catalogue's, and the number that is lacking one of those that are wanted.
+  pub fault-part : {f : PartFault} → OrderFaultOf ps ws f → f .number ≡ 21 ⊎ f .number ≡ 22 → f .part < length ps
+  fault-part (F.OrderFaultOf.bad u k) e = ltb-true _ _ (sym (first-unfit ps k) ∙ u)
+  fault-part (F.OrderFaultOf.twice u r k) e = ltb-true _ _ (sym (first-repeated ps k) ∙ r)
+  fault-part (F.OrderFaultOf.missing u r l k) e = absurd (⊎-elim (λ (z : 23 ≡ 21). omega (arith, z)) (λ (z : 23 ≡ 22). omega (arith, z)) e)
+  fault-part (F.OrderFaultOf.none u r l) e = absurd (⊎-elim (λ (z : 0 ≡ 21). omega (arith, z)) (λ (z : 0 ≡ 22). omega (arith, z)) e)
+
+  pub fault-wanted : {f : PartFault} → OrderFaultOf ps ws f → f .number ≡ 23 → f .part < length ws
+  fault-wanted (F.OrderFaultOf.bad u k) z = absurd (omega (arith, z))
+  fault-wanted (F.OrderFaultOf.twice u r k) z = absurd (omega (arith, z))
+  fault-wanted (F.OrderFaultOf.missing u r l k) z = ltb-true _ _ (sym (first-lacking ps ws k) ∙ l)
+  fault-wanted (F.OrderFaultOf.none u r l) z = absurd (omega (arith, z))
+
+  -- There is one outcome.
+  pub only-order-fault-of : {f g : PartFault} → OrderFaultOf ps ws f → OrderFaultOf ps ws g → f ≡ g
+  only-order-fault-of (F.OrderFaultOf.bad u k) (F.OrderFaultOf.bad u′ k′) = ap (partFault 21) (first-one k k′)
+  only-order-fault-of (F.OrderFaultOf.bad u k) (F.OrderFaultOf.twice u′ r′ k′) = absurd (clash u u′)
+  only-order-fault-of (F.OrderFaultOf.bad u k) (F.OrderFaultOf.missing u′ r′ l′ k′) = absurd (clash u u′)
+  only-order-fault-of (F.OrderFaultOf.bad u k) (F.OrderFaultOf.none u′ r′ l′) = absurd (clash u u′)
+  only-order-fault-of (F.OrderFaultOf.twice u r k) (F.OrderFaultOf.bad u′ k′) = absurd (clash u′ u)
+  only-order-fault-of (F.OrderFaultOf.twice u r k) (F.OrderFaultOf.twice u′ r′ k′) = ap (partFault 22) (first-one k k′)
+  only-order-fault-of (F.OrderFaultOf.twice u r k) (F.OrderFaultOf.missing u′ r′ l′ k′) = absurd (clash r r′)
+  only-order-fault-of (F.OrderFaultOf.twice u r k) (F.OrderFaultOf.none u′ r′ l′) = absurd (clash r r′)
+  only-order-fault-of (F.OrderFaultOf.missing u r l k) (F.OrderFaultOf.bad u′ k′) = absurd (clash u′ u)
+  only-order-fault-of (F.OrderFaultOf.missing u r l k) (F.OrderFaultOf.twice u′ r′ k′) = absurd (clash r′ r)
+  only-order-fault-of (F.OrderFaultOf.missing u r l k) (F.OrderFaultOf.missing u′ r′ l′ k′) = ap (partFault 23) (first-one k k′)
+  only-order-fault-of (F.OrderFaultOf.missing u r l k) (F.OrderFaultOf.none u′ r′ l′) = absurd (clash l l′)
+  only-order-fault-of (F.OrderFaultOf.none u r l) (F.OrderFaultOf.bad u′ k′) = absurd (clash u′ u)
+  only-order-fault-of (F.OrderFaultOf.none u r l) (F.OrderFaultOf.twice u′ r′ k′) = absurd (clash r′ r)
+  only-order-fault-of (F.OrderFaultOf.none u r l) (F.OrderFaultOf.missing u′ r′ l′ k′) = absurd (clash l′ l)
+  only-order-fault-of (F.OrderFaultOf.none u r l) (F.OrderFaultOf.none u′ r′ l′) = refl
+
+pub only-order-fault : (catalogue wanted : List ℕ) {f g : PartFault} → OrderFault catalogue wanted f → OrderFault catalogue wanted g → f ≡ g
+only-order-fault catalogue wanted = only-order-fault-of (partsOf catalogue) (pieces 8 wanted)
+
+-- Where a number is told, `build` answers with it, whatever else it is given; where none is, 21, 22 and 23 have passed (`fault-passed`).
+pub order-refused : (catalogue wanted : List ℕ) (o : Others) (lent : List ℕ) {f : PartFault} {a : Answer} {l : List ℕ}
+    → OrderFault catalogue wanted f → (f .number ≡ 0 → ⊥) → Built catalogue wanted o lent a l → (a ≡ refusal (f .number)) × (l ≡ lent)
+order-refused catalogue wanted o lent p n b =
+    let q = fault-built (partsOf catalogue) (pieces 8 wanted) o lent p n in
+    only-built-of (partsOf catalogue) (pieces 8 wanted) o lent b q
 
 pub only-built : (catalogue wanted : List ℕ) (o : Others) (lent : List ℕ) {a a′ : Answer} {l l′ : List ℕ}
     → Built catalogue wanted o lent a l → Built catalogue wanted o lent a′ l′ → (a ≡ a′) × (l ≡ l′)

@@ -1,6 +1,6 @@
 -- The pieces of lent bytes by place, as a slice has them; and 21, 22 and 23 of whole pieces, by what is at each place.
 use mathlib.Core.Path.{_≡_, refl, sym, ap, subst, _∙_}
-use mathlib.Core.Bool.{true, false, true≢false}
+use mathlib.Core.Bool.{true, false, not, true≢false}
 use mathlib.Core.List.{List, [], _∷_, map, map-append}
 use mathlib.Core.Logic.{⊎-elim}
 use Prim.Native.Nat.{ℕ, zero, suc, _+_, _-_, _*_, _/_, _%_, _<_, _≤_, min}
@@ -8,22 +8,32 @@ use native.Mathlib.Nat.{eq-or-lt-of-le}
 use native.Mathlib.Decide.{decLt}
 use native.Mathlib.Omega.{arith}
 use lib.ListN.{length, take, drop, getD, length-take, length-drop, length-map, List·getD-map}
-use lib.Seq.{take-take, take-all, getD-take, getD-drop}
-use borrow.Author.Tests.{lt-ltb, le-ltb, eq-eqb, ne-eqb}
+use lib.Seq.{take-take, take-all, getD-take, getD-drop, length-take-le}
+use lib.Dec.{leb, ltb}
+use borrow.Author.Tests.{lt-ltb, le-ltb, lt-leb, eq-eqb, ne-eqb, not-true, not-false}
 use Rattle.base.proofs.Pieces.{piece-at}
 use Rattle.base.specs.Bytes.{byteAt, pairAt, same, pieces}
 use Rattle.base.specs.Lists.{upTo, padded}
 use Rattle.base.proofs.Arrays.{length-upTo, getD-upTo, upTo-take, upTo-same}
 use Rattle.base.proofs.Cases.{test-cases, or-right}
 use Rattle.base.proofs.Comparing.{same-lengths}
-use Rattle.base.proofs.Members.{all-holds, all-fails, one-holds, one-fails}
+use Rattle.base.proofs.Members.{all-fails, one-holds, one-fails}
 use Rattle.tables.specs.declared.DeviceRecord.{DeviceRecord}
 use Rattle.tables.specs.Records.{firstAt, blankDevice}
-use Rattle.catalogue.specs.Parts.{has, wellFormed, malformed, Part, partOf, partsOf, numbers, whole, unfit, lacking, recordOf}
+use Rattle.catalogue.specs.Parts.{has, wellFormed, Part, partOf, partsOf, numbers, whole, unfit, lacking, recordOf}
 use Rattle.catalogue.specs.inside.Places.{numberAt, wantedAt, Sought}
 use Rattle.catalogue.specs.Building.{devicesOf}
-use Rattle.catalogue.proofs.Members.{noPart, record-at}
+use Rattle.catalogue.specs.Faults.{noPart, unfitAt, repeatedAt, lackingAt}
+use Rattle.catalogue.proofs.Members.{record-at}
 use Rattle.catalogue.proofs.Meaning.{whole-catalogue}
+
+-- Two tests that hold together.
+begins : (a b k n : ℕ) → (a < b → k < n) → (b ≤ a → n ≤ k) → ltb a b ≡ ltb k n
+begins a b k n some none =
+    elim (decLt a b) [
+      | yes l ↦ lt-ltb a b l ∙ sym (lt-ltb k n (some l))
+      | no l ↦ le-ltb a b (omega arith) ∙ sym (le-ltb k n (none (omega arith)))
+    ]
 
 -- ---- parts
 
@@ -44,6 +54,10 @@ module _ (s : List ℕ) where
       ∙ ap (λ (p : Part). p .number) (part-at i h)
       ∙ take-take 8 15 (drop (15 * i) s) (omega arith)
 
+  -- A part begins before the end just where it is one.
+  pub part-begins : (k : ℕ) → ltb (15 * k) (length s) ≡ ltb k (length (partsOf s))
+  part-begins k = begins (15 * k) (length s) k (length (partsOf s)) (λ h. omega (arith, parts-count)) (λ h. omega (arith, parts-count))
+
   -- Whether part i is whole.
   record-length : (i : ℕ) → length (drop 8 (take 15 (drop (15 * i) s))) ≡ min 15 (length s - 15 * i) - 8
   record-length i = rw (length-drop, length-take, length-drop)
@@ -56,37 +70,22 @@ module _ (s : List ℕ) where
 
 -- ---- 21
 
--- Over 64 parts.
-pub unfit-many : (s : List ℕ) → 960 < length s → unfit (partsOf s) ≡ true
-unfit-many s h =
-    let n = numbers-count s in
-    rw (lt-ltb 64 (length (numbers (partsOf s))) (omega arith))
+module _ (s : List ℕ) (k : ℕ) where
+  pub fit-at : k < length s / 15 → k < 64 → wellFormed (numberAt s k) ≡ true → unfitAt (partsOf s) k ≡ false
+  fit-at h l e =
+      let less : k < (length s + 14) / 15 = omega arith in
+      rw (lt-leb 64 k l, number-at s k less, e, whole-at s k less (omega arith))
 
--- A last part under 15 bytes.
-pub unfit-cut : (s : List ℕ) → (length s % 15 ≡ 0 → ⊥) → unfit (partsOf s) ≡ true
-unfit-cut s h =
-    let i = length s / 15 in
-    let n = parts-count s in
-    let last : i < (length s + 14) / 15 = omega arith in
-    or-right (malformed (numbers (partsOf s))) (rw (all-fails whole noPart (partsOf s) i (omega arith) (cut-at s i last (omega arith))))
+  pub badly-at : k < length s / 15 → wellFormed (numberAt s k) ≡ false → unfitAt (partsOf s) k ≡ true
+  badly-at h e =
+      let less : k < (length s + 14) / 15 = omega arith in
+      or-right (leb 64 k) (rw (number-at s k less, e))
 
-module _ (s : List ℕ) (few : length s ≤ 960) (even : length s % 15 ≡ 0) where
-  count : (length s + 14) / 15 ≡ length s / 15
-  count = omega arith
-
-  pub unfit-badly : (k : ℕ) → k < length s / 15 → wellFormed (numberAt s k) ≡ false → unfit (partsOf s) ≡ true
-  unfit-badly k h e =
-      let n = numbers-count s in
-      let bad = all-fails wellFormed [] (numbers (partsOf s)) k (omega (arith, count)) (rw (number-at s k (omega (arith, count))) e) in
-      rw (le-ltb 64 (length (numbers (partsOf s))) (omega arith), bad)
-
-  pub fit : ((k : ℕ) → k < length s / 15 → wellFormed (numberAt s k) ≡ true) → unfit (partsOf s) ≡ false
-  fit h =
-      let n = numbers-count s in
-      let m = parts-count s in
-      let formed = all-holds wellFormed [] (numbers (partsOf s)) (λ k l. rw (number-at s k (omega arith)) (h k (omega (arith, count)))) in
-      let whole-all = all-holds whole noPart (partsOf s) (λ k l. whole-at s k (omega arith) (omega (arith, count))) in
-      rw (le-ltb 64 (length (numbers (partsOf s))) (omega arith), formed, whole-all)
+  -- A last part under 15 bytes.
+  pub short-at : k ≡ length s / 15 → k < length (partsOf s) → unfitAt (partsOf s) k ≡ true
+  short-at e h =
+      let n = parts-count s in
+      or-right (leb 64 k) (or-right (not (wellFormed (getD (numbers (partsOf s)) k []))) (rw (cut-at s k (omega arith) (omega arith))))
 
 -- ---- looking for a number, part by part
 
@@ -107,6 +106,9 @@ module _ (s : List ℕ) (ok : unfit (partsOf s) ≡ false) where
 
   pub whole-numbers : length (numbers (partsOf s)) ≡ length s / 15
   whole-numbers = numbers-count s ∙ evenly
+
+  pub whole-parts : length (partsOf s) ≡ length s / 15
+  whole-parts = parts-count s ∙ evenly
 
   pub number-of : (i : ℕ) → i < length s / 15 → getD (numbers (partsOf s)) i [] ≡ numberAt s i
   number-of i h = number-at s i (omega (arith, evenly))
@@ -131,6 +133,22 @@ module _ (s : List ℕ) (ok : unfit (partsOf s) ≡ false) where
       rw (getD-drop from (numbers (partsOf s)) i [], number-at s (from + i) (omega arith))
       (q .others (from + i) (omega arith) (omega (arith, evenly))))
 
+  -- A part before part k has its number, or none has.
+  pub sought-before : (k j : ℕ) → k < length s / 15 → Sought s 0 (numberAt s k) j → j < k → repeatedAt (partsOf s) k ≡ true
+  sought-before k j h q l =
+      let ns = numbers (partsOf s) in
+      rw (number-of k h)
+      (one-holds (same (numberAt s k)) [] (take k ns) j (omega (arith, length-take-le k ns (omega (arith, whole-numbers))))
+      (rw (getD-take k ns j [] l, number-of j (omega arith)) (q .here (omega arith))))
+
+  pub sought-new : (k j : ℕ) → k < length s / 15 → Sought s 0 (numberAt s k) j → k ≤ j → repeatedAt (partsOf s) k ≡ false
+  sought-new k j h q l =
+      let ns = numbers (partsOf s) in
+      rw (number-of k h)
+      (one-fails (same (numberAt s k)) [] (take k ns)
+      (λ i m. let less : i < k = omega (arith, m, length-take-le k ns (omega (arith, whole-numbers))) in
+      rw (getD-take k ns i [] less, number-of i (omega arith)) (q .others i (omega arith) (omega arith))))
+
   -- A number of other than 8 bytes is that of no part.
   pub odd-none : (n : List ℕ) → (length n ≡ 8 → ⊥) → has (numbers (partsOf s)) n ≡ false
   odd-none n h =
@@ -146,32 +164,25 @@ module _ (w : List ℕ) where
   unfolding pieces
   wanted-count = length-upTo (λ k. take 8 (drop (8 * k) w)) ((length w + 7) / 8)
 
+  pub wanted-begins : (k : ℕ) → ltb (8 * k) (length w) ≡ ltb k (length (pieces 8 w))
+  wanted-begins k = begins (8 * k) (length w) k (length (pieces 8 w)) (λ h. omega (arith, wanted-count)) (λ h. omega (arith, wanted-count))
+
   pub wanted-at : (i : ℕ) → i < (length w + 7) / 8 → getD (pieces 8 w) i [] ≡ wantedAt w i
   wanted-at i h = piece-at 8 w i h
 
 module _ (s w : List ℕ) (ok : unfit (partsOf s) ≡ false) where
-  -- A last piece under 8 bytes.
-  pub lacking-cut : (length w % 8 ≡ 0 → ⊥) → lacking (partsOf s) (pieces 8 w) ≡ true
-  lacking-cut h =
-      let k = length w / 8 in
+  -- A wanted number that a part has, or none; and a last piece under 8 bytes.
+  pub had-at : (k j : ℕ) → k < length w / 8 → Sought s 0 (wantedAt w k) j → j < length s / 15 → lackingAt (partsOf s) (pieces 8 w) k ≡ false
+  had-at k j h q l = rw (wanted-at w k (omega arith), sought-has s ok 0 (wantedAt w k) j q l)
+
+  pub lacking-at : (k j : ℕ) → k < length w / 8 → Sought s 0 (wantedAt w k) j → length s / 15 ≤ j → lackingAt (partsOf s) (pieces 8 w) k ≡ true
+  lacking-at k j h q l = rw (wanted-at w k (omega arith), sought-none s ok 0 (wantedAt w k) j q l)
+
+  pub lacking-short : (k : ℕ) → k ≡ length w / 8 → k < length (pieces 8 w) → lackingAt (partsOf s) (pieces 8 w) k ≡ true
+  lacking-short k e h =
       let c = wanted-count w in
-      let last : k < (length w + 7) / 8 = omega arith in
-      let short : length (wantedAt w k) ≡ 8 → ⊥ = λ e. omega (arith, piece-length, e) in
-      rw (all-fails (has (numbers (partsOf s))) [] (pieces 8 w) k (omega arith) (rw (wanted-at w k last) (odd-none s ok (wantedAt w k) short)))
-    where
-      piece-length : length (wantedAt w (length w / 8)) ≡ min 8 (length w - 8 * (length w / 8))
-      piece-length = rw (length-take, length-drop)
-
-  module _ (even : length w % 8 ≡ 0) where
-    pub lacking-one : (k : ℕ) → k < length w / 8 → has (numbers (partsOf s)) (wantedAt w k) ≡ false → lacking (partsOf s) (pieces 8 w) ≡ true
-    lacking-one k h e =
-        let c = wanted-count w in
-        rw (all-fails (has (numbers (partsOf s))) [] (pieces 8 w) k (omega arith) (rw (wanted-at w k (omega arith)) e))
-
-    pub lacking-none : ((k : ℕ) → k < length w / 8 → has (numbers (partsOf s)) (wantedAt w k) ≡ true) → lacking (partsOf s) (pieces 8 w) ≡ false
-    lacking-none h =
-        let c = wanted-count w in
-        rw (all-holds (has (numbers (partsOf s))) [] (pieces 8 w) (λ k l. rw (wanted-at w k (omega arith)) (h k (omega arith))))
+      let piece-length : length (wantedAt w k) ≡ min 8 (length w - 8 * k) = rw (length-take, length-drop) in
+      rw (wanted-at w k (omega arith), odd-none s ok (wantedAt w k) (λ x. omega (arith, piece-length, x)))
 
 -- ---- the record of a part
 
@@ -242,17 +253,28 @@ abbrev pub recordFor : (s w : List ℕ) → ℕ → DeviceRecord
 recordFor s w k = firstAt (recordOf (partsOf s) (wantedAt w k)) 0
 
 module _ (s w : List ℕ) (ok : unfit (partsOf s) ≡ false) (there : lacking (partsOf s) (pieces 8 w) ≡ false) where
-  pub wanted-even : length w % 8 ≡ 0
+  -- Where 23 passes each wanted number is that of a part.
+  there-at : (k : ℕ) → k < length (pieces 8 w) → lackingAt (partsOf s) (pieces 8 w) k ≡ false
+  there-at k h =
+      test-cases (λ b. b ≡ false) (lackingAt (partsOf s) (pieces 8 w) k)
+      (λ e. let lacks : lacking (partsOf s) (pieces 8 w) ≡ true = rw (all-fails (has (numbers (partsOf s))) [] (pieces 8 w) k h (not-true _ e)) in
+      absurd (true≢false (sym lacks ∙ there)))
+      (λ e. refl)
+
+  wanted-even : length w % 8 ≡ 0
   wanted-even =
+      let c = wanted-count w in
       elim (decLt 0 (length w % 8)) [
-        | yes l ↦ absurd (true≢false (sym (lacking-cut s w ok (λ e. omega arith)) ∙ there))
+        | yes l ↦ let last : length w / 8 < length (pieces 8 w) = omega arith in
+            absurd (true≢false (sym (lacking-short s w ok (length w / 8) refl last) ∙ there-at (length w / 8) last))
         | no l ↦ omega arith
       ]
 
   pub wanted-has : (k : ℕ) → k < length w / 8 → has (numbers (partsOf s)) (wantedAt w k) ≡ true
   wanted-has k h =
-      test-cases (λ b. b ≡ true) (has (numbers (partsOf s)) (wantedAt w k)) (λ e. refl)
-      (λ e. absurd (true≢false (sym (lacking-one s w ok wanted-even k h e) ∙ there)))
+      let c = wanted-count w in
+      let t = there-at k (omega arith) in
+      not-false _ (rw (wanted-at w k (omega arith)) at t)
 
   pub wanted-devices : devicesOf (map (recordOf (partsOf s)) (pieces 8 w)) ≡ record { count = length w / 8; list = padded 8 blankDevice (upTo (recordFor s w) (min 8 (length w / 8))) }
   unfolding pieces

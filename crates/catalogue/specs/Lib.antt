@@ -1,3 +1,4 @@
 pub mod Parts
 pub mod Building
+pub mod Faults
 pub mod inside

@@ -1,8 +1,11 @@
 // The catalogue by part number, above the planner: a request is built from part numbers alone, the other sections being given. What the planner is seen by is
-// what it states of its writer, so that no rule of the file stands here. `build` asks nothing of its caller; specs/Building.antt says its complete outcome.
+// what it states of its writer, so that no rule of the file stands here. No operation asks anything of its caller; specs/Building.antt and
+// specs/Faults.antt say the complete outcome of each.
 ghost use Rattle.catalogue.specs.Building.{others, Built};
+ghost use Rattle.catalogue.specs.Faults.{OrderFault};
 use crate::look_up::devices_of;
-use crate::look_up::is_lacking;
+use crate::look_up::lacking_at;
+use crate::look_up::unfit_at;
 use planner::Answer;
 use planner::refusal;
 use planner::write;
@@ -16,8 +19,43 @@ mod numbers; // numbers.rt: one part number
 
 pub use crate::look_up::is_repeated;
 pub use crate::look_up::is_unfit;
+pub use crate::look_up::repeated_at;
 pub use crate::numbers::is_formed;
 pub use crate::numbers::signs_of;
+
+// The number of what refuses an order, 0 for none, and the place of the part, or of 23 that of the wanted number.
+pub struct PartFault {
+    pub number: u8,
+    pub part: usize,
+}
+
+// The first part, or the first wanted number, at fault.
+pub fn order_fault(catalogue: &[u8], wanted: &[u8]) -> PartFault
+    ensures { λ f. ⌜ OrderFault (now (catalogue .entry)) (now (wanted .entry)) f ⌝ }
+{
+    let unfit = unfit_at(catalogue);
+    if 15 * unfit < catalogue.len() {
+        return PartFault {
+            number: 21,
+            part: unfit,
+        };
+    }
+    let repeated = repeated_at(catalogue);
+    if 15 * repeated < catalogue.len() {
+        return PartFault {
+            number: 22,
+            part: repeated,
+        };
+    }
+    let lacking = lacking_at(catalogue, wanted);
+    if 8 * lacking < wanted.len() {
+        return PartFault {
+            number: 23,
+            part: lacking,
+        };
+    }
+    PartFault { number: 0, part: 0 }
+}
 
 // Writes the request file of the wanted parts. The catalogue has 15 bytes a part, 8 of part number and 7 of device record; the wanted parts are 8 bytes each.
 pub fn build(
@@ -30,14 +68,9 @@ pub fn build(
 ) -> Answer
     ensures { λ a. ⌜ Built (now (catalogue .entry)) (now (wanted .entry)) (others horizon tasks jobs) (now (out .entry)) a (now (out .exit)) ⌝ }
 {
-    if is_unfit(catalogue) {
-        return refusal(21);
-    }
-    if is_repeated(catalogue) {
-        return refusal(22);
-    }
-    if is_lacking(catalogue, wanted) {
-        return refusal(23);
+    let fault = order_fault(catalogue, wanted);
+    if fault.number != 0 {
+        return refusal(fault.number);
     }
     let devices = devices_of(catalogue, wanted);
     write(

@@ -9,6 +9,7 @@ ghost use Rattle.base.specs.Bytes.{pieces};
 ghost use Rattle.catalogue.specs.Parts.{partsOf, numbers, has, unfit, repeated, lacking, recordOf};
 ghost use Rattle.catalogue.specs.inside.Places.{Sought};
 ghost use Rattle.catalogue.specs.Building.{devicesOf};
+ghost use Rattle.catalogue.specs.Faults.{First, unfitAt, repeatedAt, lackingAt};
 use crate::numbers::is_formed;
 use crate::numbers::is_same;
 use tables::DeviceRecord;
@@ -33,68 +34,74 @@ fn find(catalogue: &[u8], from: usize, number: &[u8]) -> usize
     count
 }
 
-// 21: a number with a bad character or bad padding, a last part that is not whole, or over 64 parts.
+// 21: the first part with a number that has a bad character or bad padding, that is cut short, or that has 64 before it; the number of parts where there is none.
+pub(crate) fn unfit_at(catalogue: &[u8]) -> usize
+    ensures { λ k. ⌜ First (length (partsOf (now (catalogue .entry)))) (unfitAt (partsOf (now (catalogue .entry)))) k ⌝ }
+{
+    let count = catalogue.len() / 15;
+    let mut k = 0;
+    while k < count {
+        if 64 <= k {
+            return k;
+        }
+        let at = 15 * k;
+        let end = at + 8;
+        if !is_formed(&catalogue[at..end]) {
+            return k;
+        }
+        k += 1;
+    }
+    count
+}
+
 pub fn is_unfit(catalogue: &[u8]) -> bool
     ensures { λ r. ⌜ r ≡ unfit (partsOf (now (catalogue .entry))) ⌝ }
 {
-    let n = catalogue.len();
-    if 960 < n {
-        return true;
-    }
-    if n % 15 != 0 {
-        return true;
-    }
-    let count = n / 15;
+    15 * unfit_at(catalogue) < catalogue.len()
+}
+
+// 22: the first part that has the number of one before it; the number of parts where there is none.
+pub fn repeated_at(catalogue: &[u8]) -> usize
+    requires { ⌜ unfit (partsOf (now catalogue)) ≡ false ⌝ }
+    ensures { λ k. ⌜ First (length (partsOf (now (catalogue .entry)))) (repeatedAt (partsOf (now (catalogue .entry)))) k ⌝ }
+{
+    let count = catalogue.len() / 15;
     let mut k = 0;
     while k < count {
         let at = 15 * k;
         let end = at + 8;
-        if !is_formed(&catalogue[at..end]) {
-            return true;
+        if find(catalogue, 0, &catalogue[at..end]) < k {
+            return k;
         }
         k += 1;
     }
-    false
+    count
 }
 
-// 22: two parts have the same number.
 pub fn is_repeated(catalogue: &[u8]) -> bool
     requires { ⌜ unfit (partsOf (now catalogue)) ≡ false ⌝ }
     ensures { λ r. ⌜ r ≡ repeated (numbers (partsOf (now (catalogue .entry)))) ⌝ }
 {
-    let count = catalogue.len() / 15;
-    let mut k = 0;
-    while k < count {
-        let at = 15 * k;
-        let end = at + 8;
-        if find(catalogue, k + 1, &catalogue[at..end]) < count {
-            return true;
-        }
-        k += 1;
-    }
-    false
+    15 * repeated_at(catalogue) < catalogue.len()
 }
 
-// 23: a wanted number that no part has. A last piece under 8 bytes is none.
-pub(crate) fn is_lacking(catalogue: &[u8], wanted: &[u8]) -> bool
+// 23: the first wanted number that no part has, and a last piece under 8 bytes is none; how many are wanted where there is none.
+pub(crate) fn lacking_at(catalogue: &[u8], wanted: &[u8]) -> usize
     requires { ⌜ unfit (partsOf (now catalogue)) ≡ false ⌝ }
-    ensures { λ r. ⌜ r ≡ lacking (partsOf (now (catalogue .entry))) (pieces 8 (now (wanted .entry))) ⌝ }
+    ensures { λ k. ⌜ First (length (pieces 8 (now (wanted .entry)))) (lackingAt (partsOf (now (catalogue .entry))) (pieces 8 (now (wanted .entry)))) k ⌝ }
 {
-    let count = catalogue.len() / 15;
-    let n = wanted.len();
-    if n % 8 != 0 {
-        return true;
-    }
+    let parts = catalogue.len() / 15;
+    let count = wanted.len() / 8;
     let mut k = 0;
-    while k < n / 8 {
+    while k < count {
         let at = 8 * k;
         let end = at + 8;
-        if find(catalogue, 0, &wanted[at..end]) == count {
-            return true;
+        if find(catalogue, 0, &wanted[at..end]) == parts {
+            return k;
         }
         k += 1;
     }
-    false
+    count
 }
 
 // The record of the part that has this number.

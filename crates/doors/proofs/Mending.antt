@@ -16,7 +16,8 @@ use Rattle.mend.proofs.Moves.{moves-few}
 use Rattle.calls.specs.Bytes.{spread}
 use Rattle.calls.specs.Calls.{blank}
 use Rattle.doorway.specs.Doors.{kept, given, twos}
-use Rattle.doorway.proofs.Opening.{Handed, spelled-all}
+use Rattle.doorway.specs.inside.Handing.{Handed}
+use Rattle.doorway.proofs.Opening.{spelled-all}
 use Rattle.doors.specs.Promises.{MendSpelled}
 
 -- Three numbers for each move.

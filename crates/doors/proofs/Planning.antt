@@ -10,7 +10,8 @@ use Rattle.planner.specs.Promises.{Judged}
 use Rattle.planner.specs.Promises as P
 use Rattle.sheet.specs.Promises.{ExportedPlan}
 use Rattle.sheet.specs.Promises as S
-use Rattle.doorway.proofs.Opening.{Handed, whole, many, judged-all}
+use Rattle.doorway.specs.inside.Handing.{Handed, whole, many}
+use Rattle.doorway.proofs.Opening.{judged-all}
 
 many-refused : (file s : List ℕ) → 16 < length s → {a : Answer} → Judged file s a → a .number ≡ 0 → ⊥
 many-refused file s h (P.OfFile.refused {n = n} r) z = omega (arith, z, refused-number file n r)

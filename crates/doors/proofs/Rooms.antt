@@ -19,7 +19,8 @@ use Rattle.possible.specs.Promises as Q
 use Rattle.calls.specs.Bytes.{spread}
 use Rattle.calls.specs.Calls.{blank}
 use Rattle.doorway.specs.Doors.{kept, given, twos, fours}
-use Rattle.doorway.proofs.Opening.{Handed, spelled-all, many-margins}
+use Rattle.doorway.specs.inside.Handing.{Handed}
+use Rattle.doorway.proofs.Opening.{spelled-all, many-margins}
 use Rattle.doorway.proofs.Fours.{fours-same}
 use Rattle.doors.specs.Promises.{complement, emptyMargins, MarginsSpelled, PossibleSpelled}
 

@@ -17,7 +17,8 @@ use Rattle.planner.proofs.Refusing.{unless-met, faulty-met, unless-kept, faulty
 use Rattle.stepper.specs.Promises.{Unfit, Brief, StepsOf}
 use Rattle.stepper.proofs.Fitting.{past}
 use Rattle.doorway.specs.Doors.{kept, given, fours}
-use Rattle.doorway.proofs.Opening.{Handed, spelled-all}
+use Rattle.doorway.specs.inside.Handing.{Handed}
+use Rattle.doorway.proofs.Opening.{spelled-all}
 use Rattle.doorway.proofs.Fours.{fours-same}
 use Rattle.doors.specs.Promises.{emptyEnergies, StepsSpelled}
 

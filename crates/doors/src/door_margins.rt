@@ -6,11 +6,10 @@ ghost use lib.ListN.{length, getD};
 ghost use Rattle.planner.specs.Promises.{OfFile};
 ghost use Rattle.doorway.specs.Doors.{fours};
 ghost use Rattle.doors.specs.Promises.{complement, MarginsSpelled, MarginsDoor};
-use calls::get_starts;
 use calls::put;
 use calls::tell;
 use doorway::SHUT;
-use doorway::handed;
+use doorway::hand_starts;
 use doorway::is_open;
 use doorway::least;
 use planner::Answer;
@@ -61,7 +60,6 @@ pub extern "C" fn door_margins(file: &[u8], starts: &[u8], out: &mut [u8], resul
         return SHUT;
     }
     let mut own = [0u16; 17];
-    let n = handed(starts.len());
-    get_starts(starts, &mut own[..n]);
+    let n = hand_starts(starts, &mut own);
     tell(margin_bytes(file, &own[..n], out), result)
 }

@@ -2,11 +2,10 @@
 ghost use Rattle.planner.specs.Promises.{OfFile};
 ghost use Rattle.mend.specs.Promises.{lending};
 ghost use Rattle.doors.specs.Promises.{MendSpelled, MendDoor};
-use calls::get_starts;
 use calls::put_starts;
 use calls::tell;
 use doorway::SHUT;
-use doorway::handed;
+use doorway::hand_starts;
 use doorway::is_open;
 use doorway::least;
 use mend::mend;
@@ -44,7 +43,6 @@ pub extern "C" fn door_mend(
         return SHUT;
     }
     let mut own = [0u16; 17];
-    let n = handed(starts.len());
-    get_starts(starts, &mut own[..n]);
+    let n = hand_starts(starts, &mut own);
     tell(mend_bytes(file, &own[..n], out, moved), result)
 }

@@ -7,18 +7,22 @@ use calls::tell;
 use doorway::SHUT;
 use doorway::least;
 use planner::Answer;
-use possible::any_plan;
+use planner::refusal;
+use possible::first_schedule;
 use request::read;
 
 // The start times go to the first bytes; what is lent beyond one start a job stays as it was.
 fn possible_bytes(file: &[u8], budget: u32, starts: &mut [u8]) -> Answer
     ensures { λ a. ⌜ OfFile (now (file .entry)) (now (starts .entry)) (PossibleSpelled budget (now (starts .entry))) a (now (starts .exit)) ⌝ }
 {
+    let request = read(file);
+    if request.number != 0 {
+        return refusal(request.number);
+    }
     let mut own = [0u16; 16];
     let places = least(starts.len() / 2, 16);
-    let answer = any_plan(file, budget, &mut own[..places]);
+    let answer = first_schedule(request.recorder, budget, &mut own[..places]);
     if answer.number == 0 {
-        let request = read(file);
         let jobs = least(request.recorder.jobs.count, places);
         put_starts(&own[..jobs], starts);
     }

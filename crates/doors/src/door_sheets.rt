@@ -1,10 +1,9 @@
 // The doors to the sheets.
 ghost use Rattle.doors.specs.Promises.{ImportDevicesDoor, ImportJobsDoor, ExportDevicesDoor, ExportJobsDoor, ExportPlanDoor};
 use calls::RESULT;
-use calls::get_starts;
 use calls::tell;
 use doorway::SHUT;
-use doorway::handed;
+use doorway::hand_starts;
 use doorway::is_open;
 use sheet_export::export_devices;
 use sheet_export::export_jobs;
@@ -65,7 +64,6 @@ pub extern "C" fn door_export_plan(
         return SHUT;
     }
     let mut own = [0u16; 17];
-    let n = handed(starts.len());
-    get_starts(starts, &mut own[..n]);
+    let n = hand_starts(starts, &mut own);
     tell(export_plan(file, &own[..n], out), result)
 }

@@ -5,16 +5,16 @@ ghost use lib.ListN.{length, getD};
 ghost use Rattle.planner.specs.Promises.{OfFile};
 ghost use Rattle.doorway.specs.Doors.{fours};
 ghost use Rattle.doors.specs.Promises.{StepsSpelled, StepDoor};
-use calls::get_starts;
 use calls::put;
 use calls::tell;
 use doorway::SHUT;
-use doorway::handed;
+use doorway::hand_starts;
 use doorway::is_open;
 use doorway::least;
 use planner::Answer;
+use planner::refusal;
 use request::read;
-use stepper::step_through;
+use stepper::steps_of;
 
 fn put_energies(energies: &[u32], out: &mut [u8])
     requires { ⌜ length (now energies) * 4 ≤ length (now out) ⌝ }
@@ -33,12 +33,16 @@ fn put_energies(energies: &[u32], out: &mut [u8])
 fn step_bytes(file: &[u8], starts: &[u16], out: &mut [u8]) -> Answer
     ensures { λ a. ⌜ OfFile (now (file .entry)) (now (out .entry)) (StepsSpelled (now (file .entry)) (now (starts .entry)) (now (out .entry))) a (now (out .exit)) ⌝ }
 {
+    let request = read(file);
+    if request.number != 0 {
+        return refusal(request.number);
+    }
+    let recorder = request.recorder;
     let mut room = [0u32; 8];
     let places = least(out.len() / 4, 8);
-    let answer = step_through(file, starts, &mut room[..places]);
+    let answer = steps_of(file, recorder, starts, &mut room[..places]);
     if answer.number == 0 {
-        let request = read(file);
-        let devices = least(request.recorder.devices.count, places);
+        let devices = least(recorder.devices.count, places);
         put_energies(&room[..devices], out);
     }
     answer
@@ -52,7 +56,6 @@ pub extern "C" fn door_step(file: &[u8], starts: &[u8], out: &mut [u8], result: 
         return SHUT;
     }
     let mut own = [0u16; 17];
-    let n = handed(starts.len());
-    get_starts(starts, &mut own[..n]);
+    let n = hand_starts(starts, &mut own);
     tell(step_bytes(file, &own[..n], out), result)
 }

@@ -1,9 +1,8 @@
 // The door to the verdict.
 ghost use Rattle.doors.specs.Promises.{VerdictDoor};
-use calls::get_starts;
 use calls::tell;
 use doorway::SHUT;
-use doorway::handed;
+use doorway::hand_starts;
 use doorway::is_open;
 use planner::verdict;
 
@@ -15,7 +14,6 @@ pub extern "C" fn door_verdict(file: &[u8], starts: &[u8], result: &mut [u8]) ->
         return SHUT;
     }
     let mut own = [0u16; 17];
-    let n = handed(starts.len());
-    get_starts(starts, &mut own[..n]);
+    let n = hand_starts(starts, &mut own);
     tell(verdict(file, &own[..n]), result)
 }

@@ -13,17 +13,16 @@ use Rattle.base.specs.Bytes.{pairAt}
 use Rattle.base.proofs.Arrays.{length-upTo}
 use Rattle.schedule.specs.declared.Recorder.{Recorder}
 use Rattle.schedule.specs.Quantities.{Valid}
-use Rattle.request.specs.declared.Request.{Request}
-use Rattle.request.specs.Format.{readOf, handedOn}
 use Rattle.request.proofs.Accepted.{accepted-valid, refused-number}
 use Rattle.planner.specs.declared.Answer.{Answer}
-use Rattle.planner.specs.Promises.{Reads, OfFile, refused, read, VerdictOf, Judged, MarginsOf}
+use Rattle.planner.specs.Promises.{OfFile, refused, read, VerdictOf, Judged, MarginsOf}
 use Rattle.planner.specs.Promises as P
 use Rattle.planner.proofs.Only.{same-recorder, not-both}
 use Rattle.calls.specs.Bytes.{spread, startsIn}
 use Rattle.calls.specs.Calls.{told}
 use Rattle.calls.proofs.Crossing.{own-starts}
 use Rattle.doorway.specs.Doors.{Door, shut, answered, startsOf, twos, Spelled, kept, given}
+use Rattle.doorway.specs.inside.Handing.{Handed, whole, many}
 
 -- An open door, by what is told.
 pub answered-as : {L Open : Type 0} (result : List ℕ) (lent : L) (Then : Answer → L → Type 0) {a : Answer} {after : L} {n : ℕ} {r : List ℕ}
@@ -71,12 +70,7 @@ only-spelled file places lent Then written one a a′ l l′ (read {R = R} r t) 
 
 -- ---- start times
 
--- What is handed on of a list of start times: all of it, or more than a file can have jobs.
-pub data Handed (all : List ℕ) : List ℕ → Type 0 where
-  whole : Handed all all
-  many : {some : List ℕ} → 16 < length some → 16 < length all → Handed all some
-
-pub handed-starts : (bytes : List ℕ) (n : ℕ) → n ≡ min (length bytes / 2) 17 → Handed (startsOf bytes) (startsIn bytes n)
+handed-starts : (bytes : List ℕ) (n : ℕ) → n ≡ min (length bytes / 2) 17 → Handed (startsOf bytes) (startsIn bytes n)
 handed-starts bytes n e = go (leb (length bytes / 2) 16) refl
   where
     long : (m : ℕ) → length (startsIn bytes m) ≡ m
@@ -136,16 +130,6 @@ many-margins R v lent s s′ h h′ (P.MarginsOf.short e r) = absurd (omega (ari
 many-margins R v lent s s′ h h′ (P.MarginsOf.given e r) = absurd (omega (arith, e, h, v .few-jobs))
 
 -- ---- places of one's own
-
-recorder-of : (file : List ℕ) (q : Request) {R : Recorder} → Reads file R → q ≡ handedOn (readOf file) → q .recorder ≡ R
-unfolding handedOn
-recorder-of file q r e = ap (λ (y : Request). y .recorder) (e ∙ ap handedOn r)
-
--- What an operation answers with 0 is of a file that is read.
-pub success-read : {L : Type 0} (file : List ℕ) (lent : L) (Then : Recorder → Answer → L → Type 0) {a : Answer} {l : L} → a .number ≡ 0 → OfFile file lent Then a l
-    → (q : Request) → q ≡ handedOn (readOf file) → Reads file (q .recorder)
-success-read file lent Then z (refused {n = n} r) q e = absurd (omega (arith, z, refused-number file n r))
-success-read file lent Then z (read {R = R} r t) q e = subst (Reads file) (sym (recorder-of file q r e)) r
 
 -- From places of one's own to lent bytes: a refusal keeps these, and a success is to be shown for the recorder that the file is read as.
 pub kept-places : {P L : Type 0} (file : List ℕ) (own : P) (lent : L) (Then : Recorder → Answer → P → Type 0) (Then′ : Recorder → Answer → L → Type 0)

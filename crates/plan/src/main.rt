@@ -4,7 +4,9 @@
 ghost use Prim.Native.Nat.{_*_, _≤_};
 ghost use lib.ListN.{length};
 ghost use Rattle.io.specs.Counts.{Counts};
+ghost use Rattle.schedule.specs.Quantities.{Valid};
 use base::JobNumber;
+use schedule::Recorder;
 
 const BUDGET: u32 = 1000000;
 
@@ -72,33 +74,38 @@ fn device_lines(rows: &[u8], h: usize, count: usize) -> bool
 }
 
 // The lines of the jobs and of the devices, for the starts that were found.
-fn plan_lines(file: &[u8], starts: &[u16], h: usize, devices: usize) -> bool
-    requires { ⌜ (length (now starts) ≤ 16) × (devices * h ≤ 32768) ⌝ }
+fn plan_lines(r: Recorder, starts: &[u16]) -> bool
+    requires { ⌜ Valid r × (length (now starts) ≤ 16) ⌝ }
 {
     let mut margins = [0i32; 16];
-    planner::margins(file, starts, &mut margins);
+    planner::margins_of(r, starts, &mut margins);
     let mut rows = [0u8; 32768];
-    planner::rows(file, starts, &mut rows);
-    job_lines(starts, &margins) && device_lines(&rows, h, devices)
+    planner::rows_of(r, starts, &mut rows);
+    job_lines(starts, &margins) && device_lines(&rows, r.horizon as usize, r.devices.count)
 }
 
-// The plan of a file, or its refusal.
-fn print_plan(file: &[u8]) -> bool {
+// The plan of a recorder, or its refusal.
+fn print_plan(r: Recorder) -> bool
+    requires { ⌜ Valid r ⌝ }
+{
     let mut starts = [0u16; 16];
-    let found = planner::search(file, BUDGET, &mut starts);
+    let found = planner::search_of(r, BUDGET, &mut starts);
     if found.number != 0 {
         return figure_line(b"refused ", found.number as u32);
     }
-    let request = request::read(file);
-    let jobs = request.recorder.jobs.count;
+    let jobs = r.jobs.count;
     figure_line(b"energy ", found.energy)
         && figure_line(b"vertices ", found.count)
-        && plan_lines(
-            file,
-            &starts[..jobs],
-            request.recorder.horizon as usize,
-            request.recorder.devices.count,
-        )
+        && plan_lines(r, &starts[..jobs])
+}
+
+// The same of a file, which is read once.
+fn print_answer(file: &[u8]) -> bool {
+    let request = request::read(file);
+    if request.number != 0 {
+        return figure_line(b"refused ", request.number as u32);
+    }
+    print_plan(request.recorder)
 }
 
 // What has come of the input: how many bytes, and whether a read failed.
@@ -137,7 +144,7 @@ fn main() {
         io::write_all(2, b"plan: cannot read standard input\n");
         return;
     }
-    let is_printed = print_plan(&file[..input.length]);
+    let is_printed = print_answer(&file[..input.length]);
     if !is_printed {
         io::write_all(2, b"plan: cannot write to standard output\n");
     }

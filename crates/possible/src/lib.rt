@@ -46,7 +46,7 @@ fn without_devices(r: Recorder) -> Recorder
 }
 
 // The first schedule of a recorder.
-fn first_schedule(r: Recorder, budget: u32, starts: &mut [u16]) -> Answer
+pub fn first_schedule(r: Recorder, budget: u32, starts: &mut [u16]) -> Answer
     requires { ⌜ Valid r ⌝ }
     ensures { λ a. ⌜ PossibleOf budget (now (starts .entry)) r a (now (starts .exit)) ⌝ }
 {

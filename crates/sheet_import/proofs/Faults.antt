@@ -5,20 +5,19 @@ use mathlib.Core.List.{List, [], _∷_}
 use Prim.Native.Nat.{ℕ, zero, suc, _+_, _<_, _≤_}
 use native.Mathlib.Omega.{arith}
 use native.Mathlib.Numerals.{add-one}
-use lib.ListN.{length, take, drop, getD}
+use lib.ListN.{length, drop, getD}
 use lib.Seq.{drop-cons, drop-drop, getD-drop}
 use lib.Dec.{leb}
 use borrow.Author.Tests.{le-leb, lt-leb, eq-eqb, ne-eqb}
-use Rattle.base.specs.Refusals.{orElse}
 use Rattle.base.proofs.Cases.{test-cases}
-use Rattle.text.specs.Grammar.{linesOf, unread}
+use Rattle.text.specs.Grammar.{unread}
 use Rattle.text.specs.Numerals.{isNumber}
-use Rattle.text.specs.inside.Cursors.{rawOf, counted, numberOf, lineLength, nextLine}
+use Rattle.text.specs.inside.Cursors.{rawOf, counted, numberOf}
 use Rattle.text.proofs.Cutting.{count-some, count-read}
-use Rattle.text.proofs.Scanning.{number-test, line-first, lines-past}
+use Rattle.text.proofs.Scanning.{number-test}
 use Rattle.sheet.specs.declared.SheetKind.{SheetKind}
 use Rattle.sheet.specs.declared.SheetKind.the-variants.{Devices, Jobs}
-use Rattle.sheet.specs.Sheets.{columnsOf, areNumbers, lineFault, linesFault}
+use Rattle.sheet.specs.Sheets.{columnsOf, areNumbers, lineFault}
 use Rattle.sheet_import.specs.inside.Reading.{rawIn}
 use Rattle.sheet_import.proofs.Raw.{raw-fault}
 
@@ -92,7 +91,7 @@ pub numbers-done : (r : SheetKind) (fs : List (List ℕ)) (k : ℕ) → k ≡ 4 
 numbers-done Devices fs k e = rw e
 numbers-done Jobs fs k e = rw e
 
--- ---- a line, and all
+-- ---- a line
 
 module _ (r : SheetKind) (l : List ℕ) where
   pub fault-27 : counted 0 (rawOf l) ≡ 0 → 27 ≡ lineFault r l
@@ -119,10 +118,3 @@ module _ (r : SheetKind) (l : List ℕ) where
       fault-none n =
           let c = count-read (rawOf l) h in
           sym (raw-fault r l ∙ rw (c .0, eq-eqb (length (rawIn l)) (columnsOf r .texts + 4) (sym (c .1) ∙ e), n))
-
-module _ (r : SheetKind) (s : List ℕ) where
-  pub lines-fault : 0 < length s → linesFault r (linesOf s) ≡ orElse (lineFault r (take (lineLength s) s)) (linesFault r (linesOf (drop (nextLine s) s)))
-  lines-fault h = ap (linesFault r) (line-first s h)
-
-pub lines-done : (r : SheetKind) (s : List ℕ) (i : ℕ) → i ≡ length s → linesFault r (linesOf (drop i s)) ≡ 0
-lines-done r s i e = ap (linesFault r) (lines-past s i e)

@@ -6,7 +6,7 @@ use mathlib.Core.Logic.{_⊎_, inl, inr, ⊎-elim}
 use mathlib.Core.Option.{Option, none, some, Option·getD}
 use Prim.Native.Nat.{ℕ, zero, suc, _+_}
 use native.Mathlib.Omega.{arith}
-use lib.ListN.{length, drop}
+use lib.ListN.{length, drop, getD}
 use lib.Dec.{ltb, eqb·suc-zero}
 use borrow.Author.Tests.{eqb-true, not-false}
 use Rattle.base.specs.Refusals.{_⇒_, firstThat, orElse}
@@ -16,6 +16,7 @@ use Rattle.base.specs.Lists.{all}
 use Rattle.base.proofs.Cases.{both, neither}
 use Rattle.tables.specs.declared.JobRecord.{JobRecord}
 use Rattle.catalogue.specs.Parts.{wellFormed, malformed, repeated, unfit, whole, Part, numbers}
+use Rattle.catalogue.specs.Faults.{noPart, unfitAt}
 use Rattle.text.specs.Grammar.{linesOf, fieldsOf}
 use Rattle.text.specs.inside.Cursors.{rawOf}
 use Rattle.text.specs.Numerals.{isNumber}
@@ -193,3 +194,26 @@ jobs-raw-refused text = or-same (linesFault Jobs (linesOf text)) _ _ (λ e. ap f
 
 pub jobs-raw-in : (text : List ℕ) → jobsRefused text ≡ 0 → jobsIn text ≡ jobsRaw (linesOf text)
 jobs-raw-in text e = jobs-raw (linesOf text) (orElse-zero (linesFault Jobs (linesOf text)) (few (jobsIn text)) (sym e) .0)
+
+-- ---- the parts that are judged
+
+like-formed-at : (ds es : List Part) → LikeTable ds es → (i : ℕ) → wellFormed (getD (numbers ds) i []) ≡ wellFormed (getD (numbers es) i [])
+like-formed-at [] [] h i = refl
+like-formed-at [] (e ∷ es) h i = absurd h
+like-formed-at (d ∷ ds) [] h i = absurd h
+like-formed-at (d ∷ ds) (e ∷ es) h zero = ⊎-elim (λ x. ap (λ (y : Part). wellFormed (y .number)) x) (λ w. w .0 ∙ sym (w .1)) (h .0)
+like-formed-at (d ∷ ds) (e ∷ es) h (suc i) = like-formed-at ds es (h .1) i
+
+whole-at : (ls : List (List ℕ)) (i : ℕ) → whole (getD (map (λ l. partIn (fieldsIn l)) ls) i noPart) ≡ whole (getD (devicesRaw ls) i noPart)
+whole-at [] i = refl
+whole-at (l ∷ ls) zero = refl
+whole-at (l ∷ ls) (suc i) = whole-at ls i
+
+module _ (text : List ℕ) (e : linesFault Devices (linesOf text) ≡ 0) where
+  pub parts-unfit-at : (i : ℕ) → unfitAt (partsIn text) i ≡ unfitAt (devicesRaw (linesOf text)) i
+  parts-unfit-at i = rw (like-formed-at (partsIn text) (devicesRaw (linesOf text)) (devices-raw (linesOf text) (sym e)) i, whole-at (linesOf text) i)
+
+  pub parts-same : unfit (devicesRaw (linesOf text)) ≡ false → partsIn text ≡ devicesRaw (linesOf text)
+  parts-same u =
+      let like = devices-raw (linesOf text) (sym e) in
+      like-same (partsIn text) (devicesRaw (linesOf text)) like (like-formed (partsIn text) (devicesRaw (linesOf text)) like ∙ fit-formed (devicesRaw (linesOf text)) u)

@@ -1,13 +1,13 @@
 -- A table of rows that were read, as a whole: what refuses it, and its bytes.
 use mathlib.Core.Path.{_≡_, refl, sym, _∙_}
-use mathlib.Core.Bool.{Bool, true, false, not, _||_, true≢false}
+use mathlib.Core.Bool.{Bool, true, false, not, true≢false}
 use mathlib.Core.List.{List, [], _∷_}
 use Prim.Native.Nat.{ℕ, zero, suc, _<_, _≤_}
 use native.Mathlib.Omega.{arith}
 use lib.ListN.{length, drop, getD, length-map}
 use lib.Seq.{getD-drop}
 use lib.Dec.{ltb}
-use borrow.Author.Tests.{lt-ltb, le-ltb, ltb-false, not-false}
+use borrow.Author.Tests.{ltb-false, not-false}
 use Rattle.base.specs.Lists.{padded, all}
 use Rattle.base.proofs.Clear.{clear}
 use Rattle.base.proofs.Records.{orElse-zero}
@@ -56,23 +56,8 @@ formed-numbers : (ls : List (List ℕ)) → all wellFormed (numbers (devicesRaw 
 formed-numbers [] = refl
 formed-numbers (l ∷ ls) = rw (formed-numbers ls)
 
-whole-rows : (ls : List (List ℕ)) → all whole (devicesRaw ls) ≡ true
-whole-rows [] = refl
-whole-rows (l ∷ ls) = whole-rows ls
-
 rows-count : (ls : List (List ℕ)) → length (numbers (devicesRaw ls)) ≡ length ls
 rows-count ls = length-map (devicesRaw ls) (λ (p : Part). p .number) ∙ length-map ls partRaw
-
-or-none : (x : Bool) → x || false ≡ x
-or-none true = refl
-or-none false = refl
-
-pub unfit-many : (ls : List (List ℕ)) → 64 < length ls → unfit (devicesRaw ls) ≡ true
-unfit-many ls h = rw (lt-ltb 64 (length (numbers (devicesRaw ls))) (omega (arith, rows-count ls)))
-
-pub unfit-few : (ls : List (List ℕ)) → length ls ≤ 64 → unfit (devicesRaw ls) ≡ not (all isFormed ls)
-unfit-few ls h =
-    rw (le-ltb 64 (length (numbers (devicesRaw ls))) (omega (arith, rows-count ls)), formed-numbers ls, whole-rows ls) (or-none (not (all isFormed ls)))
 
 pub fit-lines : (text : List ℕ) → unfit (devicesRaw (linesOf text)) ≡ false → (length (linesOf text) ≤ 64) × EachLine Formed text
 fit-lines text u =

@@ -5,8 +5,10 @@ ghost use Prim.Native.Nat.{_<_};
 ghost use lib.ListN.{drop, getD};
 ghost use Rattle.text.specs.Grammar.{linesOf, unread};
 ghost use Rattle.text.specs.inside.Cursors.{rawOf};
-ghost use Rattle.sheet.specs.Sheets.{columnsOf, areNumbers, lineFault, linesFault};
+ghost use Rattle.sheet.specs.Sheets.{columnsOf, areNumbers, lineFault};
+ghost use Rattle.sheet_import.specs.inside.Judging.{firstLine};
 ghost use Rattle.sheet_import.specs.inside.Reading.{rawIn};
+use crate::LineFault;
 use sheet::SheetKind;
 use text::count_fields;
 use text::field;
@@ -64,19 +66,21 @@ fn line_fault(line: &[u8], rows: SheetKind) -> u8
     if are_numbers(line, rows) { 0 } else { 29 }
 }
 
-// The number of the first line at fault.
-pub(crate) fn lines_fault(text: &[u8], rows: SheetKind) -> u8
-    ensures { λ r. ⌜ r ≡ linesFault rows (linesOf (now (text .entry))) ⌝ }
+// The first line at fault.
+pub(crate) fn lines_fault(text: &[u8], rows: SheetKind) -> LineFault
+    ensures { λ f. ⌜ f ≡ firstLine rows 0 (linesOf (now (text .entry))) ⌝ }
 {
     let n = text.len();
     let mut at = 0;
+    let mut line = 0;
     while at < n {
         let end = at + line_end(&text[at..]);
-        let fault = line_fault(&text[at..end], rows);
-        if fault != 0 {
-            return fault;
+        let number = line_fault(&text[at..end], rows);
+        if number != 0 {
+            return LineFault { number, line };
         }
         at += next_line(&text[at..]);
+        line += 1;
     }
-    0
+    LineFault { number: 0, line: 0 }
 }

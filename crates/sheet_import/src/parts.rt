@@ -3,11 +3,12 @@ ghost use mathlib.Core.Path.{_≡_};
 ghost use mathlib.Core.Bool.{false, not};
 ghost use Prim.Native.Nat.{_≤_};
 ghost use lib.ListN.{length};
-ghost use Rattle.base.specs.Lists.{padded, all};
+ghost use Rattle.base.specs.Lists.{padded};
 ghost use Rattle.catalogue.specs.Parts.{space, wellFormed};
+ghost use Rattle.catalogue.specs.Faults.{First, unfitAt};
 ghost use Rattle.text.specs.Grammar.{linesOf, unread};
 ghost use Rattle.text.specs.inside.Cursors.{rawOf, fieldAt};
-ghost use Rattle.sheet_import.specs.inside.Reading.{Sound, EachLine};
+ghost use Rattle.sheet_import.specs.inside.Reading.{devicesRaw, Sound, EachLine};
 use base::copy;
 use catalogue::is_formed;
 use sheet::SheetKind;
@@ -37,16 +38,20 @@ fn is_bad(line: &[u8]) -> bool
     !is_formed(&eight)
 }
 
-pub(crate) fn has_bad_number(text: &[u8], lines: usize) -> bool
+// The first line with such a number, or with 64 lines before it; the number of lines where there is none.
+pub(crate) fn unfit_line(text: &[u8], lines: usize) -> usize
     requires { ⌜ (lines ≡ length (linesOf (now text))) × EachLine (Sound SheetKind.Devices) (now text) ⌝ }
-    ensures { λ r. ⌜ r ≡ not (all (λ l. wellFormed (padded 8 space (fieldAt (rawOf l) 0))) (linesOf (now (text .entry)))) ⌝ }
+    ensures { λ k. ⌜ First lines (unfitAt (devicesRaw (linesOf (now (text .entry))))) k ⌝ }
 {
     let mut k = 0;
     while k < lines {
+        if 64 <= k {
+            return k;
+        }
         if is_bad(line(text, k)) {
-            return true;
+            return k;
         }
         k += 1;
     }
-    false
+    lines
 }

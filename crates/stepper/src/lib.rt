@@ -36,7 +36,7 @@ fn first_fault(judged: Verdict, number: u8) -> Verdict
 }
 
 // The devices of a file's recorder, stepped through the round.
-fn step_recorder(file: &[u8], r: Recorder, starts: &[u16], energies: &mut [u32]) -> Answer
+pub fn steps_of(file: &[u8], r: Recorder, starts: &[u16], energies: &mut [u32]) -> Answer
     requires { ⌜ Valid r ⌝ }
     ensures { λ a. ⌜ StepsOf (now (file .entry)) (now (starts .entry)) (now (energies .entry)) r a (now (energies .exit)) ⌝ }
 {
@@ -64,5 +64,5 @@ pub fn step_through(file: &[u8], starts: &[u16], energies: &mut [u32]) -> Answer
         return refusal(request.number);
     }
     let recorder = request.recorder;
-    step_recorder(file, recorder, starts, energies)
+    steps_of(file, recorder, starts, energies)
 }

@@ -18,7 +18,7 @@ type Answers = (&'static str, &'static [u8], &'static [u8], u64);
 
 // A line each.
 #[rustfmt::skip]
-const ANSWERS: [Answers; 22] = [
+const ANSWERS: [Answers; 25] = [
     ("floe_check", &FILE, &[15], 12_100),
     ("floe_sizes", &FILE, &[15], 12_100),
     ("floe_fault", &FILE, &[15], 15_900),
@@ -37,6 +37,9 @@ const ANSWERS: [Answers; 22] = [
     ("door_write", &TABLES, &[15, SHUT], 23_000),
     ("door_fault", &TABLES, &[SHUT], 12_000),
     ("door_build", &PARTS, &[15, SHUT], 16_800),
+    ("door_order_fault", &[0], &[21, 22, 23, SHUT], 15_000),
+    ("door_devices_fault", &[0], &[21, 22, 27, 28, 29, SHUT], 12_000),
+    ("door_jobs_fault", &[0], &[12, 27, 28, 29, SHUT], 12_000),
     ("door_import_devices", &[0], &[15, 21, 22, 27, 28, 29, SHUT], 12_000),
     ("door_import_jobs", &[0], &[12, 15, 27, 28, 29, SHUT], 12_000),
     ("door_export_devices", &[0], &[15, 21, 22, SHUT], 12_000),

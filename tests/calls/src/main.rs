@@ -4,6 +4,7 @@
 mod answers;
 mod catalogue;
 mod chosen;
+mod counted;
 mod expected;
 mod figures;
 mod first;
@@ -305,6 +306,9 @@ fn test() -> Result<String, String> {
         ("door_possible", possible::test()?),
         ("floe_fault", places::test()?),
         ("door_fault", places::test_tables()?),
+        ("door_order_fault", counted::test_orders()?),
+        ("door_devices_fault", counted::test_devices()?),
+        ("door_jobs_fault", counted::test_jobs()?),
         ("floe_first", first::test()?),
         ("floe_least", least::test()?),
         ("door_step", stepping::test()?),

@@ -13,12 +13,12 @@ recorded c = read-accepted _ _ (c .before .before .read .ensures) (c .if1 .left)
 returns : tie.Need-returns
 returns c = rw (c .refusal .ensures) (P.OfFile.refused (read-refused _ _ (c .before .before .before .read .ensures) (c .before .if1 .taken)))
 
-step-recorder-requires : tie.Need-step-recorder-requires
-step-recorder-requires c κs = accepted-valid _ _ (recorded (c .before .before))
+steps-of-requires : tie.Need-steps-of-requires
+steps-of-requires c κs = accepted-valid _ _ (recorded (c .before .before))
 
 returns-2 : tie.Need-returns-2
-returns-2 c = P.OfFile.read (recorded (c .before .before .before .before .before)) (c .before .before .step-recorder .ensures)
+returns-2 c = P.OfFile.read (recorded (c .before .before .before .before .before)) (c .before .before .steps-of .ensures)
 
 pub step-through-spec : {M : Type 1} → statement M
 step-through-spec =
-    tie.close (tie.spec (λ c κs. search needs) (λ c κs. search needs) returns step-recorder-requires (λ c. search needs) returns-2)
+    tie.close (tie.spec (λ c κs. search needs) (λ c κs. search needs) returns steps-of-requires (λ c. search needs) returns-2)

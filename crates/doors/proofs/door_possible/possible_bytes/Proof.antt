@@ -5,13 +5,11 @@ use Prim.Native.Nat.{ℕ, _/_, min}
 use native.Mathlib.Omega.{arith}
 use lib.ListN.{length, take, drop, replicate}
 use lib.Seq.{length-take-le}
-use Rattle.schedule.specs.Quantities.{jobs}
-use Rattle.request.proofs.Accepted.{accepted-valid}
-use Rattle.planner.specs.Promises.{OfFile}
-use Rattle.possible.specs.Promises.{PossibleOf}
-use Rattle.calls.proofs.Crossing.{front-room, outcome-of}
-use Rattle.doorway.proofs.Opening.{success-read, kept-places, twos-front}
-use Rattle.doors.specs.Promises.{PossibleSpelled}
+use Rattle.schedule.specs.Quantities.{Valid, jobs}
+use Rattle.request.proofs.Accepted.{read-accepted, read-refused, accepted-valid}
+use Rattle.planner.specs.Promises.{OfFile, Reads}
+use Rattle.calls.proofs.Crossing.{front-room}
+use Rattle.doorway.proofs.Opening.{twos-front}
 use Rattle.doors.proofs.Rooms.{possible-room, possible-kept, possible-given}
 use borrow.Author.Needs.{needs}
 use Rattle.doors.proofs.door_possible.possible_bytes.Statement.{statement}
@@ -21,56 +19,70 @@ use Rattle.doors.proofs.door_possible.possible_bytes.Tie as tie
 abbrev zeros : List ℕ
 zeros = replicate 16 0
 
-slice-aggregate-any-plan : tie.Need-slice-aggregate-any-plan
-slice-aggregate-any-plan c = sym (length-take-le _ _ (omega (arith, c .before .least .ensures)))
+-- The file is read as the recorder.
+recorded : (c : tie.Else1) → Reads (c .before .before .before .before .before .args .file .now) (c .before .before .read .result .recorder)
+recorded c = read-accepted _ _ (c .before .before .read .ensures) (c .if1 .left)
+
+valid : (c : tie.Else1) → Valid (c .before .before .read .result .recorder)
+valid c = accepted-valid _ _ (recorded c)
+
+-- The places lent: as many as the bytes have room for, at most sixteen.
+owned : (c : tie.After-least) → length (take (c .least .result) zeros) ≡ min (length (c .before .before .before .before .before .before .args .starts .now) / 2) 16
+owned c = length-take-le (c .least .result) zeros (omega (arith, c .least .ensures)) ∙ c .least .ensures
+
+returns : tie.Need-returns
+returns c = rw (c .refusal .ensures) (OfFile.refused (read-refused _ _ (c .before .before .before .read .ensures) (c .before .if1 .taken)))
+
+slice-aggregate-first-schedule : tie.Need-slice-aggregate-first-schedule
+slice-aggregate-first-schedule c = sym (length-take-le _ _ (omega (arith, c .before .least .ensures)))
+
+first-schedule-requires : tie.Need-first-schedule-requires
+first-schedule-requires c κs = valid (c .before .before)
 
 array-share-prefix-own : tie.Need-array-share-prefix-own
-array-share-prefix-own c = front-room zeros (c .before .before .before .before .before .any-plan .last .1 .1 .0) (c .before .before .before .before .before .before .before .least .result) (c .least2 .result) (omega (arith, c .before .before .before .before .before .before .before .least .ensures)) (omega (arith, c .least2 .ensures)) (c .before .before .before .before .before .any-plan .kept .1 .1 .0)
+array-share-prefix-own c = front-room zeros (c .before .before .before .before .first-schedule .last .1 .1 .0) (c .before .before .before .before .before .before .least .result) (c .least2 .result) (omega (arith, c .before .before .before .before .before .before .least .ensures)) (omega (arith, c .least2 .ensures)) (c .before .before .before .before .first-schedule .kept .1 .1 .0)
 
 slice-aggregate-put-starts : tie.Need-slice-aggregate-put-starts
 slice-aggregate-put-starts c = sym (length-take-le _ _ (array-share-prefix-own (c .before)))
 
 put-starts-requires : tie.Need-put-starts-requires
-put-starts-requires c κs = rw (length-take-le _ _ (array-share-prefix-own (c .before .before))) (omega (arith, c .before .before .least2 .ensures, c .before .before .before .before .before .before .before .before .before .least .ensures))
-
-returns : tie.Need-returns
-returns c =
-    let s = c .before .before .before .before .before .before .before .before .before .before .before .before .before .before .before .args in
-    let p = c .before .before .before .before .before .before .before .before .before .before .before .before .least in
-    let a = c .before .before .before .before .before .before .before .before .before .before .any-plan in
-    let q = c .before .before .before .before .before .before .read in
-    let z = c .before .before .before .before .before .before .before .if1 .taken in
-    let own = take (p .result) zeros in
-    let fits : length own ≡ min (length (s .starts .now) / 2) 16 = length-take-le (p .result) zeros (omega (arith, p .ensures)) ∙ p .ensures in
-    let r = success-read (s .file .now) own (PossibleOf (s .budget) own) z (a .ensures) (q .result) (q .ensures) in
-    let few = accepted-valid (s .file .now) (q .result .recorder) r .few-jobs in
-    let t = outcome-of (s .file .now) own (PossibleOf (s .budget) own) r (a .ensures) in
-    let room = possible-room (s .budget) (s .starts .now) (q .result .recorder) few own fits z t in
-    rw (twos-front (a .last .1 .1 .0) (drop (p .result) zeros) (s .starts .now) _ (jobs (q .result .recorder)) (c .before .before .before .before .before .least2 .result) (omega (arith, c .before .before .before .before .before .least2 .ensures, room .0, fits, p .ensures)) (room .1) (c .before .before .put-starts .ensures))
-    (OfFile.read r (possible-given (s .budget) (s .starts .now) (q .result .recorder) few own fits z t))
+put-starts-requires c κs = rw (length-take-le _ _ (array-share-prefix-own (c .before .before))) (omega (arith, c .before .before .least2 .ensures, c .before .before .before .before .before .before .before .before .least .ensures))
 
 returns-2 : tie.Need-returns-2
 returns-2 c =
-    let s = c .before .before .before .before .before .before .before .before .args in
-    let p = c .before .before .before .before .before .least in
+    let s = c .before .before .before .before .before .before .before .before .before .before .before .before .before .before .before .before .before .args in
+    let p = c .before .before .before .before .before .before .before .before .before .before .before .least in
+    let a = c .before .before .before .before .before .before .before .before .before .first-schedule in
+    let z = c .before .before .before .before .before .before .if2 .taken in
+    let R = c .before .before .before .before .before .before .before .before .before .before .before .before .before .before .read .result .recorder in
     let own = take (p .result) zeros in
-    kept-places (s .file .now) own (s .starts .now) (PossibleOf (s .budget) own) (PossibleSpelled (s .budget) (s .starts .now))
-    (λ R v b l n t. possible-kept (s .budget) (s .starts .now) R (v .few-jobs) own (length-take-le (p .result) zeros (omega (arith, p .ensures)) ∙ p .ensures) n t)
-    (c .if1 .left) (c .before .before .before .any-plan .ensures)
+    let fits = owned (c .before .before .before .before .before .before .before .before .before .before .before) in
+    let few = valid (c .before .before .before .before .before .before .before .before .before .before .before .before) .few-jobs in
+    let room = possible-room (s .budget) (s .starts .now) R few own fits z (a .ensures) in
+    rw (twos-front (a .last .1 .1 .0) (drop (p .result) zeros) (s .starts .now) _ (jobs R) (c .before .before .before .before .before .least2 .result) (omega (arith, c .before .before .before .before .before .least2 .ensures, room .0, fits, p .ensures)) (room .1) (c .before .before .put-starts .ensures))
+    (OfFile.read (recorded (c .before .before .before .before .before .before .before .before .before .before .before .before)) (possible-given (s .budget) (s .starts .now) R few own fits z (a .ensures)))
+
+returns-3 : tie.Need-returns-3
+returns-3 c =
+    let s = c .before .before .before .before .before .before .before .before .before .before .before .args in
+    OfFile.read (recorded (c .before .before .before .before .before .before))
+    (possible-kept (s .budget) (s .starts .now) (c .before .before .before .before .before .before .before .before .read .result .recorder) (valid (c .before .before .before .before .before .before) .few-jobs) (take (c .before .before .before .before .before .least .result) zeros) (owned (c .before .before .before .before .before)) (c .if2 .left) (c .before .before .before .first-schedule .ensures))
 
 pub possible-bytes-spec : {M : Type 1} → statement M
 possible-bytes-spec =
     tie.close
     (tie.spec
     (λ c κs. search needs)
+    (λ c κs. search needs)
+    returns
+    (λ c κs. search needs)
     (λ c. search needs)
-    slice-aggregate-any-plan
-    (λ c κs. search needs)
-    (λ c κs. search needs)
+    slice-aggregate-first-schedule
+    first-schedule-requires
     (λ c κs. search needs)
     array-share-prefix-own
     slice-aggregate-put-starts
     put-starts-requires
     (λ c. search needs)
-    returns
-    returns-2)
+    returns-2
+    returns-3)

@@ -1,47 +1,26 @@
 -- `doors::door_sheets::door_export_plan` meets its contract.
 use mathlib.Core.Path.{sym}
-use mathlib.Core.List.{List}
 use native.Mathlib.Omega.{arith}
-use Prim.Native.Nat.{ℕ}
-use lib.ListN.{replicate}
 use lib.Seq.{length-take-le}
-use Rattle.calls.proofs.Crossing.{own-room}
 use Rattle.doorway.specs.Doors.{shut, answered}
-use Rattle.doorway.proofs.Opening.{handed-own}
 use Rattle.doors.proofs.Planning.{plan-all}
 use borrow.Author.Tests.{not-true, not-false}
 use borrow.Author.Needs.{needs}
 use Rattle.doors.proofs.door_sheets.door_export_plan.Statement.{statement}
 use Rattle.doors.proofs.door_sheets.door_export_plan.Tie as tie
 
--- What the list of start times holds before any is read.
-abbrev zeros : List ℕ
-zeros = replicate 17 0
-
 returns : tie.Need-returns
 returns c = shut (c .before .is-open .ensures .1 (not-true _ (c .if1 .taken)))
 
-slice-aggregate-get-starts : tie.Need-slice-aggregate-get-starts
-slice-aggregate-get-starts c = sym (length-take-le _ _ (omega (arith, c .before .handed .ensures)))
-
-get-starts-requires : tie.Need-get-starts-requires
-get-starts-requires c κs = rw (length-take-le (c .before .handed .result) zeros (omega (arith, c .before .handed .ensures))) (omega (arith, c .before .handed .ensures))
-
-array-share-prefix-own : tie.Need-array-share-prefix-own
-array-share-prefix-own c = own-room (c .before .before .before .before .before .before .before .before .before .before .args .starts .now) zeros (c .before .get-starts .last .1 .0) (c .before .before .before .handed .result) (omega (arith, c .before .before .before .handed .ensures)) (c .before .get-starts .ensures)
-
 slice-aggregate-export-plan : tie.Need-slice-aggregate-export-plan
-slice-aggregate-export-plan c = sym (length-take-le _ _ (array-share-prefix-own (c .before)))
+slice-aggregate-export-plan c = sym (length-take-le _ _ (omega (arith, c .before .before .hand-starts .ensures .0, c .before .before .hand-starts .kept)))
 
 returns-2 : tie.Need-returns-2
 returns-2 c =
-    let s = c .before .before .before .before .before .before .before .before .before .before .before .before .before .before .before .before .before .before .before .args in
+    let s = c .before .before .before .before .before .before .before .before .before .before .before .before .before .before .before .before .before .before .args in
     let told = c .before .before .tell .ensures in
-    let n = c .before .before .before .before .before .before .before .before .before .before .before .before .handed in
-    let starts = c .before .before .before .before .before .before .before .before .before .before .get-starts in
-    rw (told .0, told .1)
-    (answered (c .before .before .before .before .before .before .before .before .before .before .before .before .before .before .is-open .ensures .0 (not-false _ (c .before .before .before .before .before .before .before .before .before .before .before .before .before .if1 .left)))
-    (plan-all (s .file .now) (s .out .now) (handed-own (s .starts .now) zeros (starts .last .1 .0) (n .result) (omega (arith, n .ensures)) (n .ensures) (starts .ensures)) (c .before .before .before .before .before .before .export-plan .ensures)))
+    let opens = c .before .before .before .before .before .before .before .before .before .before .before .before .before .is-open .ensures .0 (not-false _ (c .before .before .before .before .before .before .before .before .before .before .before .before .if1 .left)) in
+    rw (told .0, told .1) (answered opens (plan-all (s .file .now) (s .out .now) (c .before .before .before .before .before .before .before .before .before .before .hand-starts .ensures .1) (c .before .before .before .before .before .before .export-plan .ensures)))
 
 pub door-export-plan-spec : {M : Type 1} → statement M
 door-export-plan-spec =
@@ -49,11 +28,9 @@ door-export-plan-spec =
     (tie.spec
     (λ c κs. search needs)
     returns
+    (λ c. search needs)
     (λ c κs. search needs)
     (λ c. search needs)
-    slice-aggregate-get-starts
-    get-starts-requires
-    array-share-prefix-own
     slice-aggregate-export-plan
     (λ c κs. search needs)
     (λ c κs. search needs)

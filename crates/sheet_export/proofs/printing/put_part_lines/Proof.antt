@@ -7,7 +7,7 @@ use lib.ListN.{length, take, drop, getD, length-take, length-drop}
 use Rattle.base.specs.Bytes.{inRow}
 use Rattle.base.proofs.Pieces.{slice-is}
 use Rattle.catalogue.specs.Parts.{partsOf, partOf}
-use Rattle.catalogue.proofs.Members.{noPart}
+use Rattle.catalogue.specs.Faults.{noPart}
 use Rattle.catalogue.proofs.Meaning.{whole-catalogue}
 use Rattle.catalogue.proofs.Pieces.{part-at}
 use Rattle.text.specs.inside.Putting.{Put}

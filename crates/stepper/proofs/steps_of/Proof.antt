@@ -1,11 +1,11 @@
--- `stepper::step_recorder` meets its contract.
+-- `stepper::steps_of` meets its contract.
 use borrow.Author.Needs.{needs}
 use Rattle.schedule.specs.Listing.{Feasible}
 use Rattle.planner.specs.Promises.{stops, passes, feasible, gives}
 use Rattle.stepper.specs.Promises.{Unfit, Brief}
 use Rattle.stepper.proofs.Fitting.{past, first-refused, first-fit}
-use Rattle.stepper.proofs.step_recorder.Statement.{statement}
-use Rattle.stepper.proofs.step_recorder.Tie as tie
+use Rattle.stepper.proofs.steps_of.Statement.{statement}
+use Rattle.stepper.proofs.steps_of.Tie as tie
 
 -- Neither the start times nor the recorder is at fault.
 faultless : (c : tie.Else3) → let a = c .before .before .before .before .before .before .before .before .before .before .before .before .args in
@@ -42,8 +42,8 @@ returns-4 c =
     rw (c .success .ensures, c .before .before .before .run-devices .ensures .0, c .before .before .before .run-devices .ensures .1)
     (past (a .r) (a .starts .now) (a .energies .now) (w .0 .one-each) (l .before .before .before .before .before .if2 .left) (feasible (w .0) (passes (w .1) (passes (w .2) gives))))
 
-pub step-recorder-spec : {M : Type 1} → statement M
-step-recorder-spec =
+pub steps-of-spec : {M : Type 1} → statement M
+steps-of-spec =
     tie.close
     (tie.spec
     (λ c κs. search needs)
