@@ -10,24 +10,12 @@ use Rattle.base.proofs.Arrays.{length-upTo}
 use Rattle.schedule.specs.declared.Recorder.{Recorder}
 use Rattle.schedule.specs.Quantities.{jobs}
 use Rattle.planner.specs.declared.Answer.{Answer}
-use Rattle.planner.specs.Promises.{refusal, stops, passes, Reads, OfFile, refused, read, SearchOf}
-use Rattle.planner.specs.Promises as P
+use Rattle.planner.specs.Promises.{refusal, stops, passes, Reads, OfFile, refused, read, found, SearchOf}
+use Rattle.planner.proofs.Refusing.{unless-equal, unless-enough}
 use Rattle.calls.specs.Bytes.{spread, startsIn}
 use Rattle.calls.specs.Calls.{told, Roomed, Called, called, blank, StartsOf, kept, given, RowsCalled}
 use Rattle.calls.specs.inside.Cramped.{Cramped}
 use Rattle.calls.proofs.Digits.{told-none}
-
--- An outcome on a file that reads as R is one of R's.
-pub outcome-of : {L : Type 0} (file : List ℕ) (lent : L) (Then : Recorder → Answer → L → Type 0) {R : Recorder} {a : Answer} {l : L}
-    → Reads file R → OfFile file lent Then a l → Then R a l
-outcome-of file lent Then r (refused r′) =
-    let e = sym r ∙ r′ in
-    let z : _≡_ {A = ℕ} 0 1 = cc in
-    absurd (omega arith)
-outcome-of file lent Then {R} {a} {l} r (read {R = R′} r′ t) =
-    let e = sym r′ ∙ r in
-    let same : R′ ≡ R = cc in
-    subst (λ (X : Recorder). Then X a l) same t
 
 -- A call on a result buffer without room, and one with it.
 module _ {L : Type 0} (file result : List ℕ) (lent : L) (X : Recorder → Answer → L → Type 0) where
@@ -40,13 +28,13 @@ module _ {L : Type 0} (file result : List ℕ) (lent : L) (X : Recorder → Answ
   pub roomy-call : {a : Answer} {after : L} → 11 ≤ length result → OfFile file lent X a after
       → Called file result lent (λ R b l. Roomed result lent (X R) b l) (a .number) (told a result) after
   roomy-call h (refused r) = called (refused r)
-  roomy-call h (read r t) = called (read r (passes (λ s. omega (arith, s, h)) t))
+  roomy-call h (read r t) = called (read r (unless-enough h t))
 
 -- Rows that find no room for their answer.
 pub rows-cramped : (file starts lent result : List ℕ) {R : Recorder} → Reads file R → length starts ≡ jobs R * 2 → length result < 11
     → RowsCalled file starts lent result 15 lent result
 rows-cramped file starts lent result r e h =
-    subst (λ (m : List ℕ). RowsCalled file starts lent result 15 lent m) (told-none (refusal 15) result h) (called (read r (passes (λ u. u e) (stops h))))
+    subst (λ (m : List ℕ). RowsCalled file starts lent result 15 lent m) (told-none (refusal 15) result h) (called (read r (unless-equal e (stops h))))
 
 -- The first n places of a list z come back written: there are still as many.
 pub front-room : {A : Type 0} (z front : List A) (n k : ℕ) → n ≤ length z → k ≤ n → length front ≡ length (take n z) → k ≤ length (front ++ drop n z)
@@ -73,10 +61,12 @@ module _
     places = rw length-replicate (omega arith)
 
     pub starts-kept : (own : List ℕ) {a : Answer} {after : List ℕ} → jobs R ≤ length own → (a .number ≡ 0 → ⊥) → Plans own R a after → StartsOf Plans lent R a lent
+    unfolding StartsOf
     starts-kept own h n p = kept n (alike own (blank lent) _ _ h places p .1)
 
     pub starts-given : (own : List ℕ) {a : Answer} {after : List ℕ} → jobs R ≤ length own → a .number ≡ 0 → Plans own R a after
         → StartsOf Plans lent R a (spread (take (jobs R) after) ++ drop (jobs R * 2) lent)
+    unfolding StartsOf
     starts-given own {a = a} h z p =
         let q = alike own (blank lent) a _ h places p in
         subst (λ (x : List ℕ). StartsOf Plans lent R a (spread x ++ drop (jobs R * 2) lent)) (q .2 z) (given z (q .1))
@@ -84,6 +74,7 @@ module _
 -- Where the lent bytes have too little room, so has a list of as many start times as they have pairs.
 pub starts-short : (Plans : List ℕ → Recorder → Answer → List ℕ → Type 0) (lent : List ℕ) (R : Recorder) → length lent < jobs R * 2
     → (length (blank lent) < jobs R → Plans (blank lent) R (refusal 15) (blank lent)) → StartsOf Plans lent R (refusal 15) lent
+unfolding StartsOf
 starts-short Plans lent R h short = kept (λ (z : _≡_ {A = ℕ} 15 0). omega arith) (short (rw length-replicate (omega arith)))
 
 -- A schedule at the front of a list.
@@ -94,8 +85,9 @@ front-same R s l l′ e = take-at s l′ (jobs R) e ∙ sym (take-at s l (jobs R
 
 pub search-alike : (budget : ℕ) (R : Recorder) (own own′ : List ℕ) (a : Answer) (after : List ℕ) → jobs R ≤ length own → jobs R ≤ length own′
     → SearchOf budget own R a after → (after′ : List ℕ) × SearchOf budget own′ R a after′ × (a .number ≡ 0 → take (jobs R) after′ ≡ take (jobs R) after)
-search-alike budget R own own′ a after h h′ (P.SearchOf.short s) = absurd (omega arith)
-search-alike budget R own own′ a after h h′ (P.SearchOf.over s b) = (own′, P.SearchOf.over h′ b, λ (z : _≡_ {A = ℕ} 20 0). absurd (omega arith))
-search-alike budget R own own′ a after h h′ (P.SearchOf.none s b f) = (own′, P.SearchOf.none h′ b f, λ (z : _≡_ {A = ℕ} 19 0). absurd (omega arith))
-search-alike budget R own own′ a after h h′ (P.SearchOf.found {s = s} r b f) =
-    (s ++ drop (jobs R) own′, P.SearchOf.found h′ b f, λ z. front-same R s (drop (jobs R) own) (drop (jobs R) own′) (f .feasible .one-each))
+search-alike budget R own own′ a after h h′ (stops s) = absurd (omega arith)
+search-alike budget R own own′ a after h h′ (passes r (stops b)) = (own′, unless-enough h′ (stops b), λ (z : _≡_ {A = ℕ} 20 0). absurd (omega arith))
+search-alike budget R own own′ a after h h′ (passes r (passes b (stops f))) =
+    (own′, unless-enough h′ (passes b (stops f)), λ (z : _≡_ {A = ℕ} 19 0). absurd (omega arith))
+search-alike budget R own own′ a after h h′ (passes r (passes b (passes n (found {s = s} f)))) =
+    (s ++ drop (jobs R) own′, unless-enough h′ (passes b (passes n (found f))), λ z. front-same R s (drop (jobs R) own) (drop (jobs R) own′) (f .feasible .one-each))

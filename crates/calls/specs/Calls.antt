@@ -41,16 +41,26 @@ abbrev pub SizesCalled : (file lent result : List ℕ) (n : ℕ) (lent′ result
 SizesCalled file lent result n lent′ result′ =
     Called file result lent (λ R a l. Roomed result lent (SizesOf (tablesOf file .tasks .count) lent R) a l) n result′ lent′
 
+-- ---- numbers that cross as bytes
+
+-- An operation that fills places with numbers is handed empty ones, as many as the lent bytes have room for. Where it succeeds its numbers are written to the
+-- bytes; a refusal writes nothing.
+pub data Spelled {P L : Type 0} (lent : L) (written : Answer → P → L) (Then : Answer → P → Type 0) : Answer → L → Type 0 where
+  kept : {a : Answer} {places : P} → (a .number ≡ 0 → ⊥) → Then a places → Spelled lent written Then a lent
+  given : {a : Answer} {places : P} → a .number ≡ 0 → Then a places → Spelled lent written Then a (written a places)
+
 -- ---- a plan's start times: the lent bytes hold as many as they have pairs; the plan's go to the first of them, and nothing else is written (rule 73)
 
 abbrev pub blank : List ℕ → List ℕ
 blank lent = replicate (length lent / 2) 0
 
+-- The first n start times of a list, two bytes each; what is lent beyond stays as it was.
+abbrev pub twos : List ℕ → ℕ → List ℕ → List ℕ
+twos starts n lent = spread (take n starts) ++ drop (n * 2) lent
+
 -- `Plans` says what is planned where numbers are lent.
-pub data StartsOf (Plans : List ℕ → Recorder → Answer → List ℕ → Type 0) (lent : List ℕ) (R : Recorder) : Answer → List ℕ → Type 0 where
-  kept : {a : Answer} {starts : List ℕ} → (a .number ≡ 0 → ⊥) → Plans (blank lent) R a starts → StartsOf Plans lent R a lent
-  given : {a : Answer} {starts : List ℕ} → a .number ≡ 0 → Plans (blank lent) R a starts
-      → StartsOf Plans lent R a (spread (take (jobs R) starts) ++ drop (jobs R * 2) lent)
+unfoldable pub StartsOf : (Plans : List ℕ → Recorder → Answer → List ℕ → Type 0) (lent : List ℕ) → Recorder → Answer → List ℕ → Type 0
+StartsOf Plans lent R = Spelled lent (λ a s. twos s (jobs R) lent) (Plans (blank lent) R)
 
 abbrev pub StartsCalled : (Plans : List ℕ → Recorder → Answer → List ℕ → Type 0) (file lent result : List ℕ) (n : ℕ) (lent′ result′ : List ℕ) → Type 0
 StartsCalled Plans file lent result n lent′ result′ =

@@ -5,7 +5,7 @@ use Prim.Native.Nat.{ℕ}
 use native.Mathlib.Omega.{arith}
 use lib.ListN.{drop}
 use Rattle.planner.specs.Promises.{Refused}
-use Rattle.planner.proofs.Only.{not-both}
+use Rattle.planner.proofs.Reading.{not-both}
 use Rattle.faults.specs.declared.PlaceFault.{PlaceFault}
 use Rattle.faults.proofs.Only.{only-fault, only-tables-fault, fault-refused}
 use Rattle.table_bytes.specs.TableBytes.{tablesFrom}

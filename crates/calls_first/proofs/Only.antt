@@ -9,4 +9,4 @@ use Rattle.calls_first.specs.FirstCall.{FirstCalled}
 
 pub only-first-called : (file lent result : List ℕ) {n n′ : ℕ} {l l′ r r′ : List ℕ}
     → FirstCalled file lent result n l r → FirstCalled file lent result n′ l′ r′ → (n ≡ n′) × (r ≡ r′) × (l ≡ l′)
-only-first-called = only-starts-called FirstOf (λ lent R v a a′ l l′. one-plan lent R)
+only-first-called = only-starts-called FirstOf (λ lent R v. one-plan lent R)

@@ -14,10 +14,10 @@ abbrev pub uncounted : Answer → Answer
 uncounted a = record { number = a .number; job = a .job; horizon = a .horizon; energy = a .energy; count = 0 }
 
 told-of : (budget : ℕ) (lent : List ℕ) (R : Recorder) {a : Answer} {l : List ℕ} → SearchOf budget lent R a l → Enough a → Told lent R (uncounted a) l
-told-of budget lent R (S.SearchOf.short h) n = Told.short h
-told-of budget lent R (S.SearchOf.over h b) n = absurd (n refl)
-told-of budget lent R (S.SearchOf.none h b f) n = Told.none h f
-told-of budget lent R (S.SearchOf.found h b f) n = Told.found h f
+told-of budget lent R (S.stops h) n = S.stops h
+told-of budget lent R (S.passes h (S.stops b)) n = absurd (n refl)
+told-of budget lent R (S.passes h (S.passes b (S.stops f))) n = S.passes h (S.stops f)
+told-of budget lent R (S.passes h (S.passes b (S.passes f (S.found g)))) n = S.passes h (S.passes f (S.found g))
 
 search-told : (file : List ℕ) (budget : ℕ) (lent : List ℕ) {a : Answer} {l : List ℕ}
     → Searched file budget lent a l → Enough a → OfFile file lent (Told lent) (uncounted a) l

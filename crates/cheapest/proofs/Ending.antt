@@ -15,7 +15,8 @@ use Rattle.schedule.specs.Visiting.{planEnergy}
 use Rattle.latest.specs.inside.Latest.{latestOf, Laid}
 use Rattle.latest.proofs.Feasibility.{feasible-latest, latest-feasible}
 use Rattle.planner.specs.declared.Answer.{Answer}
-use Rattle.planner.specs.Promises.{success, refusal, refusalAfter}
+use Rattle.planner.specs.Promises.{success, refusal, refusalAfter, stops, found}
+use Rattle.planner.proofs.Refusing.{unless-enough, unless-some}
 use Rattle.least.specs.inside.Outcome as O
 use Rattle.least.specs.Effort.{mostVertices}
 use Rattle.least.specs.inside.Outcome.{ReadOff}
@@ -35,7 +36,7 @@ module _ (R : Recorder) (valid : Valid R) where
 
     pub is-none : (budget : ℕ) (lent : List ℕ) → jobs R ≤ length lent → ltb 0 (getD table (2 ^ jobs R - 1) 0) ≡ false → LeastOf budget lent R (refusal 19) lent
     is-none budget lent room q =
-        P.LeastOf.none room (λ s f. omega (arith, ltb-false 0 (getD table (2 ^ jobs R - 1) 0) q, all-jobs, feasible-latest R valid s f))
+        unless-enough room (stops (λ s f. omega (arith, ltb-false 0 (getD table (2 ^ jobs R - 1) 0) q, all-jobs, feasible-latest R valid s f)))
 
   -- ---- the search, which left l
 
@@ -45,7 +46,7 @@ module _ (R : Recorder) (valid : Valid R) where
     over-most (O.ReadOff.over h) e = h
 
     pub is-over : {x : Bool} → ReadOff R budget l x → x ≡ false → 0 < latestOf R (2 ^ jobs R - 1) → LeastOf budget lent R (refusalAfter 20 budget) lent
-    is-over r e q = P.LeastOf.over room (latest-feasible R valid q .1) (over-most r e)
+    is-over r e q = unless-enough room (unless-some (latest-feasible R valid q .1) (P.OverOrLeast.over (over-most r e)))
 
     pub read-least : {x : Bool} → ReadOff R budget l x → x ≡ true → FirstLeast R (take (jobs R) l) (planEnergy R (take (jobs R) l))
     read-least (O.ReadOff.read f) e = f
@@ -60,4 +61,4 @@ module _ (R : Recorder) (valid : Valid R) where
         → after ≡ take (jobs R) l ++ drop (length (take (jobs R) l)) lent → LeastOf budget lent R a after
     is-found r e a after given wrote =
         let f = read-least r e in
-        rw (given, wrote, f .feasible .one-each) (P.LeastOf.found room f)
+        rw (given, wrote, f .feasible .one-each) (unless-enough room (unless-some (f .feasible) (P.OverOrLeast.least (found f))))

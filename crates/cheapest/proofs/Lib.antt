@@ -1,3 +1,4 @@
 pub mod Only
+pub mod Cases
 pub mod Beside
 pub mod Ending

@@ -1,22 +1,22 @@
 -- No second outcome satisfies the promise of `least_plan`, but for its 20: of one file and one lent list all outcomes that are no 20 are the same, also with two
 -- memories, which the promise does not name, or with two budgets; and two outcomes of 20 with one budget are the same.
-use mathlib.Core.Path.{_≡_, refl, sym, _∙_, subst}
+use mathlib.Core.Path.{_≡_, refl, sym, _∙_}
 use mathlib.Core.Logic.{_↔_}
-use mathlib.Core.List.{List, _++_}
+use mathlib.Core.List.{List}
 use Prim.Native.Nat.{ℕ, _≤_, _<_}
 use native.Mathlib.Omega.{arith}
-use lib.ListN.{length, drop}
+use lib.ListN.{length}
 use Rattle.schedule.specs.declared.Recorder.{Recorder}
 use Rattle.schedule.specs.Quantities.{jobs, Valid}
-use Rattle.schedule.specs.Listing.{Feasible, FirstLeast}
-use Rattle.schedule.proofs.Outcome.{one-first-least}
+use Rattle.schedule.specs.Listing.{Feasible}
 use Rattle.planner.specs.declared.Answer.{Answer}
 use Rattle.planner.specs.Promises as Frame
-use Rattle.planner.specs.Promises.{success, refusal, refusalAfter, Reads, OfFile}
-use Rattle.planner.proofs.Only.{only-of-file, same-recorder, not-both}
+use Rattle.planner.specs.Promises.{refusal, refusalAfter, Unless, stops, passes, Reads, OfFile, GivesLeast, found}
+use Rattle.planner.proofs.Reading.{outcome-of}
+use Rattle.planner.proofs.Refusing.{One, one-unless}
+use Rattle.planner.proofs.Only.{only-of-file, one-least}
 use Rattle.least.specs.Effort.{mostVertices}
-use Rattle.cheapest.specs.Promises as P
-use Rattle.cheapest.specs.Promises.{LeastOf, LeastPlanned}
+use Rattle.cheapest.specs.Promises.{over, least, LeastOf, LeastPlanned}
 
 -- It was not given up.
 abbrev pub Enough : Answer → Type 0
@@ -25,34 +25,23 @@ Enough a = a .number ≡ 20 → ⊥
 -- ---- what is not given up
 
 -- The outcomes that no budget decides.
-pub data Told (lent : List ℕ) (R : Recorder) : Answer → List ℕ → Type 0 where
-  short : length lent < jobs R → Told lent R (refusal 15) lent
-  none : jobs R ≤ length lent → ((s : List ℕ) → Feasible R s → ⊥) → Told lent R (refusal 19) lent
-  found : {s : List ℕ} {e : ℕ} → jobs R ≤ length lent → FirstLeast R s e → Told lent R (success (R .horizon) e 0) (s ++ drop (jobs R) lent)
+abbrev pub Told : (lent : List ℕ) → Recorder → Answer → List ℕ → Type 0
+Told lent R =
+    Unless (length lent < jobs R) (refusal 15) lent
+    (Unless ((s : List ℕ) → Feasible R s → ⊥) (refusal 19) lent
+    (GivesLeast R 0 lent))
 
-pub one-told : (lent : List ℕ) (R : Recorder) → Valid R → {a a′ : Answer} {l l′ : List ℕ} → Told lent R a l → Told lent R a′ l′ → (a ≡ a′) × (l ≡ l′)
-one-told lent R v (Told.short h) (Told.short h′) = (refl, refl)
-one-told lent R v (Told.short h) (Told.none h′ n′) = absurd (omega arith)
-one-told lent R v (Told.short h) (Told.found h′ f′) = absurd (omega arith)
-one-told lent R v (Told.none h n) (Told.short h′) = absurd (omega arith)
-one-told lent R v (Told.none h n) (Told.none h′ n′) = (refl, refl)
-one-told lent R v (Told.none h n) (Told.found {s = s} h′ f′) = absurd (n s (f′ .feasible))
-one-told lent R v (Told.found h f) (Told.short h′) = absurd (omega arith)
-one-told lent R v (Told.found {s = s} h f) (Told.none h′ n′) = absurd (n′ s (f .feasible))
-one-told lent R v (Told.found h f) (Told.found h′ f′) =
-    let p = one-first-least R v f f′ in
-    let a = p .0 in
-    let b = p .1 in
-    (cc, cc)
+pub one-told : (lent : List ℕ) (R : Recorder) → Valid R → One (Told lent R)
+one-told lent R v = one-unless (one-unless (one-least R v 0 lent))
 
 pub only-told : (file lent : List ℕ) {a a′ : Answer} {l l′ : List ℕ} → OfFile file lent (Told lent) a l → OfFile file lent (Told lent) a′ l′ → (a ≡ a′) × (l ≡ l′)
-only-told file lent = only-of-file file lent (Told lent) (λ R v a a′ l l′. one-told lent R v)
+only-told file lent = only-of-file file lent (Told lent) (one-told lent)
 
 pub told-of : (budget : ℕ) (lent : List ℕ) (R : Recorder) {a : Answer} {l : List ℕ} → LeastOf budget lent R a l → Enough a → Told lent R a l
-told-of budget lent R (P.LeastOf.short h) n = Told.short h
-told-of budget lent R (P.LeastOf.none h f) n = Told.none h f
-told-of budget lent R (P.LeastOf.over h f b) n = absurd (n refl)
-told-of budget lent R (P.LeastOf.found h f) n = Told.found h f
+told-of budget lent R (stops h) n = stops h
+told-of budget lent R (passes h (stops f)) n = passes h (stops f)
+told-of budget lent R (passes h (passes f (over b))) n = absurd (n refl)
+told-of budget lent R (passes h (passes f (least g))) n = passes h (passes f g)
 
 pub least-told : (file : List ℕ) (budget : ℕ) (lent : List ℕ) {a : Answer} {l : List ℕ} → LeastPlanned file budget lent a l → Enough a → OfFile file lent (Told lent) a l
 least-told file budget lent (Frame.OfFile.refused r) n = Frame.OfFile.refused r
@@ -71,10 +60,10 @@ pub record Over (budget : ℕ) (lent : List ℕ) (a : Answer) (l : List ℕ) : T
   pub kept : l ≡ lent
 
 pub over-of : (budget : ℕ) (lent : List ℕ) (R : Recorder) {a : Answer} {l : List ℕ} → LeastOf budget lent R a l → a .number ≡ 20 → Over budget lent a l
-over-of budget lent R (P.LeastOf.short h) e = absurd (omega arith)
-over-of budget lent R (P.LeastOf.none h f) e = absurd (omega arith)
-over-of budget lent R (P.LeastOf.over h f b) e = record { answer = refl; kept = refl }
-over-of budget lent R (P.LeastOf.found h f) e = absurd (omega arith)
+over-of budget lent R (stops h) e = absurd (omega arith)
+over-of budget lent R (passes h (stops f)) e = absurd (omega arith)
+over-of budget lent R (passes h (passes f (over b))) e = record { answer = refl; kept = refl }
+over-of budget lent R (passes h (passes f (least (found g)))) e = absurd (omega arith)
 
 pub one-over : (budget : ℕ) (lent : List ℕ) {a a′ : Answer} {l l′ : List ℕ} → Over budget lent a l → Over budget lent a′ l′ → (a ≡ a′) × (l ≡ l′)
 one-over budget lent o o′ = (o .answer ∙ sym (o′ .answer), o .kept ∙ sym (o′ .kept))
@@ -92,26 +81,22 @@ only-given-up file budget lent p p′ e e′ =
 -- ---- of a file that is read as a recorder
 
 module _ (file : List ℕ) (budget : ℕ) (lent : List ℕ) (R : Recorder) (reads : Reads file R) where
-  pub of-recorder : {a : Answer} {l : List ℕ} → LeastPlanned file budget lent a l → LeastOf budget lent R a l
-  of-recorder (Frame.OfFile.refused r) = absurd (not-both file r reads)
-  of-recorder (Frame.OfFile.read {a = a} {after = l} r t) = subst (λ (X : Recorder). LeastOf budget lent X a l) (same-recorder file r reads) t
-
   -- With a budget of all the vertices that can be needed it is never given up.
   pub all-enough : mostVertices R ≤ budget → {a : Answer} {l : List ℕ} → LeastPlanned file budget lent a l → Enough a
-  all-enough h p = go (of-recorder p)
+  all-enough h p = go (outcome-of file lent (LeastOf budget lent) reads p)
     where
       go : {a : Answer} {l : List ℕ} → LeastOf budget lent R a l → Enough a
-      go (P.LeastOf.short h) e = omega arith
-      go (P.LeastOf.none h f) e = omega arith
-      go (P.LeastOf.over k f b) e = omega arith
-      go (P.LeastOf.found h f) e = omega arith
+      go (stops k) e = omega arith
+      go (passes k (stops f)) e = omega arith
+      go (passes k (passes f (over b))) e = omega arith
+      go (passes k (passes f (least (found g)))) e = omega arith
 
   -- With room for the starts, 19 is the answer exactly if there is no feasible schedule, whatever the budget.
   pub none-exactly : jobs R ≤ length lent → {a : Answer} {l : List ℕ} → LeastPlanned file budget lent a l → (a .number ≡ 19) ↔ ((s : List ℕ) → Feasible R s → ⊥)
-  none-exactly room p = go (of-recorder p)
+  none-exactly room p = go (outcome-of file lent (LeastOf budget lent) reads p)
     where
       go : {a : Answer} {l : List ℕ} → LeastOf budget lent R a l → (a .number ≡ 19) ↔ ((s : List ℕ) → Feasible R s → ⊥)
-      go (P.LeastOf.short h) = absurd (omega arith)
-      go (P.LeastOf.none h f) = ((λ e. f), (λ g. refl))
-      go (P.LeastOf.over {s = s} h f b) = ((λ e. absurd (omega arith)), (λ g. absurd (g s f)))
-      go (P.LeastOf.found {s = s} h f) = ((λ e. absurd (omega arith)), (λ g. absurd (g s (f .feasible))))
+      go (stops h) = absurd (omega arith)
+      go (passes h (stops f)) = ((λ e. f), (λ g. refl))
+      go (passes h (passes f (over b))) = ((λ e. absurd (omega arith)), (λ g. absurd (f g)))
+      go (passes h (passes f (least (found g)))) = ((λ e. absurd (omega arith)), (λ n. absurd (f n)))

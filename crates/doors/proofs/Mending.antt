@@ -14,8 +14,7 @@ use Rattle.mend.specs.Promises.{Lent, lending, Room, MendOf}
 use Rattle.mend.specs.Promises as M
 use Rattle.mend.proofs.Moves.{moves-few}
 use Rattle.calls.specs.Bytes.{spread}
-use Rattle.calls.specs.Calls.{blank}
-use Rattle.doorway.specs.Doors.{kept, given, twos}
+use Rattle.calls.specs.Calls.{kept, given, blank, twos}
 use Rattle.doorway.specs.inside.Handing.{Handed}
 use Rattle.doorway.proofs.Opening.{spelled-all}
 use Rattle.doors.specs.Promises.{MendSpelled}

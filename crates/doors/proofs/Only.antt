@@ -1,14 +1,14 @@
 -- No second outcome satisfies what a door promises: for every input one number, and one state of every lent byte.
-use mathlib.Core.Path.{_≡_, refl, ap, _∙_}
-use mathlib.Core.List.{List, _++_}
+use mathlib.Core.Path.{_≡_, refl, subst}
+use mathlib.Core.List.{List}
 use Prim.Native.Nat.{ℕ, _*_}
 use lib.IntN.{pos}
-use native.Mathlib.Omega.{arith}
-use lib.ListN.{length, getD, drop}
+use lib.ListN.{getD}
 use Rattle.schedule.specs.Quantities.{jobs}
 use Rattle.planner.specs.declared.Answer.{Answer}
 use Rattle.planner.specs.declared.FileTables.{FileTables}
-use Rattle.planner.specs.Promises.{success, OfFile, Judged, MarginsOf, Written}
+use Rattle.planner.specs.Promises.{OfFile, Judged, MarginsOf, Written}
+use Rattle.planner.proofs.Refusing.{one-unless, one-gives}
 use Rattle.planner.proofs.Only.{only-judged, only-margined, only-written, only-listed}
 use Rattle.catalogue.specs.Building.{Built}
 use Rattle.catalogue.proofs.Only.{only-built}
@@ -20,12 +20,11 @@ use Rattle.stepper.specs.Promises.{StepsOf}
 use Rattle.stepper.proofs.Only.{only-stepped-through}
 use Rattle.sheet.specs.Promises.{ImportedDevices, ImportedJobs, ExportedDevices, ExportedJobs, ExportedPlan}
 use Rattle.sheet.proofs.Only.{only-imported-devices, only-imported-jobs, only-exported-devices, only-exported-jobs, only-exported-plan}
-use Rattle.calls.specs.Calls.{blank}
-use Rattle.table_bytes.specs.TableBytes.{tablesFrom, tableBytes}
-use Rattle.doorway.specs.Doors.{startsOf, twos, fours}
+use Rattle.calls.specs.Calls.{blank, twos}
+use Rattle.table_bytes.specs.TableBytes.{tablesFrom}
+use Rattle.doorway.specs.Doors.{startsOf, fours}
 use Rattle.doorway.proofs.Opening.{only-door, only-spelled}
-use Rattle.doors.specs.Promises.{complement, emptyMargins, VerdictDoor, MarginsSpelled, MarginsDoor, PossibleSpelled, PossibleDoor, MendSpelled, MendDoor, WriteDoor, othersFrom, BuildDoor, TablesTold, TablesDoor, emptyEnergies, StepsSpelled, StepDoor, ImportDevicesDoor, ImportJobsDoor, ExportDevicesDoor, ExportJobsDoor, ExportPlanDoor}
-use Rattle.doors.specs.Promises as D
+use Rattle.doors.specs.Promises.{complement, emptyMargins, VerdictDoor, MarginsSpelled, MarginsDoor, PossibleSpelled, PossibleDoor, MendSpelled, MendDoor, WriteDoor, othersFrom, BuildDoor, ToldOf, TablesTold, told, TablesDoor, emptyEnergies, StepsSpelled, StepDoor, ImportDevicesDoor, ImportJobsDoor, ExportDevicesDoor, ExportJobsDoor, ExportPlanDoor}
 
 pub only-verdict-door : (file starts result : List ℕ) {n n′ : ℕ} {r r′ : List ℕ}
     → VerdictDoor file starts result n r → VerdictDoor file starts result n′ r′ → (n ≡ n′) × (r ≡ r′)
@@ -58,23 +57,8 @@ only-mend-door file starts lent result =
 
 -- What is told of a file's tables goes by its one listing.
 one-told : (file lent : List ℕ) {a a′ : Answer} {l l′ : List ℕ} → TablesTold file lent a l → TablesTold file lent a′ l′ → (a ≡ a′) × (l ≡ l′)
-one-told file lent (D.TablesTold.refused p n) (D.TablesTold.refused p′ n′) = (ap (λ (r : FileTables). r .answer) (only-listed file p p′), refl)
-one-told file lent (D.TablesTold.refused p n) (D.TablesTold.short p′ z′ h′) = absurd (n (ap (λ (r : FileTables). r .answer .number) (only-listed file p p′) ∙ z′))
-one-told file lent (D.TablesTold.refused p n) (D.TablesTold.given p′ z′ h′) = absurd (n (ap (λ (r : FileTables). r .answer .number) (only-listed file p p′) ∙ z′))
-one-told file lent (D.TablesTold.short p z h) (D.TablesTold.refused p′ n′) = absurd (n′ (ap (λ (r : FileTables). r .answer .number) (only-listed file p′ p) ∙ z))
-one-told file lent (D.TablesTold.short p z h) (D.TablesTold.short p′ z′ h′) = (refl, refl)
-one-told file lent (D.TablesTold.short p z h) (D.TablesTold.given p′ z′ h′) =
-    let e = ap (λ (r : FileTables). length (tableBytes (r .tables))) (only-listed file p p′) in
-    absurd (omega (arith, e, h, h′))
-one-told file lent (D.TablesTold.given p z h) (D.TablesTold.refused p′ n′) = absurd (n′ (ap (λ (r : FileTables). r .answer .number) (only-listed file p′ p) ∙ z))
-one-told file lent (D.TablesTold.given p z h) (D.TablesTold.short p′ z′ h′) =
-    let e = ap (λ (r : FileTables). length (tableBytes (r .tables))) (only-listed file p p′) in
-    absurd (omega (arith, e, h, h′))
-one-told file lent (D.TablesTold.given p z h) (D.TablesTold.given p′ z′ h′) =
-    let e = only-listed file p p′ in (
-      ap (λ (r : FileTables). success (r .answer .horizon) 0 (length (tableBytes (r .tables)))) e,
-      ap (λ (r : FileTables). tableBytes (r .tables) ++ drop (length (tableBytes (r .tables))) lent) e,
-    )
+one-told file lent (told {a = a} {after = l} p t) (told {a = a′} {after = l′} p′ t′) =
+    one-unless (one-unless one-gives) a a′ l l′ t (subst (λ (r : FileTables). ToldOf r lent a′ l′) (only-listed file p′ p) t′)
 
 module _ {n n′ : ℕ} {l l′ r r′ : List ℕ} where
   pub only-write-door : (tables lent result : List ℕ) → WriteDoor tables lent result n l r → WriteDoor tables lent result n′ l′ r′ → (n ≡ n′) × (r ≡ r′) × (l ≡ l′)

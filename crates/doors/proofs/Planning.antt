@@ -15,9 +15,8 @@ use Rattle.doorway.proofs.Opening.{judged-all}
 
 many-refused : (file s : List ℕ) → 16 < length s → {a : Answer} → Judged file s a → a .number ≡ 0 → ⊥
 many-refused file s h (P.OfFile.refused {n = n} r) z = omega (arith, z, refused-number file n r)
-many-refused file s h (P.OfFile.read {R = R} r (P.VerdictOf.unequal u)) z = omega (arith, z)
-many-refused file s h (P.OfFile.read {R = R} r (P.VerdictOf.faulty e f)) z = omega (arith, e, h, accepted-valid file R r .few-jobs)
-many-refused file s h (P.OfFile.read {R = R} r (P.VerdictOf.feasible g c)) z = omega (arith, g .one-each, h, accepted-valid file R r .few-jobs)
+many-refused file s h (P.OfFile.read {R = R} r (P.stops u)) z = omega (arith, z)
+many-refused file s h (P.OfFile.read {R = R} r (P.passes e t)) z = e (λ q. omega (arith, q, h, accepted-valid file R r .few-jobs))
 
 pub plan-all : (file lent : List ℕ) {all some : List ℕ} → Handed all some → {a : Answer} {l : List ℕ} → ExportedPlan file some lent a l → ExportedPlan file all lent a l
 plan-all file lent whole p = p

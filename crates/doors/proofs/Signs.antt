@@ -11,10 +11,6 @@ use mir.Syntax.{w32, w64}
 use mir.Val.{Fits, SFits}
 use Rattle.doors.specs.Promises.{complement}
 
-pub size-pos : (z : ℤ) → SFits w32 z → ltZ z (pos 0) ≡ false → T (nonNeg z) × Fits w64 (natAbs z)
-size-pos (pos n) f e = (tt, record { fits = omega (arith, f .sfits) })
-size-pos (negsuc n) f e = absurd (true≢false e)
-
 pub record Raised (z : ℤ) : Type 0 where
   pub wide : SFits w64 z
   pub fits : SFits w64 (z +ℤ pos 4294967296)

@@ -16,7 +16,8 @@ use Rattle.planner.specs.Promises.{success, passes, feasible, gives, OfFile}
 use Rattle.planner.proofs.Refusing.{unless-met, faulty-met, unless-kept, faulty-kept, unless-alike, gives-is}
 use Rattle.stepper.specs.Promises.{Unfit, Brief, StepsOf}
 use Rattle.stepper.proofs.Fitting.{past}
-use Rattle.doorway.specs.Doors.{kept, given, fours}
+use Rattle.calls.specs.Calls.{kept, given}
+use Rattle.doorway.specs.Doors.{fours}
 use Rattle.doorway.specs.inside.Handing.{Handed}
 use Rattle.doorway.proofs.Opening.{spelled-all}
 use Rattle.doorway.proofs.Fours.{fours-same}

@@ -10,15 +10,15 @@ use Rattle.schedule.specs.declared.Recorder.{Recorder}
 use Rattle.schedule.specs.Quantities.{jobs}
 use Rattle.planner.specs.declared.Answer.{Answer}
 use Rattle.planner.specs.declared.FileTables.{FileTables}
-use Rattle.planner.specs.Promises.{success, refusal, OfFile, Judged, MarginsOf, Written, TablesGiven}
+use Rattle.planner.specs.Promises.{success, refusal, Unless, Gives, OfFile, Judged, MarginsOf, Written, TablesGiven}
 use Rattle.catalogue.specs.Building.{Others, others, Built}
 use Rattle.possible.specs.Promises.{PossibleOf}
 use Rattle.mend.specs.Promises.{Lent, lending, MendOf}
 use Rattle.stepper.specs.Promises.{StepsOf}
 use Rattle.sheet.specs.Promises.{ImportedDevices, ImportedJobs, ExportedDevices, ExportedJobs, ExportedPlan}
-use Rattle.calls.specs.Calls.{blank}
+use Rattle.calls.specs.Calls.{Spelled, blank, twos}
 use Rattle.table_bytes.specs.TableBytes.{AreTables, tablesFrom, tableBytes}
-use Rattle.doorway.specs.Doors.{Door, Roomy, Paired, startsOf, Spelled, twos, fours}
+use Rattle.doorway.specs.Doors.{Door, Roomy, Paired, startsOf, fours}
 
 -- ---- `door_verdict`
 
@@ -79,12 +79,15 @@ BuildDoor catalogue wanted tables lent result n lent′ result′ =
 
 -- ---- `door_tables`: the file's refusal; or the bytes of its tables, which the answer counts, and 15 where they have no room. What is lent beyond stays as it was
 
+abbrev pub ToldOf : (r : FileTables) (lent : List ℕ) → Answer → List ℕ → Type 0
+ToldOf r lent =
+    let bytes = tableBytes (r .tables) in
+    Unless (r .answer .number ≡ 0 → ⊥) (r .answer) lent
+    (Unless (length lent < length bytes) (refusal 15) lent
+    (Gives (success (r .answer .horizon) 0 (length bytes)) (bytes ++ drop (length bytes) lent)))
+
 pub data TablesTold (file lent : List ℕ) : Answer → List ℕ → Type 0 where
-  refused : {r : FileTables} → TablesGiven file r → (r .answer .number ≡ 0 → ⊥) → TablesTold file lent (r .answer) lent
-  short : {r : FileTables} → TablesGiven file r → r .answer .number ≡ 0 → length lent < length (tableBytes (r .tables)) → TablesTold file lent (refusal 15) lent
-  given : {r : FileTables} → TablesGiven file r → r .answer .number ≡ 0 → length (tableBytes (r .tables)) ≤ length lent
-      → TablesTold file lent (success (r .answer .horizon) 0 (length (tableBytes (r .tables))))
-      (tableBytes (r .tables) ++ drop (length (tableBytes (r .tables))) lent)
+  told : {r : FileTables} {a : Answer} {after : List ℕ} → TablesGiven file r → ToldOf r lent a after → TablesTold file lent a after
 
 abbrev pub TablesDoor : (file lent result : List ℕ) → ℕ → List ℕ → List ℕ → Type 0
 TablesDoor file lent result n lent′ result′ = Door (Roomy result) result lent (TablesTold file lent) n result′ lent′

@@ -17,11 +17,13 @@ use Rattle.request.proofs.Accepted.{accepted-valid, refused-number}
 use Rattle.planner.specs.declared.Answer.{Answer}
 use Rattle.planner.specs.Promises.{OfFile, refused, read, VerdictOf, Judged, MarginsOf}
 use Rattle.planner.specs.Promises as P
-use Rattle.planner.proofs.Only.{same-recorder, not-both}
+use Rattle.planner.proofs.Reading.{same-recorder, not-both}
+use Rattle.planner.proofs.Refusing.{One, unless-alike}
 use Rattle.calls.specs.Bytes.{spread, startsIn}
-use Rattle.calls.specs.Calls.{told}
+use Rattle.calls.specs.Calls.{told, Spelled, kept, given, twos}
 use Rattle.calls.proofs.Crossing.{own-starts}
-use Rattle.doorway.specs.Doors.{Door, shut, answered, startsOf, twos, Spelled, kept, given}
+use Rattle.calls.proofs.Only.{one-spelled}
+use Rattle.doorway.specs.Doors.{Door, shut, answered, startsOf}
 use Rattle.doorway.specs.inside.Handing.{Handed, whole, many}
 
 -- An open door, by what is told.
@@ -30,10 +32,6 @@ pub answered-as : {L Open : Type 0} (result : List ℕ) (lent : L) (Then : Answe
 answered-as result lent Then m e o t = rw (m, e) (answered o t)
 
 -- ---- no second outcome
-
--- What an operation's outcome is, is one.
-abbrev pub One : {L : Type 0} → (Answer → L → Type 0) → Type 0
-One {L} Then = (a a′ : Answer) (l l′ : L) → Then a l → Then a′ l′ → (a ≡ a′) × (l ≡ l′)
 
 pub only-door : {L Open : Type 0} (result : List ℕ) (lent : L) (Then : Answer → L → Type 0) → One Then
     → {n n′ : ℕ} {r r′ : List ℕ} {l l′ : L} → Door Open result lent Then n r l → Door Open result lent Then n′ r′ l′ → (n ≡ n′) × (r ≡ r′) × (l ≡ l′)
@@ -44,28 +42,14 @@ only-door result lent Then one (answered {a = a} {after = l} o t) (answered {a =
     let e = one a a′ l l′ t t′ in
     (ap (λ (b : Answer). b .number) (e .0), ap (λ (b : Answer). told b result) (e .0), e .1)
 
--- What is given or kept goes by the number of the answer.
-pub one-spelled : {P L : Type 0} (lent : L) (written : Answer → P → L) (Then : Answer → P → Type 0) → One Then
-    → {a a′ : Answer} {l l′ : L} → Spelled lent written Then a l → Spelled lent written Then a′ l′ → (a ≡ a′) × (l ≡ l′)
-one-spelled lent written Then one (kept {a = a} {places = p} n t) (kept {a = a′} {places = p′} n′ t′) = (one a a′ p p′ t t′ .0, refl)
-one-spelled lent written Then one (kept {a = a} {places = p} n t) (given {a = a′} {places = p′} z′ t′) =
-    absurd (n (ap (λ (b : Answer). b .number) (one a a′ p p′ t t′ .0) ∙ z′))
-one-spelled lent written Then one (given {a = a} {places = p} z t) (kept {a = a′} {places = p′} n′ t′) =
-    absurd (n′ (sym (ap (λ (b : Answer). b .number) (one a a′ p p′ t t′ .0)) ∙ z))
-one-spelled lent written Then one (given {a = a} {places = p} z t) (given {a = a′} {places = p′} z′ t′) =
-    let e = one a a′ p p′ t t′ in
-    let b = e .0 in
-    let q = e .1 in
-    (b, cc)
-
--- So what is spelled for a file is one thing, if what its operation fills is.
+-- What is spelled for a file is one thing, if what its operation fills is.
 pub only-spelled : {P L : Type 0} (file : List ℕ) (places : P) (lent : L) (Then : Recorder → Answer → P → Type 0) (written : Recorder → Answer → P → L)
     → One (OfFile file places Then) → One (OfFile file lent (λ R. Spelled lent (written R) (Then R)))
 only-spelled file places lent Then written one a a′ l l′ (refused r) (refused r′) = (one _ _ places places (refused r) (refused r′) .0, refl)
 only-spelled file places lent Then written one a a′ l l′ (refused r) (read r′ t′) = absurd (not-both file r r′)
 only-spelled file places lent Then written one a a′ l l′ (read r t) (refused r′) = absurd (not-both file r′ r)
 only-spelled file places lent Then written one a a′ l l′ (read {R = R} r t) (read r′ t′) =
-    one-spelled lent (written R) (Then R) (λ b b′ p p′ x x′. one b b′ p p′ (read r x) (read r x′)) t
+    one-spelled lent (written R) (Then R) (λ b b′ p p′ x x′. one b b′ p p′ (read r x) (read r x′)) a a′ l l′ t
     (subst (λ (X : Recorder). Spelled lent (written X) (Then X) a′ l′) (same-recorder file r′ r) t′)
 
 -- ---- start times
@@ -116,18 +100,14 @@ spelled-all file lent written Then more h p =
 
 -- The verdict and the margins.
 many-verdict : (R : Recorder) → Valid R → (s s′ : List ℕ) → 16 < length s → 16 < length s′ → {a : Answer} → VerdictOf s R a → VerdictOf s′ R a
-many-verdict R v s s′ h h′ (P.VerdictOf.unequal u) = P.VerdictOf.unequal (λ e. omega (arith, e, h′, v .few-jobs))
-many-verdict R v s s′ h h′ (P.VerdictOf.faulty e f) = absurd (omega (arith, e, h, v .few-jobs))
-many-verdict R v s s′ h h′ (P.VerdictOf.feasible g c) = absurd (omega (arith, g .one-each, h, v .few-jobs))
+many-verdict R v s s′ h h′ = unless-alike (λ e. omega (arith, e, h, v .few-jobs)) (λ e. omega (arith, e, h′, v .few-jobs))
 
 pub judged-all : (file : List ℕ) {all some : List ℕ} → Handed all some → {a : Answer} → Judged file some a → Judged file all a
 judged-all file h p = all-handed {L = Unit {0}} file tt (λ s R a u. VerdictOf s R a) (λ R v s s′ h h′ a u. many-verdict R v s s′ h h′) h p
 
 pub many-margins : (R : Recorder) → Valid R → (lent : List ℤ) (s s′ : List ℕ) → 16 < length s → 16 < length s′ → {a : Answer} {l : List ℤ}
     → MarginsOf s lent R a l → MarginsOf s′ lent R a l
-many-margins R v lent s s′ h h′ (P.MarginsOf.unequal u) = P.MarginsOf.unequal (λ e. omega (arith, e, h′, v .few-jobs))
-many-margins R v lent s s′ h h′ (P.MarginsOf.short e r) = absurd (omega (arith, e, h, v .few-jobs))
-many-margins R v lent s s′ h h′ (P.MarginsOf.given e r) = absurd (omega (arith, e, h, v .few-jobs))
+many-margins R v lent s s′ h h′ = unless-alike (λ e. omega (arith, e, h, v .few-jobs)) (λ e. omega (arith, e, h′, v .few-jobs))
 
 -- ---- places of one's own
 

@@ -4,10 +4,10 @@ use mathlib.Core.Path.{_≡_}
 use mathlib.Core.Bool.{Bool, true, false}
 use mathlib.Core.List.{List, _++_}
 use Prim.Native.Nat.{ℕ, _*_, _/_, _%_, _≤_}
-use lib.ListN.{length, take, drop}
+use lib.ListN.{length, drop}
 use Rattle.tables.specs.Layout.{joined}
 use Rattle.planner.specs.declared.Answer.{Answer}
-use Rattle.calls.specs.Bytes.{big, spread, startsIn}
+use Rattle.calls.specs.Bytes.{big, startsIn}
 use Rattle.calls.specs.Calls.{told}
 
 -- A shut door returns 255 and writes nothing. An open one returns the answer's number, and its eleven bytes are in the result buffer.
@@ -25,16 +25,7 @@ Paired starts = length starts % 2 ≡ 0
 abbrev pub startsOf : List ℕ → List ℕ
 startsOf bytes = startsIn bytes (length bytes / 2)
 
--- An operation that fills places with numbers is handed empty ones, as many as the lent bytes have room for. Where it succeeds its numbers are written to the
--- bytes; a refusal writes nothing.
-pub data Spelled {P L : Type 0} (lent : L) (written : Answer → P → L) (Then : Answer → P → Type 0) : Answer → L → Type 0 where
-  kept : {a : Answer} {places : P} → (a .number ≡ 0 → ⊥) → Then a places → Spelled lent written Then a lent
-  given : {a : Answer} {places : P} → a .number ≡ 0 → Then a places → Spelled lent written Then a (written a places)
-
--- The first n start times of a list, two bytes each, or the first n values of a function, four bytes each; what is lent beyond stays as it was.
-abbrev pub twos : List ℕ → ℕ → List ℕ → List ℕ
-twos starts n lent = spread (take n starts) ++ drop (n * 2) lent
-
+-- The first n values of a function, four bytes each; what is lent beyond stays as it was.
 abbrev pub fours : (ℕ → ℕ) → ℕ → List ℕ → List ℕ
 fours f n lent = joined (λ i. big 4 (f i)) n ++ drop (n * 4) lent
 

@@ -26,8 +26,9 @@ use Rattle.request.specs.Format as Format
 use Rattle.request.proofs.Accepted.{accepted-valid}
 use Rattle.planner.specs.declared.Answer.{Answer}
 use Rattle.planner.specs.Promises.{success, refusal, refusalAfter, OfFile, Checked, Margined, Judged, Rowed, Searched}
-use Rattle.planner.specs.Promises.{CheckOf, MarginsOf, VerdictOf, RowsOf, SearchOf}
+use Rattle.planner.specs.Promises.{stops, gives, gives-such, CheckOf, MarginsOf, VerdictOf, RowsOf, SearchOf}
 use Rattle.planner.specs.Promises as P
+use Rattle.planner.proofs.Refusing.{unless-equal, unless-enough, unless-some}
 
 -- ---- the file
 
@@ -82,9 +83,9 @@ module _ (starts : List ℕ) (lent : List ℤ) where
       cond-cases (Among (MarginsOf starts lent R)) (eqb (length starts) (jobs R))
       (λ q. let one = eqb-true (length starts) (jobs R) q in
       cond-cases (Among (MarginsOf starts lent R)) (ltb (length lent) (jobs R))
-      (λ p. P.MarginsOf.short one (ltb-true (length lent) (jobs R) p))
-      (λ p. P.MarginsOf.given one (ltb-false (length lent) (jobs R) p)))
-      (λ q. P.MarginsOf.unequal (eqb-false (length starts) (jobs R) q))
+      (λ p. unless-equal one (stops (ltb-true (length lent) (jobs R) p)))
+      (λ p. unless-equal one (unless-enough (ltb-false (length lent) (jobs R) p) gives)))
+      (λ q. stops (eqb-false (length starts) (jobs R) q))
 
   pub margined-by : (f : List ℕ) {a : Answer} {after : List ℤ} → outcome lent margined (readOf f) ≡ some (a, after) → Margined f starts lent a after
   margined-by f e = of-file f lent (MarginsOf starts lent) margined (λ R v. margined-among R) e
@@ -133,7 +134,7 @@ module _ (starts : List ℕ) where
   unfolding judged
   judged-among R v =
       cond-cases (Among (λ a (u : Unit {0}). VerdictOf starts R a)) (feasible R starts)
-      (λ q. P.VerdictOf.feasible (feasible-is R starts q) (plan-costs R v starts)) (λ q. tt)
+      (λ q. let g = feasible-is R starts q in unless-equal (g .one-each) (P.feasible g (gives-such (plan-costs R v starts)))) (λ q. tt)
 
   pub judged-by : (f : List ℕ) {a : Answer} → outcome tt judged (readOf f) ≡ some (a, tt) → Judged f starts a
   judged-by f e = of-file f tt (λ R a u. VerdictOf starts R a) judged judged-among e
@@ -156,8 +157,8 @@ module _ (starts lent : List ℕ) where
       cond-cases (Among (RowsOf starts lent R)) (feasible R starts)
       (λ q. let g = feasible-is R starts q in
       cond-cases (Among (RowsOf starts lent R)) (ltb (length lent) room)
-      (λ p. P.RowsOf.short (g .one-each) (ltb-true (length lent) room p))
-      (λ p. P.RowsOf.given (ltb-false (length lent) room p) g (plan-rows R v starts)))
+      (λ p. unless-equal (g .one-each) (stops (ltb-true (length lent) room p)))
+      (λ p. unless-equal (g .one-each) (unless-enough (ltb-false (length lent) room p) (P.feasible g (gives-such (plan-rows R v starts))))))
       (λ q. tt)
 
   pub rowed-by : (f : List ℕ) {a : Answer} {after : List ℕ} → outcome lent rowed (readOf f) ≡ some (a, after) → Rowed f starts lent a after
@@ -183,15 +184,17 @@ module _ (budget : ℕ) (lent : List ℕ) where
   module _ (R : Recorder) (v : Valid R) where
     found-among : jobs R ≤ length lent → vertices R ≤ budget → (b : Option (List ℕ)) → visited R .best ≡ b → Among (SearchOf budget lent R) (some (found R (vertices R) b))
     unfolding found
-    found-among roomy covered none e = P.SearchOf.none roomy covered (visited-none R v e)
-    found-among roomy covered (some s) e = P.SearchOf.found roomy covered (visited-first R v s e)
+    found-among roomy covered none e = unless-enough roomy (unless-enough covered (stops (visited-none R v e)))
+    found-among roomy covered (some s) e =
+        let f = visited-first R v s e in
+        unless-enough roomy (unless-enough covered (unless-some (f .feasible) (P.found f)))
 
     searched-among : Among (SearchOf budget lent R) (searched R)
     unfolding searched ended
     searched-among =
-        cond-cases (Among (SearchOf budget lent R)) (ltb (length lent) (jobs R)) (λ q. P.SearchOf.short (ltb-true (length lent) (jobs R) q))
+        cond-cases (Among (SearchOf budget lent R)) (ltb (length lent) (jobs R)) (λ q. stops (ltb-true (length lent) (jobs R) q))
         (λ q. let roomy = ltb-false (length lent) (jobs R) q in
-        cond-cases (Among (SearchOf budget lent R)) (ltb budget (vertices R)) (λ p. P.SearchOf.over roomy (ltb-true budget (vertices R) p))
+        cond-cases (Among (SearchOf budget lent R)) (ltb budget (vertices R)) (λ p. unless-enough roomy (stops (ltb-true budget (vertices R) p)))
         (λ p. found-among roomy (ltb-false budget (vertices R) p) (visited R .best) refl))
 
   pub searched-by : (f : List ℕ) {a : Answer} {after : List ℕ} → outcome lent searched (readOf f) ≡ some (a, after) → Searched f budget lent a after

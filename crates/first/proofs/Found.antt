@@ -22,9 +22,9 @@ use Rattle.latest.proofs.Members.{members-all}
 use Rattle.latest.proofs.Feasibility.{feasible-latest}
 use Rattle.latest.proofs.Tabled.{power-few}
 use Rattle.latest.proofs.Ordering.{greedy-run, greedy-first}
-use Rattle.planner.specs.Promises.{success, refusal}
+use Rattle.planner.specs.Promises.{success, refusal, stops, gives-such}
+use Rattle.planner.proofs.Refusing.{unless-enough, unless-some}
 use Rattle.first.specs.Promises.{FirstOf}
-use Rattle.first.specs.Promises as P
 
 -- ---- written over another list
 
@@ -104,7 +104,7 @@ module _
 
     module _ (lent : List ℕ) (room : jobs R ≤ length lent) where
       pub is-none : getD l m 0 ≡ 0 → FirstOf lent R (refusal 19) lent
-      is-none e = P.FirstOf.none room (λ s w. omega (arith, feasible-latest R valid s w, whole-is))
+      is-none e = unless-enough room (stops (λ s w. omega (arith, feasible-latest R valid s w, whole-is)))
 
       pub is-ready : (getD l m 0 ≡ 0 → ⊥)
           → Valid (recorderOf f) × (Laid (recorderOf f) l × ((jobs (recorderOf f) ≤ length lent) × (0 < latestOf (recorderOf f) (2 ^ jobs (recorderOf f) - 1))))
@@ -116,4 +116,5 @@ module _
       is-found after led =
           let w = subst (λ (x : Recorder). Led x lent after) flat led in
           let g = w .greedy in
-          rw (w .is, written-over R (w .places) (full-run R valid (w .places) g) lent room) (P.FirstOf.found room (greedy-is-first R valid (w .places) g))
+          let s = greedy-is-first R valid (w .places) g in
+          rw (w .is, written-over R (w .places) (full-run R valid (w .places) g) lent room) (unless-enough room (unless-some (s .feasible) (gives-such s)))

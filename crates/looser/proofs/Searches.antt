@@ -1,5 +1,5 @@
 -- Looser windows never cost more (rule 99): of the results of two searches, and of two questions whether there is any plan, by their promises alone.
-use mathlib.Core.Path.{_≡_, refl, sym, subst, _∙_}
+use mathlib.Core.Path.{_≡_, refl}
 use mathlib.Core.List.{List}
 use Prim.Native.Nat.{ℕ, _≤_}
 use native.Mathlib.Omega.{arith}
@@ -9,53 +9,38 @@ use Rattle.schedule.specs.Quantities.{jobs}
 use Rattle.schedule.specs.Listing.{Feasible, FirstLeast}
 use Rattle.tables.specs.Layout.{tablesOf}
 use Rattle.planner.specs.declared.Answer.{Answer}
-use Rattle.planner.specs.Promises.{Reads, OfFile, SearchOf, Searched}
-use Rattle.planner.specs.Promises as S
-use Rattle.possible.specs.Promises.{PossibleOf, Possible}
-use Rattle.possible.specs.Promises as P
+use Rattle.planner.specs.Promises.{stops, passes, gives-such, Reads, Counted, GivesLeast, found, SearchOf, Searched}
+use Rattle.planner.proofs.Reading.{outcome-of}
+use Rattle.possible.specs.TillFound.{verticesTillFound}
+use Rattle.possible.specs.Promises.{GivesFirst, PossibleOf, Possible}
 use Rattle.possible.proofs.Beside.{Enough}
 use Rattle.looser.specs.Windows.{Looser}
 use Rattle.looser.proofs.Helps.{still-feasible, no-dearer}
 use Rattle.looser.proofs.Files.{widened}
 
--- What an operation does on a file that is accepted is what its own cases say of the recorder.
-of-accepted : {L : Type 0} (file : List ℕ) (lent : L) (Then : Recorder → Answer → L → Type 0) {R : Recorder} → Reads file R
-    → {a : Answer} {after : L} → OfFile file lent Then a after → Then R a after
-of-accepted file lent Then r (S.OfFile.refused q) = let e = sym r ∙ q in let z : _≡_ {A = ℕ} 0 1 = cc in absurd (omega arith)
-of-accepted file lent Then {R} r {a} {after} (S.OfFile.read {R = R′} q t) =
-    let e = sym q ∙ r in
-    let same : R′ ≡ R = cc in
-    subst (λ (X : Recorder). Then X a after) same t
-
 -- ---- over one recorder each
 
--- Where there is a feasible schedule, room for it and a budget that is large enough, a plan is found.
-search-finds : {b : ℕ} {lent : List ℕ} {R : Recorder} {a : Answer} {after s : List ℕ} → jobs R ≤ length lent → Enough a → Feasible R s → SearchOf b lent R a after
-    → (a .number ≡ 0) × (t : List ℕ) × FirstLeast R t (a .energy)
-search-finds h n f (S.SearchOf.short k) = absurd (omega arith)
-search-finds h n f (S.SearchOf.over k o) = absurd (n refl)
-search-finds {s = s} h n f (S.SearchOf.none k c g) = absurd (g s f)
-search-finds h n f (S.SearchOf.found {s = t} k c g) = (refl, t, g)
+-- Where there is a feasible schedule, room for it and a budget that is large enough, a search that counts its vertices gives one;
+counted-finds : {b n : ℕ} {lent : List ℕ} {R : Recorder} {Rest : Answer → List ℕ → Type 0} {a : Answer} {after s : List ℕ}
+    → jobs R ≤ length lent → Enough a → Feasible R s → Counted b n lent R Rest a after → Rest a after
+counted-finds h n f (stops k) = absurd (omega arith)
+counted-finds h n f (passes k (stops o)) = absurd (n refl)
+counted-finds {s = s} h n f (passes k (passes c (stops g))) = absurd (g s f)
+counted-finds h n f (passes k (passes c (passes g r))) = r
 
-search-found : {b : ℕ} {lent : List ℕ} {R : Recorder} {a : Answer} {after : List ℕ} → a .number ≡ 0 → SearchOf b lent R a after
-    → (t : List ℕ) × FirstLeast R t (a .energy)
-search-found z (S.SearchOf.short k) = absurd (omega arith)
-search-found z (S.SearchOf.over k o) = absurd (omega arith)
-search-found z (S.SearchOf.none k c g) = absurd (omega arith)
-search-found z (S.SearchOf.found {s = t} k c g) = (t, g)
+-- and where it answers 0 it has given one.
+counted-found : {b n : ℕ} {lent : List ℕ} {R : Recorder} {Rest : Answer → List ℕ → Type 0} {a : Answer} {after : List ℕ}
+    → a .number ≡ 0 → Counted b n lent R Rest a after → Rest a after
+counted-found z (stops k) = absurd (omega arith)
+counted-found z (passes k (stops o)) = absurd (omega arith)
+counted-found z (passes k (passes c (stops g))) = absurd (omega arith)
+counted-found z (passes k (passes c (passes g r))) = r
 
-possible-finds : {b : ℕ} {lent : List ℕ} {R : Recorder} {a : Answer} {after s : List ℕ} → jobs R ≤ length lent → Enough a → Feasible R s → PossibleOf b lent R a after
-    → a .number ≡ 0
-possible-finds h n f (P.PossibleOf.short k) = absurd (omega arith)
-possible-finds h n f (P.PossibleOf.over k o) = absurd (n refl)
-possible-finds {s = s} h n f (P.PossibleOf.none k c g) = absurd (g s f)
-possible-finds h n f (P.PossibleOf.found k c g) = refl
+least-given : {n : ℕ} {lent : List ℕ} {R : Recorder} {a : Answer} {after : List ℕ} → GivesLeast R n lent a after → (a .number ≡ 0) × (t : List ℕ) × FirstLeast R t (a .energy)
+least-given (found {s = t} f) = (refl, t, f)
 
-possible-found : {b : ℕ} {lent : List ℕ} {R : Recorder} {a : Answer} {after : List ℕ} → a .number ≡ 0 → PossibleOf b lent R a after → (t : List ℕ) × Feasible R t
-possible-found z (P.PossibleOf.short k) = absurd (omega arith)
-possible-found z (P.PossibleOf.over k o) = absurd (omega arith)
-possible-found z (P.PossibleOf.none k c g) = absurd (omega arith)
-possible-found z (P.PossibleOf.found {s = t} k c g) = (t, g .feasible)
+first-given : (R : Recorder) (n : ℕ) (lent : List ℕ) {a : Answer} {after : List ℕ} → GivesFirst R n lent a after → (a .number ≡ 0) × (t : List ℕ) × Feasible R t
+first-given R n lent (gives-such {x = t} f) = (refl, t, f .feasible)
 
 -- ---- over two files
 
@@ -77,13 +62,13 @@ module _
     pub never-costs-more : Searched file b lent a after → Searched file′ b′ lent′ a′ after′ → a .number ≡ 0 → (a′ .number ≡ 0) × (a′ .energy ≤ a .energy)
     never-costs-more p p′ z =
         let w = widened file file′ looser reads reads′ in
-        let f = search-found z (of-accepted file lent (SearchOf b lent) reads p) in
-        let f′ = search-finds roomy enough (still-feasible R R′ w (f .0) (f .1 .feasible)) (of-accepted file′ lent′ (SearchOf b′ lent′) reads′ p′) in
-        (f′ .0, no-dearer R R′ w (f .1) (f′ .2))
+        let f = least-given (counted-found z (outcome-of file lent (SearchOf b lent) reads p)) in
+        let f′ = least-given (counted-finds roomy enough (still-feasible R R′ w (f .1) (f .2 .feasible)) (outcome-of file′ lent′ (SearchOf b′ lent′) reads′ p′)) in
+        (f′ .0, no-dearer R R′ w (f .2) (f′ .2))
 
     -- If there is any plan at all for the first, so there is for the second.
     pub still-possible : Possible file b lent a after → Possible file′ b′ lent′ a′ after′ → a .number ≡ 0 → a′ .number ≡ 0
     still-possible p p′ z =
-        let f = possible-found z (of-accepted file lent (PossibleOf b lent) reads p) in
+        let f = first-given R (verticesTillFound R) lent (counted-found z (outcome-of file lent (PossibleOf b lent) reads p)) in
         let w = widened file file′ looser reads reads′ in
-        possible-finds roomy enough (still-feasible R R′ w (f .0) (f .1)) (of-accepted file′ lent′ (PossibleOf b′ lent′) reads′ p′)
+        first-given R′ (verticesTillFound R′) lent′ (counted-finds roomy enough (still-feasible R R′ w (f .1) (f .2)) (outcome-of file′ lent′ (PossibleOf b′ lent′) reads′ p′)) .0

@@ -1,6 +1,6 @@
--- The size of a signed number fits its place, where it is negative and where it is not.
+-- The size of a negative number fits its place.
 use mathlib.Core.Path.{_≡_}
-use mathlib.Core.Bool.{true, false, true≢false}
+use mathlib.Core.Bool.{true}
 use native.Mathlib.Omega.{arith}
 use lib.Dec.{T}
 use lib.IntN.{ℤ, pos, negsuc, natAbs, _-ℤ_}
@@ -8,10 +8,6 @@ use lib.Signed.{ltZ, nonNeg}
 use borrow.Author.Tests.{ltb-true}
 use mir.Syntax.{w32, w64}
 use mir.Val.{Fits, SFits}
-
-pub size-pos : (z : ℤ) → SFits w32 z → ltZ z (pos 0) ≡ false → T (nonNeg z) × Fits w64 (natAbs z)
-size-pos (pos n) f e = (tt, record { fits = omega (arith, f .sfits) })
-size-pos (negsuc n) f e = absurd (true≢false e)
 
 pub record Negated (z : ℤ) : Type 0 where
   pub wide : SFits w64 z

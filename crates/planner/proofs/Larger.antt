@@ -1,21 +1,25 @@
--- Every answer but 20 is the answer under each larger budget too.
+-- Every answer but 20 is the answer under each larger budget too: of every search that counts its vertices.
 use mathlib.Core.Path.{_≡_, refl}
 use mathlib.Core.List.{List}
 use Prim.Native.Nat.{ℕ, _≤_}
 use native.Mathlib.Omega.{arith}
 use Rattle.schedule.specs.declared.Recorder.{Recorder}
+use Rattle.schedule.specs.Visiting.{vertices}
 use Rattle.planner.specs.declared.Answer.{Answer}
-use Rattle.planner.specs.Promises.{Searched, SearchOf}
-use Rattle.planner.specs.Promises as P
+use Rattle.planner.specs.Promises.{stops, passes, OfFile, refused, read, Counted, GivesLeast, Searched}
 
-larger : (R : Recorder) (b b′ : ℕ) (lent : List ℕ) {a : Answer} {l : List ℕ} → b ≤ b′ → (a .number ≡ 20 → ⊥)
-    → SearchOf b lent R a l → SearchOf b′ lent R a l
-larger R b b′ lent h n (P.SearchOf.short s) = P.SearchOf.short s
-larger R b b′ lent h n (P.SearchOf.over s o) = absurd (n refl)
-larger R b b′ lent h n (P.SearchOf.none s o e) = P.SearchOf.none s (omega arith) e
-larger R b b′ lent h n (P.SearchOf.found s o f) = P.SearchOf.found s (omega arith) f
+module _ (count : Recorder → ℕ) (Rest : Recorder → Answer → List ℕ → Type 0) (file : List ℕ) (b b′ : ℕ) (lent : List ℕ) where
+  larger : (R : Recorder) {a : Answer} {l : List ℕ} → b ≤ b′ → (a .number ≡ 20 → ⊥)
+      → Counted b (count R) lent R (Rest R) a l → Counted b′ (count R) lent R (Rest R) a l
+  larger R h n (stops s) = stops s
+  larger R h n (passes s (stops o)) = absurd (n refl)
+  larger R h n (passes s (passes o r)) = passes s (passes (λ o′. o (omega arith)) r)
+
+  pub larger-counted : {a : Answer} {l : List ℕ} → b ≤ b′ → (a .number ≡ 20 → ⊥)
+      → OfFile file lent (λ R. Counted b (count R) lent R (Rest R)) a l → OfFile file lent (λ R. Counted b′ (count R) lent R (Rest R)) a l
+  larger-counted h n (refused r) = refused r
+  larger-counted h n (read {R = R} r t) = read r (larger R h n t)
 
 pub larger-budget : (file : List ℕ) (b b′ : ℕ) (lent : List ℕ) {a : Answer} {l : List ℕ} → b ≤ b′ → (a .number ≡ 20 → ⊥)
     → Searched file b lent a l → Searched file b′ lent a l
-larger-budget file b b′ lent h n (P.OfFile.refused r) = P.OfFile.refused r
-larger-budget file b b′ lent h n (P.OfFile.read {R = R} r t) = P.OfFile.read r (larger R b b′ lent h n t)
+larger-budget file b b′ lent = larger-counted vertices (λ R. GivesLeast R (vertices R) lent) file b b′ lent

@@ -1,23 +1,27 @@
 -- The search answers as before, whatever a sleep is written as: the same starts, energy and count, or the same refusal.
 use mathlib.Core.Path.{sym, subst}
 use mathlib.Core.Bool.{Bool}
-use mathlib.Core.List.{List, _++_}
-use Prim.Native.Nat.{ℕ, _≤_, _<_}
-use lib.ListN.{drop}
+use mathlib.Core.List.{List}
+use Prim.Native.Nat.{ℕ}
 use Rattle.schedule.specs.declared.Recorder.{Recorder}
-use Rattle.schedule.specs.Quantities.{jobs}
+use Rattle.schedule.specs.Visiting.{vertices}
 use Rattle.schedule.proofs.Letters.{lettered, feasible-plain, plan-lettered, vertices-lettered}
 use Rattle.planner.specs.declared.Answer.{Answer}
-use Rattle.planner.specs.Promises as P
-use Rattle.planner.specs.Promises.{success, refusalAfter, SearchOf}
+use Rattle.planner.specs.Promises.{stops, passes, Counted, GivesLeast, found, SearchOf}
+use Rattle.planner.proofs.Refusing.{unless-some}
 
-pub search-lettered : (digits : Bool) (budget : ℕ) (lent : List ℕ) (R : Recorder) {a : Answer} {l : List ℕ}
-    → SearchOf budget lent R a l → SearchOf budget lent (lettered digits R) a l
-search-lettered digits budget lent R (P.SearchOf.short h) = P.SearchOf.short h
-search-lettered digits budget lent R (P.SearchOf.over h o) = P.SearchOf.over h (subst (λ (n : ℕ). budget < n) (sym (vertices-lettered digits R)) o)
-search-lettered digits budget lent R (P.SearchOf.none h o f) =
-    subst (λ (n : ℕ). SearchOf budget lent (lettered digits R) (refusalAfter 19 n) lent) (vertices-lettered digits R)
-    (P.SearchOf.none h (subst (λ (n : ℕ). n ≤ budget) (sym (vertices-lettered digits R)) o) (λ s g. f s (feasible-plain digits R g)))
-search-lettered digits budget lent R (P.SearchOf.found {s = s} {e = e} h o p) =
-    subst (λ (n : ℕ). SearchOf budget lent (lettered digits R) (success (R .horizon) e n) (s ++ drop (jobs R) lent)) (vertices-lettered digits R)
-    (P.SearchOf.found h (subst (λ (n : ℕ). n ≤ budget) (sym (vertices-lettered digits R)) o) (plan-lettered digits R p))
+module _ (digits : Bool) (budget : ℕ) (lent : List ℕ) (R : Recorder) where
+  -- n vertices are counted with either letters.
+  counted-lettered : (n : ℕ) {a : Answer} {l : List ℕ} → Counted budget n lent R (GivesLeast R n lent) a l
+      → Counted budget n lent (lettered digits R) (GivesLeast (lettered digits R) n lent) a l
+  counted-lettered n (stops h) = stops h
+  counted-lettered n (passes h (stops o)) = passes h (stops o)
+  counted-lettered n (passes h (passes o (stops f))) = passes h (passes o (stops (λ s g. f s (feasible-plain digits R g))))
+  counted-lettered n (passes h (passes o (passes f (found p)))) =
+      let p′ = plan-lettered digits R p in
+      passes h (passes o (unless-some (p′ .feasible) (found p′)))
+
+  pub search-lettered : {a : Answer} {l : List ℕ} → SearchOf budget lent R a l → SearchOf budget lent (lettered digits R) a l
+  search-lettered {a} {l} t =
+      subst (λ (n : ℕ). Counted budget n lent (lettered digits R) (GivesLeast (lettered digits R) n lent) a l) (sym (vertices-lettered digits R))
+      (counted-lettered (vertices R) t)

@@ -1,4 +1,6 @@
+pub mod Signs
 pub mod Refusing
+pub mod Cases
 pub mod Reading
 pub mod Only
 pub mod Searching

@@ -1,50 +1,37 @@
 -- No second outcome satisfies a promise: for every input each of the eight relations has one answer, and one state of the lent memory. `only-of-file` says it
--- of every promise over a file whose cases have one outcome for each valid recorder; so each operation shows it of its own cases only.
+-- of every promise over a file that has one outcome for each valid recorder; so each operation shows it of a recorder only, by the laws of the order of refusals.
 use mathlib.Core.Path.{_≡_, refl, sym, ap, subst, _∙_}
 use mathlib.Core.Bool.{Bool}
 use mathlib.Core.List.{List, _++_}
 use Prim.Native.Nat.{ℕ, zero, suc, _*_, _<_}
 use native.Mathlib.Omega.{arith}
 use lib.IntN.{ℤ}
-use lib.ListN.{length, drop}
+use lib.ListN.{drop}
 use Rattle.base.specs.Sums.{sum}
 use Rattle.base.proofs.Additions.{sum-same}
 use Rattle.device.specs.Row.{Letter, energy}
 use Rattle.schedule.specs.declared.Recorder.{Recorder}
 use Rattle.schedule.specs.Quantities.{device, Valid}
-use Rattle.schedule.specs.Listing.{Fault, Rows, Costs, laid}
-use Rattle.schedule.proofs.Judgements.{fault-one, fault-infeasible}
+use Rattle.schedule.specs.Listing.{Rows, Costs, laid}
+use Rattle.schedule.specs.Visiting.{vertices}
 use Rattle.schedule.proofs.Outcome.{costs-only, rows-only, one-first-least}
 use Rattle.tables.specs.declared.Tables.{Tables}
-use Rattle.tables.specs.Layout.{bytesOf, tablesOf, noTables}
-use Rattle.request.proofs.Accepted.{accepted-valid}
+use Rattle.tables.specs.Layout.{tablesOf, noTables}
 use Rattle.planner.specs.declared.Answer.{Answer}
 use Rattle.planner.specs.declared.FileTables.{FileTables}
-use Rattle.planner.specs.Promises.{success, refusal, refusalAt, Refused, Reads, OfFile, refused, read, Answered}
-use Rattle.planner.specs.Promises.{CheckOf, accepted, Checked, SizesOf, Sized, MarginsOf, Margined, VerdictOf, Judged, RowsOf, Rowed, SearchOf, Searched, Written, TablesOf, listed, TablesGiven}
+use Rattle.planner.specs.Promises.{success, OfFile, Answered}
+use Rattle.planner.specs.Promises.{CheckOf, accepted, Checked, SizesOf, Sized, MarginsOf, Margined, VerdictOf, Judged, RowsOf, Rowed, GivesLeast, found, SearchOf, Searched, WriteOf, Written, TablesOf, listed, TablesGiven}
 use Rattle.planner.specs.Promises as P
+use Rattle.planner.proofs.Reading.{two-of-file}
+use Rattle.planner.proofs.Refusing.{One, one-unless, one-unless-faulty, one-gives, one-such}
 
 -- ---- the file
 
--- A file reads as one thing.
-same-refusal : (file : List ℕ) {n n′ : ℕ} → Refused file n → Refused file n′ → n ≡ n′
-same-refusal file r r′ = let e = sym r ∙ r′ in cc
-
-pub same-recorder : (file : List ℕ) {R R′ : Recorder} → Reads file R → Reads file R′ → R ≡ R′
-same-recorder file r r′ = let e = sym r ∙ r′ in cc
-
-pub not-both : (file : List ℕ) {n : ℕ} {R : Recorder} → Refused file n → Reads file R → ⊥
-not-both file r r′ = let e = sym r ∙ r′ in let z : _≡_ {A = ℕ} 0 1 = cc in omega arith
-
 -- The law of the frame: what has one outcome for each valid recorder has one for each file.
 pub only-of-file : {L : Type 0} (file : List ℕ) (lent : L) (Then : Recorder → Answer → L → Type 0)
-    → ((R : Recorder) → Valid R → (a a′ : Answer) (l l′ : L) → Then R a l → Then R a′ l′ → (a ≡ a′) × (l ≡ l′))
+    → ((R : Recorder) → Valid R → One (Then R))
     → {a a′ : Answer} {l l′ : L} → OfFile file lent Then a l → OfFile file lent Then a′ l′ → (a ≡ a′) × (l ≡ l′)
-only-of-file file lent Then one (refused r) (refused r′) = (ap refusal (same-refusal file r r′), refl)
-only-of-file file lent Then one (refused r) (read r′ t′) = absurd (not-both file r r′)
-only-of-file file lent Then one (read r t) (refused r′) = absurd (not-both file r′ r)
-only-of-file file lent Then one (read {R = R} {a = a} {after = l} r t) (read {a = a′} {after = l′} r′ t′) =
-    one R (accepted-valid file R r) a a′ l l′ t (subst (λ (X : Recorder). Then X a′ l′) (same-recorder file r′ r) t′)
+only-of-file file lent Then one = two-of-file file lent lent Then Then (λ a l a′ l′. (a ≡ a′) × (l ≡ l′)) (λ n. (refl, refl)) one
 
 -- The same where nothing is lent.
 pub only-answered : (file : List ℕ) (Then : Recorder → Answer → Type 0)
@@ -62,59 +49,28 @@ only-checked file = only-answered file CheckOf (λ R v a a′. one-check R)
 
 -- ---- `sizes`
 
-pub one-sizes : (tasks : ℕ) (lent : List ℕ) (R : Recorder) {a a′ : Answer} {l l′ : List ℕ}
-    → SizesOf tasks lent R a l → SizesOf tasks lent R a′ l′ → (a ≡ a′) × (l ≡ l′)
-one-sizes tasks lent R (P.SizesOf.short h) (P.SizesOf.short h′) = (refl, refl)
-one-sizes tasks lent R (P.SizesOf.short h) (P.SizesOf.given h′) = absurd (omega arith)
-one-sizes tasks lent R (P.SizesOf.given h) (P.SizesOf.short h′) = absurd (omega arith)
-one-sizes tasks lent R (P.SizesOf.given h) (P.SizesOf.given h′) = (refl, refl)
+pub one-sizes : (tasks : ℕ) (lent : List ℕ) (R : Recorder) → One (SizesOf tasks lent R)
+one-sizes tasks lent R = one-unless one-gives
 
 pub only-sized : (file lent : List ℕ) {a a′ : Answer} {l l′ : List ℕ} → Sized file lent a l → Sized file lent a′ l′ → (a ≡ a′) × (l ≡ l′)
-only-sized file lent = only-of-file file lent (SizesOf (tablesOf file .tasks .count) lent) (λ R v a a′ l l′. one-sizes (tablesOf file .tasks .count) lent R)
+only-sized file lent = only-of-file file lent (SizesOf (tablesOf file .tasks .count) lent) (λ R v. one-sizes (tablesOf file .tasks .count) lent R)
 
 -- ---- `margins`
 
-one-margins : (starts : List ℕ) (lent : List ℤ) (R : Recorder) {a a′ : Answer} {l l′ : List ℤ}
-    → MarginsOf starts lent R a l → MarginsOf starts lent R a′ l′ → (a ≡ a′) × (l ≡ l′)
-one-margins starts lent R (P.MarginsOf.unequal u) (P.MarginsOf.unequal u′) = (refl, refl)
-one-margins starts lent R (P.MarginsOf.unequal u) (P.MarginsOf.short e′ h′) = absurd (u e′)
-one-margins starts lent R (P.MarginsOf.unequal u) (P.MarginsOf.given e′ h′) = absurd (u e′)
-one-margins starts lent R (P.MarginsOf.short e h) (P.MarginsOf.unequal u′) = absurd (u′ e)
-one-margins starts lent R (P.MarginsOf.short e h) (P.MarginsOf.short e′ h′) = (refl, refl)
-one-margins starts lent R (P.MarginsOf.short e h) (P.MarginsOf.given e′ h′) = absurd (omega arith)
-one-margins starts lent R (P.MarginsOf.given e h) (P.MarginsOf.unequal u′) = absurd (u′ e)
-one-margins starts lent R (P.MarginsOf.given e h) (P.MarginsOf.short e′ h′) = absurd (omega arith)
-one-margins starts lent R (P.MarginsOf.given e h) (P.MarginsOf.given e′ h′) = (refl, refl)
-
 pub only-margined : (file starts : List ℕ) (lent : List ℤ) {a a′ : Answer} {l l′ : List ℤ}
     → Margined file starts lent a l → Margined file starts lent a′ l′ → (a ≡ a′) × (l ≡ l′)
-only-margined file starts lent = only-of-file file lent (MarginsOf starts lent) (λ R v a a′ l l′. one-margins starts lent R)
+only-margined file starts lent = only-of-file file lent (MarginsOf starts lent) (λ R v. one-unless (one-unless one-gives))
 
 -- ---- `verdict`
 
-same-fault : (R : Recorder) {starts : List ℕ} {n j n′ j′ : ℕ} → Fault R starts n j → Fault R starts n′ j′ → refusalAt n j ≡ refusalAt n′ j′
-same-fault R {starts} f f′ =
-    let p = fault-one R starts f f′ in
-    let a = p .0 in
-    let b = p .1 in
-    cc
-
-same-cost : (R : Recorder) → Valid R → {starts : List ℕ} {e e′ : ℕ} → Costs R starts e → Costs R starts e′ → e ≡ e′
-same-cost R v c c′ = costs-only R v c ∙ sym (costs-only R v c′)
-
-one-verdict : (starts : List ℕ) (R : Recorder) → Valid R → {a a′ : Answer} → VerdictOf starts R a → VerdictOf starts R a′ → a ≡ a′
-one-verdict starts R v (P.VerdictOf.unequal u) (P.VerdictOf.unequal u′) = refl
-one-verdict starts R v (P.VerdictOf.unequal u) (P.VerdictOf.faulty e′ f′) = absurd (u e′)
-one-verdict starts R v (P.VerdictOf.unequal u) (P.VerdictOf.feasible g′ c′) = absurd (u (g′ .one-each))
-one-verdict starts R v (P.VerdictOf.faulty e f) (P.VerdictOf.unequal u′) = absurd (u′ e)
-one-verdict starts R v (P.VerdictOf.faulty e f) (P.VerdictOf.faulty e′ f′) = same-fault R f f′
-one-verdict starts R v (P.VerdictOf.faulty e f) (P.VerdictOf.feasible g′ c′) = absurd (fault-infeasible R starts f g′)
-one-verdict starts R v (P.VerdictOf.feasible g c) (P.VerdictOf.unequal u′) = absurd (u′ (g .one-each))
-one-verdict starts R v (P.VerdictOf.feasible g c) (P.VerdictOf.faulty e′ f′) = absurd (fault-infeasible R starts f′ g)
-one-verdict starts R v (P.VerdictOf.feasible g c) (P.VerdictOf.feasible g′ c′) = ap (λ (e : ℕ). success (R .horizon) e 0) (same-cost R v c c′)
+-- A schedule costs one thing.
+same-cost : (R : Recorder) → Valid R → (starts : List ℕ) (e e′ : ℕ) → Costs R starts e → Costs R starts e′
+    → (success (R .horizon) e 0 ≡ success (R .horizon) e′ 0) × (_≡_ {A = Unit {0}} tt tt)
+same-cost R v starts e e′ c c′ = (ap (λ (x : ℕ). success (R .horizon) x 0) (costs-only R v c ∙ sym (costs-only R v c′)), refl)
 
 pub only-judged : (file starts : List ℕ) {a a′ : Answer} → Judged file starts a → Judged file starts a′ → a ≡ a′
-only-judged file starts = only-answered file (VerdictOf starts) (λ R v a a′. one-verdict starts R v)
+only-judged file starts =
+    only-answered file (VerdictOf starts) (λ R v a a′ t t′. one-unless (one-unless-faulty R starts (one-such (same-cost R v starts))) a a′ tt tt t t′ .0)
 
 -- ---- `rows`
 
@@ -138,73 +94,40 @@ given-one lent R v {starts} {rows} {rows′} p p′ =
     let f = laid-same (R .digits) (R .devices .count) rows rows′ same in
     (cc, cc)
 
-pub one-rows : (starts lent : List ℕ) (R : Recorder) → Valid R → {a a′ : Answer} {l l′ : List ℕ}
-    → RowsOf starts lent R a l → RowsOf starts lent R a′ l′ → (a ≡ a′) × (l ≡ l′)
-one-rows starts lent R v (P.RowsOf.unequal u) (P.RowsOf.unequal u′) = (refl, refl)
-one-rows starts lent R v (P.RowsOf.unequal u) (P.RowsOf.short e′ h′) = absurd (u e′)
-one-rows starts lent R v (P.RowsOf.unequal u) (P.RowsOf.faulty e′ h′ f′) = absurd (u e′)
-one-rows starts lent R v (P.RowsOf.unequal u) (P.RowsOf.given h′ g′ p′) = absurd (u (g′ .one-each))
-one-rows starts lent R v (P.RowsOf.short e h) (P.RowsOf.unequal u′) = absurd (u′ e)
-one-rows starts lent R v (P.RowsOf.short e h) (P.RowsOf.short e′ h′) = (refl, refl)
-one-rows starts lent R v (P.RowsOf.short e h) (P.RowsOf.faulty e′ h′ f′) = absurd (omega arith)
-one-rows starts lent R v (P.RowsOf.short e h) (P.RowsOf.given h′ g′ p′) = absurd (omega arith)
-one-rows starts lent R v (P.RowsOf.faulty e h f) (P.RowsOf.unequal u′) = absurd (u′ e)
-one-rows starts lent R v (P.RowsOf.faulty e h f) (P.RowsOf.short e′ h′) = absurd (omega arith)
-one-rows starts lent R v (P.RowsOf.faulty e h f) (P.RowsOf.faulty e′ h′ f′) = (same-fault R f f′, refl)
-one-rows starts lent R v (P.RowsOf.faulty e h f) (P.RowsOf.given h′ g′ p′) = absurd (fault-infeasible R starts f g′)
-one-rows starts lent R v (P.RowsOf.given h g p) (P.RowsOf.unequal u′) = absurd (u′ (g .one-each))
-one-rows starts lent R v (P.RowsOf.given h g p) (P.RowsOf.short e′ h′) = absurd (omega arith)
-one-rows starts lent R v (P.RowsOf.given h g p) (P.RowsOf.faulty e′ h′ f′) = absurd (fault-infeasible R starts f′ g)
-one-rows starts lent R v (P.RowsOf.given h g p) (P.RowsOf.given h′ g′ p′) = given-one lent R v p p′
+pub one-rows : (starts lent : List ℕ) (R : Recorder) → Valid R → One (RowsOf starts lent R)
+one-rows starts lent R v = one-unless (one-unless (one-unless-faulty R starts (one-such (λ rows rows′. given-one lent R v))))
 
 pub only-rowed : (file starts lent : List ℕ) {a a′ : Answer} {l l′ : List ℕ}
     → Rowed file starts lent a l → Rowed file starts lent a′ l′ → (a ≡ a′) × (l ≡ l′)
-only-rowed file starts lent = only-of-file file lent (RowsOf starts lent) (λ R v a a′ l l′. one-rows starts lent R v)
+only-rowed file starts lent = only-of-file file lent (RowsOf starts lent) (one-rows starts lent)
 
 -- ---- `search`
 
-pub one-search : (budget : ℕ) (lent : List ℕ) (R : Recorder) → Valid R → {a a′ : Answer} {l l′ : List ℕ}
-    → SearchOf budget lent R a l → SearchOf budget lent R a′ l′ → (a ≡ a′) × (l ≡ l′)
-one-search budget lent R v (P.SearchOf.short h) (P.SearchOf.short h′) = (refl, refl)
-one-search budget lent R v (P.SearchOf.short h) (P.SearchOf.over h′ b′) = absurd (omega arith)
-one-search budget lent R v (P.SearchOf.short h) (P.SearchOf.none h′ b′ n′) = absurd (omega arith)
-one-search budget lent R v (P.SearchOf.short h) (P.SearchOf.found h′ b′ f′) = absurd (omega arith)
-one-search budget lent R v (P.SearchOf.over h b) (P.SearchOf.short h′) = absurd (omega arith)
-one-search budget lent R v (P.SearchOf.over h b) (P.SearchOf.over h′ b′) = (refl, refl)
-one-search budget lent R v (P.SearchOf.over h b) (P.SearchOf.none h′ b′ n′) = absurd (omega arith)
-one-search budget lent R v (P.SearchOf.over h b) (P.SearchOf.found h′ b′ f′) = absurd (omega arith)
-one-search budget lent R v (P.SearchOf.none h b n) (P.SearchOf.short h′) = absurd (omega arith)
-one-search budget lent R v (P.SearchOf.none h b n) (P.SearchOf.over h′ b′) = absurd (omega arith)
-one-search budget lent R v (P.SearchOf.none h b n) (P.SearchOf.none h′ b′ n′) = (refl, refl)
-one-search budget lent R v (P.SearchOf.none h b n) (P.SearchOf.found {s = s} h′ b′ f′) = absurd (n s (f′ .feasible))
-one-search budget lent R v (P.SearchOf.found h b f) (P.SearchOf.short h′) = absurd (omega arith)
-one-search budget lent R v (P.SearchOf.found h b f) (P.SearchOf.over h′ b′) = absurd (omega arith)
-one-search budget lent R v (P.SearchOf.found {s = s} h b f) (P.SearchOf.none h′ b′ n′) = absurd (n′ s (f .feasible))
-one-search budget lent R v (P.SearchOf.found h b f) (P.SearchOf.found h′ b′ f′) =
+-- There is one first schedule of the least.
+pub one-least : (R : Recorder) → Valid R → (count : ℕ) (lent : List ℕ) → One (GivesLeast R count lent)
+one-least R v count lent a a′ l l′ (found f) (found f′) =
     let p = one-first-least R v f f′ in
-    let a = p .0 in
-    let b = p .1 in
+    let s = p .0 in
+    let e = p .1 in
     (cc, cc)
+
+pub one-search : (budget : ℕ) (lent : List ℕ) (R : Recorder) → Valid R → One (SearchOf budget lent R)
+one-search budget lent R v = one-unless (one-unless (one-unless (one-least R v (vertices R) lent)))
 
 pub only-searched : (file : List ℕ) (budget : ℕ) (lent : List ℕ) {a a′ : Answer} {l l′ : List ℕ}
     → Searched file budget lent a l → Searched file budget lent a′ l′ → (a ≡ a′) × (l ≡ l′)
-only-searched file budget lent = only-of-file file lent (SearchOf budget lent) (λ R v a a′ l l′. one-search budget lent R v)
+only-searched file budget lent = only-of-file file lent (SearchOf budget lent) (one-search budget lent)
 
 -- ---- `write`
 
 pub only-written : (T : Tables) (lent : List ℕ) {a a′ : Answer} {l l′ : List ℕ} → Written T lent a l → Written T lent a′ l′ → (a ≡ a′) × (l ≡ l′)
 only-written T lent (P.Written.refused r) (P.Written.refused r′) = let e = sym r ∙ r′ in (cc, refl)
-only-written T lent (P.Written.refused r) (P.Written.short r′ h′) = let e = sym r ∙ r′ in let z : _≡_ {A = ℕ} 0 1 = cc in absurd (omega arith)
-only-written T lent (P.Written.refused r) (P.Written.written r′ h′) = let e = sym r ∙ r′ in let z : _≡_ {A = ℕ} 0 1 = cc in absurd (omega arith)
-only-written T lent (P.Written.short r h) (P.Written.refused r′) = let e = sym r ∙ r′ in let z : _≡_ {A = ℕ} 0 1 = cc in absurd (omega arith)
-only-written T lent (P.Written.short r h) (P.Written.short r′ h′) = (refl, refl)
-only-written T lent (P.Written.short r h) (P.Written.written r′ h′) = absurd (omega arith)
-only-written T lent (P.Written.written r h) (P.Written.refused r′) = let e = sym r ∙ r′ in let z : _≡_ {A = ℕ} 0 1 = cc in absurd (omega arith)
-only-written T lent (P.Written.written r h) (P.Written.short r′ h′) = absurd (omega arith)
-only-written T lent (P.Written.written {R = R} r h) (P.Written.written {R = R′} r′ h′) =
-    let e = sym r ∙ r′ in
-    let same : R ≡ R′ = cc in
-    (ap (λ (X : Recorder). success (X .horizon) 0 (length (bytesOf T))) same, refl)
+only-written T lent (P.Written.refused r) (P.Written.read r′ t′) = let e = sym r ∙ r′ in let z : _≡_ {A = ℕ} 0 1 = cc in absurd (omega arith)
+only-written T lent (P.Written.read r t) (P.Written.refused r′) = let e = sym r ∙ r′ in let z : _≡_ {A = ℕ} 0 1 = cc in absurd (omega arith)
+only-written T lent (P.Written.read {R = R} {a = a} {after = l} r t) (P.Written.read {R = R′} {a = a′} {after = l′} r′ t′) =
+    let e = sym r′ ∙ r in
+    let same : R′ ≡ R = cc in
+    one-unless one-gives a a′ l l′ t (subst (λ (X : Recorder). WriteOf T lent X a′ l′) same t′)
 
 -- ---- `tables_of`
 

@@ -4,14 +4,15 @@ use mathlib.Core.Path.{_≡_, refl}
 use mathlib.Core.Bool.{Bool, true, false}
 use mathlib.Core.List.{List}
 use mathlib.Core.Logic.{_⊎_, inl, inr}
-use Prim.Native.Nat.{ℕ}
+use Prim.Native.Nat.{ℕ, _≤_, _<_}
+use native.Mathlib.Omega.{arith}
 use lib.Dec.{eqb}
 use borrow.Author.Tests.{eqb-true, eqb-false}
 use Rattle.schedule.specs.declared.Recorder.{Recorder}
 use Rattle.schedule.specs.Listing.{Feasible}
 use Rattle.schedule.proofs.Judgements.{fault-one, fault-some, fault-infeasible}
 use Rattle.planner.specs.declared.Answer.{Answer}
-use Rattle.planner.specs.Promises.{Unless, stops, passes, UnlessFaulty, Gives, gives}
+use Rattle.planner.specs.Promises.{Unless, stops, passes, UnlessFaulty, Gives, gives, GivesSuch, gives-such}
 use Rattle.planner.specs.Promises as P
 
 -- ---- one outcome
@@ -19,12 +20,19 @@ use Rattle.planner.specs.Promises as P
 abbrev pub One : {L : Type 0} → (Answer → L → Type 0) → Type 0
 One {L} X = (a a′ : Answer) (l l′ : L) → X a l → X a′ l′ → (a ≡ a′) × (l ≡ l′)
 
+-- Of two whose tests hold together: what holds of both refusals, and of what follows where neither is, holds of them.
+pub two-unless : {L L′ Test Test′ : Type 0} {a a′ : Answer} {lent : L} {lent′ : L′} {Rest : Answer → L → Type 0} {Rest′ : Answer → L′ → Type 0}
+    (Both : Answer → L → Answer → L′ → Type 0) → (Test → Test′) → (Test′ → Test) → Both a lent a′ lent′
+    → ((b b′ : Answer) (l : L) (l′ : L′) → Rest b l → Rest′ b′ l′ → Both b l b′ l′)
+    → (b b′ : Answer) (l : L) (l′ : L′) → Unless Test a lent Rest b l → Unless Test′ a′ lent′ Rest′ b′ l′ → Both b l b′ l′
+two-unless Both there back both rest b b′ l l′ (stops t) (stops t′) = both
+two-unless Both there back both rest b b′ l l′ (stops t) (passes n r) = absurd (n (there t))
+two-unless Both there back both rest b b′ l l′ (passes n r) (stops t) = absurd (n (back t))
+two-unless Both there back both rest b b′ l l′ (passes n r) (passes n′ r′) = rest b b′ l l′ r r′
+
 module _ {L : Type 0} {lent : L} {Rest : Answer → L → Type 0} where
   pub one-unless : {Test : Type 0} {a : Answer} → One Rest → One (Unless Test a lent Rest)
-  one-unless one b b′ l l′ (stops t) (stops t′) = (refl, refl)
-  one-unless one b b′ l l′ (stops t) (passes n r) = absurd (n t)
-  one-unless one b b′ l l′ (passes n r) (stops t) = absurd (n t)
-  one-unless one b b′ l l′ (passes n r) (passes n′ r′) = one b b′ l l′ r r′
+  one-unless = two-unless (λ a l a′ l′. (a ≡ a′) × (l ≡ l′)) (λ t. t) (λ t. t) (refl, refl)
 
   pub one-unless-faulty : (R : Recorder) (starts : List ℕ) → One Rest → One (UnlessFaulty R starts lent Rest)
   one-unless-faulty R starts one b b′ l l′ (P.UnlessFaulty.faulty f) (P.UnlessFaulty.faulty f′) =
@@ -38,6 +46,10 @@ module _ {L : Type 0} {lent : L} {Rest : Answer → L → Type 0} where
 
 pub one-gives : {L : Type 0} {a : Answer} {after : L} → One (Gives a after)
 one-gives b b′ l l′ gives gives = (refl, refl)
+
+pub one-such : {L X : Type 0} {Such : X → Type 0} {a : X → Answer} {after : X → L}
+    → ((x y : X) → Such x → Such y → (a x ≡ a y) × (after x ≡ after y)) → One (GivesSuch Such a after)
+one-such one b b′ l l′ (gives-such {x = x} p) (gives-such {x = y} q) = one x y p q
 
 pub gives-is : {L : Type 0} {a : Answer} {after : L} {b : Answer} {l : L} → Gives a after b l → (b ≡ a) × (l ≡ after)
 gives-is gives = (refl, refl)
@@ -53,6 +65,21 @@ pub says-unless : {L : Type 0} {Test : Type 0} {a : Answer} {lent : L} {Rest : A
     → (Test × (b ≡ a) × (l ≡ lent)) ⊎ ((Test → ⊥) × Rest b l) → Unless Test a lent Rest b l
 says-unless (inl p) = rw (p .1, p .2) (stops (p .0))
 says-unless (inr p) = passes (p .0) (p .1)
+
+-- ---- tests that are passed
+
+module _ {L : Type 0} {lent : L} {Rest : Answer → L → Type 0} {a b : Answer} {l : L} where
+  -- There are as many as there must be,
+  pub unless-equal : {m n : ℕ} → m ≡ n → Rest b l → Unless (m ≡ n → ⊥) a lent Rest b l
+  unless-equal e r = passes (λ u. u e) r
+
+  -- or enough of them.
+  pub unless-enough : {m n : ℕ} → n ≤ m → Rest b l → Unless (m < n) a lent Rest b l
+  unless-enough h r = passes (λ s. omega (arith, s, h)) r
+
+  -- There is a feasible schedule.
+  pub unless-some : {R : Recorder} {s : List ℕ} → Feasible R s → Rest b l → Unless ((s : List ℕ) → Feasible R s → ⊥) a lent Rest b l
+  unless-some {s = s} f r = passes (λ none. none s f) r
 
 -- The test of 14 failed.
 pub equal : (m n : ℕ) → ((m ≡ n → ⊥) → ⊥) → m ≡ n

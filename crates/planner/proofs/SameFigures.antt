@@ -13,7 +13,7 @@ use Rattle.planner.specs.declared.Answer.{Answer}
 use Rattle.planner.specs.Promises.{Reads, OfFile, SearchOf, Searched}
 use Rattle.planner.specs.Promises as P
 use Rattle.planner.proofs.Letters.{search-lettered}
-use Rattle.planner.proofs.Only.{same-recorder, not-both}
+use Rattle.planner.proofs.Reading.{same-recorder, not-both}
 
 module _ (f f′ : List ℕ) {R R′ : Recorder} (e : Equal (kindOf f) (bodyOf f) (kindOf f′) (bodyOf f′)) (r : Reads f R) (r′ : Reads f′ R′) where
   pub one-reading : digitsIn (kindOf f) ≡ digitsIn (kindOf f′) → R ≡ R′

@@ -17,8 +17,9 @@ use Rattle.request.proofs.Cutting.{accepted-whole}
 use Rattle.request.proofs.Marks.{first-plain, read-marked}
 use Rattle.planner.specs.declared.Answer.{Answer}
 use Rattle.planner.specs.declared.FileTables.{FileTables}
-use Rattle.planner.specs.Promises.{success, Reads, OfFile, Checked, Written, TablesOf, TablesGiven}
+use Rattle.planner.specs.Promises.{success, stops, passes, gives, Reads, OfFile, Checked, Written, TablesOf, TablesGiven}
 use Rattle.planner.specs.Promises as P
+use Rattle.planner.proofs.Refusing.{unless-enough}
 
 -- The listing of a file that is read as R.
 abbrev listing : Recorder → Tables → FileTables
@@ -39,16 +40,16 @@ module _ (T : Tables) (R : Recorder) (r : readAs (T .kind) (layoutOf T) ≡ acce
 pub written-listed : (T : Tables) (lent : List ℕ) (a : Answer) (after : List ℕ) → Written T lent a after → a .number ≡ 0
     → TablesGiven (take (a .count) after) (record { answer = success (a .horizon) 0 0; tables = counted T })
 written-listed T lent a after (P.Written.refused {n = n} r) z = absurd (omega (arith, number-as (T .kind) (layoutOf T) n r))
-written-listed T lent a after (P.Written.short r h) z = absurd (omega arith)
-written-listed T lent a after (P.Written.written {R = R} r h) z =
+written-listed T lent a after (P.Written.read r (stops h)) z = absurd (omega arith)
+written-listed T lent a after (P.Written.read {R = R} r (passes h gives)) z =
     subst (λ (s : List ℕ). TablesGiven s (listing R (counted T))) (sym (take-at (bytesOf T) (drop (length (bytesOf T)) lent) (length (bytesOf T)) refl)) (accepted-listed T R r)
 
 -- What was written is accepted.
 pub written-checked : (T : Tables) (lent : List ℕ) (a : Answer) (after : List ℕ) → Written T lent a after → a .number ≡ 0
     → Checked (take (a .count) after) (success (a .horizon) 0 0)
 written-checked T lent a after (P.Written.refused {n = n} r) z = absurd (omega (arith, number-as (T .kind) (layoutOf T) n r))
-written-checked T lent a after (P.Written.short r h) z = absurd (omega arith)
-written-checked T lent a after (P.Written.written {R = R} r h) z =
+written-checked T lent a after (P.Written.read r (stops h)) z = absurd (omega arith)
+written-checked T lent a after (P.Written.read {R = R} r (passes h gives)) z =
     subst (λ (s : List ℕ). Checked s (success (R .horizon) 0 0)) (sym (take-at (bytesOf T) (drop (length (bytesOf T)) lent) (length (bytesOf T)) refl)) (P.OfFile.read (accepted-read T R r) P.CheckOf.accepted)
 
 -- ---- from a file
@@ -74,7 +75,7 @@ unfolding readOf
 same-bytes file R lent b r h =
     let T = tablesOf file in
     let same : bytesOf T ≡ file = bytes-back file (accepted-whole (kindOf file) (bodyOf file) R r) b in
-    let done : Written T lent (success (R .horizon) 0 (length (bytesOf T))) (bytesOf T ++ drop (length (bytesOf T)) lent) = P.Written.written (listed-read file R b r) (rw same h) in
+    let done : Written T lent (success (R .horizon) 0 (length (bytesOf T))) (bytesOf T ++ drop (length (bytesOf T)) lent) = P.Written.read (listed-read file R b r) (unless-enough (rw same h) gives) in
     subst (λ (s : List ℕ). Written T lent (success (R .horizon) 0 (length s)) (s ++ drop (length s) lent)) same done
 
 outcome-written : (file lent : List ℕ) (a : Answer) (T : Tables) → Bytes file → OfFile file noTables (TablesOf file) a T → a .number ≡ 0 → length file ≤ length lent

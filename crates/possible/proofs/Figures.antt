@@ -18,7 +18,7 @@ use Rattle.planner.specs.Promises.{success, refusalAfter, Reads}
 use Rattle.planner.specs.Promises as Frame
 use Rattle.possible.specs.TillFound.{unlessFound, enter, visitTillFound, visitedTillFound}
 use Rattle.possible.specs.Promises.{Possible}
-use Rattle.possible.specs.Promises as P
+use Rattle.possible.proofs.Cases as Cases
 use Rattle.possible.proofs.Found.{found-first, found-none}
 
 -- ---- from the visit to the outcome
@@ -30,16 +30,18 @@ module _ (file : List ℕ) (b : ℕ) (lent : List ℕ) (R : Recorder) (reads : R
   yes-with s e h =
       let count : visitedTillFound R .count ≡ c = ap (λ (w : Visited). w .count) e in
       rw (← count)
-      (Frame.OfFile.read reads (P.PossibleOf.found roomy (omega (arith, count)) (found-first R (accepted-valid file R reads) s (ap (λ (w : Visited). w .best) e))))
+      (Frame.OfFile.read reads (Cases.cases-possible b lent R
+      (Cases.PossibleCases.found roomy (omega (arith, count)) (found-first R (accepted-valid file R reads) s (ap (λ (w : Visited). w .best) e)))))
 
   no-with : visitedTillFound R ≡ record { count = c; best = none } → c ≤ b → Possible file b lent (refusalAfter 19 c) lent
   no-with e h =
       let count : visitedTillFound R .count ≡ c = ap (λ (w : Visited). w .count) e in
       rw (← count)
-      (Frame.OfFile.read reads (P.PossibleOf.none roomy (omega (arith, count)) (found-none R (accepted-valid file R reads) (ap (λ (w : Visited). w .best) e))))
+      (Frame.OfFile.read reads (Cases.cases-possible b lent R
+      (Cases.PossibleCases.none roomy (omega (arith, count)) (found-none R (accepted-valid file R reads) (ap (λ (w : Visited). w .best) e)))))
 
   too-small : visitedTillFound R .count ≡ c → b < c → Possible file b lent (refusalAfter 20 b) lent
-  too-small e h = Frame.OfFile.read reads (P.PossibleOf.over roomy (omega (arith, e)))
+  too-small e h = Frame.OfFile.read reads (Cases.cases-possible b lent R (Cases.PossibleCases.over roomy (omega (arith, e))))
 
 -- ---- files
 

@@ -1,6 +1,7 @@
 pub mod Found
 pub mod Counts
 pub mod Only
+pub mod Cases
 pub mod Larger
 pub mod Beside
 pub mod Idling

@@ -15,11 +15,11 @@ use Rattle.visit.specs.inside.Lent.{Finds}
 use Rattle.visit.specs.inside.Lent as Visit
 use Rattle.visit.proofs.Stopping.{choices-same}
 use Rattle.planner.specs.declared.Answer.{Answer}
-use Rattle.planner.specs.Promises.{success, refusalAfter}
+use Rattle.planner.specs.Promises.{success, refusalAfter, stops, gives-such}
+use Rattle.planner.proofs.Refusing.{unless-enough, unless-some}
 use Rattle.possible.specs.TillFound.{unlessFound, found, enter, visitTillFound, visitedTillFound}
 use Rattle.possible.specs.inside.Bare.{Bare}
 use Rattle.possible.specs.Promises.{PossibleOf}
-use Rattle.possible.specs.Promises as P
 use Rattle.possible.proofs.Found.{found-first, found-none}
 use Rattle.possible.proofs.Without.{bare-energy, visited-same}
 
@@ -66,12 +66,13 @@ module _ (R : Recorder) (valid : Valid R) (Q : Recorder) (bare : Bare R Q) (budg
       (f : Found) (l : List ℕ) (a : Answer) → Finds Q (visitedBy Q true) budget lent f l
       → ((f .number ≡ 0 → ⊥) → a ≡ refusalAfter (f .number) (f .count)) × (f .number ≡ 0 → a ≡ success (R .horizon) (f .energy) (f .count))
       → PossibleOf budget lent R a l
-  first-is f l a (Visit.Finds.short q) is = rw (is .0 (λ z. omega (arith, z))) (P.PossibleOf.short (omega (arith, q, bare .count)))
+  first-is f l a (Visit.Finds.short q) is = rw (is .0 (λ z. omega (arith, z))) (stops (omega (arith, q, bare .count)))
   first-is f l a (Visit.Finds.beyond room q) is =
-      rw (is .0 (λ z. omega (arith, z))) (P.PossibleOf.over (omega (arith, room, bare .count)) (omega (arith, q, count-is)))
+      rw (is .0 (λ z. omega (arith, z))) (unless-enough (omega (arith, room, bare .count)) (stops (omega (arith, q, count-is))))
   first-is f l a (Visit.Finds.nowhere room covered q) is =
       rw (is .0 (λ z. omega (arith, z)), count-is)
-      (P.PossibleOf.none (omega (arith, room, bare .count)) (omega (arith, covered, count-is)) (found-none R valid (best-is none q)))
+      (unless-enough (omega (arith, room, bare .count)) (unless-enough (omega (arith, covered, count-is)) (stops (found-none R valid (best-is none q)))))
   first-is f l a (Visit.Finds.found {s = s} room covered q) is =
+      let first = found-first R valid s (best-is (some s) q) in
       rw (is .1 refl, bare-energy R Q bare s, count-is, bare .count)
-      (P.PossibleOf.found (omega (arith, room, bare .count)) (omega (arith, covered, count-is)) (found-first R valid s (best-is (some s) q)))
+      (unless-enough (omega (arith, room, bare .count)) (unless-enough (omega (arith, covered, count-is)) (unless-some (first .feasible) (gives-such first))))

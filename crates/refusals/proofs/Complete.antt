@@ -182,5 +182,5 @@ refused-is k s n e =
 -- So the writer never answers 1 or 2.
 pub written-neither : (T : Tables) (lent : List ℕ) {a : Answer} {after : List ℕ} → Written T lent a after → Neither (a .number)
 written-neither T lent (P.Written.refused {n = n} r) = rw (← refused-is (T .kind) (layoutOf T) n r) (whole-never (layoutOf T) (T .kind) (laid-whole T))
-written-neither T lent (P.Written.short r h) = above 15 (omega arith)
-written-neither T lent (P.Written.written r h) = none
+written-neither T lent (P.Written.read r (P.stops h)) = above 15 (omega arith)
+written-neither T lent (P.Written.read r (P.passes h P.gives)) = none

@@ -17,12 +17,12 @@ use Rattle.base.proofs.Arrays.{length-upTo}
 use Rattle.base.proofs.Every.{Every, every-append, every-upTo, every-at}
 use Rattle.schedule.specs.declared.Recorder.{Recorder}
 use Rattle.schedule.specs.Quantities.{jobs, deadline, run, Valid}
-use Rattle.schedule.specs.Listing.{Feasible, Fault, start, margin}
-use Rattle.schedule.specs.Listing as Listing
+use Rattle.schedule.specs.Listing.{Feasible, start, margin}
 use Rattle.request.proofs.Accepted.{accepted-valid, refused-number}
 use Rattle.planner.specs.declared.Answer.{Answer}
 use Rattle.planner.specs.Promises.{Reads, Judged, Margined}
 use Rattle.planner.specs.Promises as P
+use Rattle.planner.proofs.Refusing.{faulty-met, unless-equal, unless-enough}
 use Rattle.planner.proofs.Only.{only-margined}
 use Rattle.sheet_export.specs.inside.Margins.{Spare}
 
@@ -32,16 +32,10 @@ pub record Planned (file starts : List ℕ) : Type 0 where
   pub reads : Reads file recorder
   pub feasible : Feasible recorder starts
 
-fault-some : {R : Recorder} {s : List ℕ} {n j : ℕ} → Fault R s n j → n ≡ 0 → ⊥
-fault-some (Listing.Fault.early l m e) n = omega arith
-fault-some (Listing.Fault.late l m r e) n = omega arith
-fault-some (Listing.Fault.overlap l m o f) n = omega arith
-
 pub planned : (file starts : List ℕ) {a : Answer} → Judged file starts a → a .number ≡ 0 → Planned file starts
 planned file starts (P.OfFile.refused {n = n} r) e = absurd (omega (arith, refused-number file n r, e))
-planned file starts (P.OfFile.read {R = R} r (P.VerdictOf.unequal u)) e = absurd (omega (arith, e))
-planned file starts (P.OfFile.read {R = R} r (P.VerdictOf.faulty l f)) e = absurd (fault-some f e)
-planned file starts (P.OfFile.read {R = R} r (P.VerdictOf.feasible g c)) e = record { recorder = R; reads = r; feasible = g }
+planned file starts (P.OfFile.read {R = R} r (P.stops u)) e = absurd (omega (arith, e))
+planned file starts (P.OfFile.read {R = R} r (P.passes l t)) e = record { recorder = R; reads = r; feasible = faulty-met R starts e t .0 }
 
 -- ---- margins
 
@@ -86,7 +80,7 @@ spares file starts p {b} {after} m =
     let n : jobs R ≤ 16 = v .few-jobs in
     let room : jobs R ≤ length (replicate 16 (pos 0)) = n in
     let e : after ≡ upTo (margin R starts) (jobs R) ++ drop (jobs R) (replicate 16 (pos 0)) =
-    only-margined file starts (replicate 16 (pos 0)) m (P.OfFile.read (p .reads) (P.MarginsOf.given (p .feasible .one-each) room)) .1 in
+    only-margined file starts (replicate 16 (pos 0)) m (P.OfFile.read (p .reads) (unless-equal (p .feasible .one-each) (unless-enough room P.gives))) .1 in
     let all : Every Spare after =
     subst (Every Spare) (sym e) (every-append Spare (upTo (margin R starts) (jobs R)) (drop (jobs R) (replicate 16 (pos 0)))
     (every-upTo Spare (margin R starts) (jobs R) (spare-margin R starts v (p .feasible))) (every-drop (jobs R) (replicate 16 (pos 0)) (every-zero 16))) in

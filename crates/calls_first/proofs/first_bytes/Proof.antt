@@ -9,7 +9,6 @@ use Rattle.request.proofs.Accepted.{read-accepted, read-refused, accepted-valid
 use Rattle.planner.specs.Promises as P
 use Rattle.planner.specs.Promises.{Reads}
 use Rattle.calls.proofs.Crossing.{starts-short, starts-kept, starts-given}
-use Rattle.first.specs.Promises as F
 use Rattle.calls_first.proofs.Crossing.{first-alike}
 use borrow.Author.Needs.{needs}
 use Rattle.calls_first.proofs.first_bytes.Statement.{statement}
@@ -29,7 +28,7 @@ mul-if2 : tie.Need-mul-if2
 mul-if2 c = omega (arith, few c)
 
 returns-2 : tie.Need-returns-2
-returns-2 c = rw (c .refusal2 .ensures) (P.OfFile.read (recorded (c .before .before)) (starts-short _ _ _ (c .before .if2 .taken) F.FirstOf.short))
+returns-2 c = rw (c .refusal2 .ensures) (P.OfFile.read (recorded (c .before .before)) (starts-short _ _ _ (c .before .if2 .taken) (λ h. P.stops h)))
 
 first-of-requires : tie.Need-first-of-requires
 first-of-requires c κs = accepted-valid _ _ (recorded (c .before .before))

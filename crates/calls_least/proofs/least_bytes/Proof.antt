@@ -8,7 +8,6 @@ use Rattle.schedule.specs.Quantities.{jobs}
 use Rattle.request.proofs.Accepted.{read-accepted, read-refused, accepted-valid}
 use Rattle.planner.specs.Promises as P
 use Rattle.planner.specs.Promises.{Reads}
-use Rattle.cheapest.specs.Promises as L
 use Rattle.calls.proofs.Crossing.{starts-short, starts-kept, starts-given}
 use Rattle.calls_least.proofs.Crossing.{least-alike}
 use borrow.Author.Needs.{needs}
@@ -33,7 +32,7 @@ mul-if2 : tie.Need-mul-if2
 mul-if2 c = omega (arith, few c)
 
 returns-2 : tie.Need-returns-2
-returns-2 c = rw (c .refusal2 .ensures) (P.OfFile.read (recorded (c .before .before)) (starts-short _ _ _ (c .before .if2 .taken) L.LeastOf.short))
+returns-2 c = rw (c .refusal2 .ensures) (P.OfFile.read (recorded (c .before .before)) (starts-short _ _ _ (c .before .if2 .taken) (λ h. P.stops h)))
 
 least-of-requires : tie.Need-least-of-requires
 least-of-requires c κs = accepted-valid _ _ (recorded (c .before .before .before))

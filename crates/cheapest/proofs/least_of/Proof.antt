@@ -5,7 +5,7 @@ use borrow.Author.Tests.{not-true, not-false}
 use Rattle.schedule.specs.declared.Recorder.{Recorder}
 use Rattle.schedule.specs.Quantities.{Valid}
 use Rattle.latest.specs.inside.Latest.{Laid}
-use Rattle.cheapest.specs.Promises as P
+use Rattle.planner.specs.Promises.{stops}
 use Rattle.cheapest.proofs.Ending.{is-possible, is-none}
 use Rattle.cheapest.proofs.least_of.Statement.{statement}
 use Rattle.cheapest.proofs.least_of.Tie as tie
@@ -15,7 +15,7 @@ tabled : (c : tie.After-lay-latest) → Laid (c .before .before .before .before 
 tabled c = subst (λ (X : Recorder). Laid X (c .lay-latest .last .1 .0)) (c .before .before .before .flat-of .ensures) (c .lay-latest .ensures)
 
 returns : tie.Need-returns
-returns c = rw (c .refusal .ensures) (P.LeastOf.short (c .before .if1 .taken))
+returns c = rw (c .refusal .ensures) (stops (c .before .if1 .taken))
 
 lay-latest-requires : tie.Need-lay-latest-requires
 lay-latest-requires c κs = (subst Valid (sym (c .before .before .flat-of .ensures)) (c .before .before .before .before .before .before .pre), search needs)

@@ -5,13 +5,13 @@ use native.Mathlib.Omega.{arith}
 use lib.ListN.{length-replicate}
 use borrow.Author.Needs.{needs}
 use Rattle.schedule.specs.Quantities.{Valid}
-use Rattle.first.specs.Promises as P
+use Rattle.planner.specs.Promises.{stops}
 use Rattle.first.proofs.Found.{whole-known, is-none, is-ready, is-found}
 use Rattle.first.proofs.first_of.Statement.{statement}
 use Rattle.first.proofs.first_of.Tie as tie
 
 returns : tie.Need-returns
-returns c = rw (c .refusal .ensures) (P.FirstOf.short (c .before .if1 .taken))
+returns c = rw (c .refusal .ensures) (stops (c .before .if1 .taken))
 
 lay-latest-requires : tie.Need-lay-latest-requires
 lay-latest-requires c κs = (subst Valid (sym (c .before .before .flat-of .ensures)) (c .before .before .before .before .before .pre), length-replicate {A = ℕ} 65536 0)

@@ -2,7 +2,8 @@
 use mir.Syntax.{w32}
 use mir.Val.{SFits, toZ, ofZ}
 use mir.Facts.{toZ-ofZ}
-use Rattle.plan.proofs.Sizes.{size-pos, size-neg, Negated}
+use Rattle.planner.proofs.Signs.{size-pos}
+use Rattle.plan.proofs.Sizes.{size-neg, Negated}
 use borrow.Author.Needs.{needs}
 use Rattle.plan.proofs.print_margin.Statement.{statement}
 use Rattle.plan.proofs.print_margin.Tie as tie

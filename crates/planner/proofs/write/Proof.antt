@@ -18,6 +18,7 @@ use Rattle.request.specs.Format.{readAs, accepted, handedOn}
 use Rattle.request.proofs.Accepted.{accepted-by, refused-by}
 use Rattle.request.proofs.Cutting.{read-cut, accepted-cut}
 use Rattle.planner.specs.Promises as P
+use Rattle.planner.proofs.Refusing.{unless-enough}
 use Rattle.planner.proofs.write.Statement.{statement}
 use Rattle.planner.proofs.write.Tie as tie
 
@@ -65,7 +66,7 @@ size c = ap (λ (f : File). f .count) (c .before .before .before .before .file-o
 written-as :
     (T : Tables) (lent : List ℕ) (R : Recorder) (s : List ℕ) (n : ℕ) → readAs (T .kind) (layoutOf T) ≡ accepted R → s ≡ bytesOf T → n ≡ length (bytesOf T) → n ≤ length lent
     → P.Written T lent (P.success (R .horizon) 0 n) (s ++ drop (length s) lent)
-written-as T lent R s n r e f h = rw (e, f) (P.Written.written r (omega arith))
+written-as T lent R s n r e f h = rw (e, f) (P.Written.read r (unless-enough (omega arith) P.gives))
 
 array-share-prefix-bytes : tie.Need-array-share-prefix-bytes
 array-share-prefix-bytes c = fits (c .before)
@@ -80,7 +81,7 @@ returns : tie.Need-returns
 returns c = rw (c .refusal .ensures) (P.Written.refused (refused-by _ _ _ (reads (c .before .before)) (c .before .if1 .taken)))
 
 returns-2 : tie.Need-returns-2
-returns-2 c = rw (c .refusal2 .ensures) (P.Written.short (recorded (c .before .before)) (rw (size (c .before .before)) at (c .before .if2 .taken)))
+returns-2 c = rw (c .refusal2 .ensures) (P.Written.read (recorded (c .before .before)) (P.stops (rw (size (c .before .before)) at (c .before .if2 .taken))))
 
 array-share-prefix-bytes-2 : tie.Need-array-share-prefix-bytes-2
 array-share-prefix-bytes-2 c = fits (c .before .before .before .before .before)

@@ -27,7 +27,7 @@ mul-if2 : tie.Need-mul-if2
 mul-if2 c = omega (arith, few c)
 
 returns-2 : tie.Need-returns-2
-returns-2 c = rw (c .refusal2 .ensures) (P.OfFile.read (recorded (c .before .before)) (starts-short _ _ _ (c .before .if2 .taken) P.SearchOf.short))
+returns-2 c = rw (c .refusal2 .ensures) (P.OfFile.read (recorded (c .before .before)) (starts-short _ _ _ (c .before .if2 .taken) (λ h. P.stops h)))
 
 search-in-of-requires : tie.Need-search-in-of-requires
 search-in-of-requires c κs = accepted-valid _ _ (recorded (c .before .before .before))

@@ -3,7 +3,8 @@ use mathlib.Core.Path.{ap, _∙_}
 use mir.Syntax.{w32}
 use mir.Val.{SFits, toZ, ofZ}
 use mir.Facts.{toZ-ofZ}
-use Rattle.doors.proofs.Signs.{size-pos, Raised, raised, complement-pos, complement-raised}
+use Rattle.planner.proofs.Signs.{size-pos}
+use Rattle.doors.proofs.Signs.{Raised, raised, complement-pos, complement-raised}
 use Rattle.doors.specs.Promises.{complement}
 use Rattle.doors.proofs.door_margins.bits_of.Statement.{statement}
 use Rattle.doors.proofs.door_margins.bits_of.Tie as tie

@@ -5,7 +5,8 @@ use Prim.Native.Nat.{ℕ, _≤_}
 use native.Mathlib.Omega.{arith}
 use lib.ListN.{length, set, drop}
 use lib.Seq.{lt-length-set}
-use Rattle.planner.specs.Promises as P
+use Rattle.planner.specs.Promises.{stops, gives}
+use Rattle.planner.proofs.Refusing.{unless-enough}
 use borrow.Author.Needs.{needs}
 use Rattle.planner.proofs.recorders.sizes_of.Statement.{statement}
 use Rattle.planner.proofs.recorders.sizes_of.Tie as tie
@@ -18,7 +19,7 @@ three (x ∷ y ∷ []) a b c h = absurd (omega arith)
 three (x ∷ y ∷ z ∷ l) a b c h = refl
 
 returns : tie.Need-returns
-returns c = rw (c .refusal .ensures) (P.SizesOf.short (c .before .if1 .taken))
+returns c = rw (c .refusal .ensures) (stops (c .before .if1 .taken))
 
 cast-out : tie.Need-cast-out
 cast-out c = omega (arith, c .before .before .before .pre .0)
@@ -29,7 +30,7 @@ slice-write-out-2 c = let a = c .before .before .before .args in lt-length-set (
 returns-2 : tie.Need-returns-2
 returns-2 c =
     let l = c .before .before .before .before .before .args .out .now in
-    rw (c .success .ensures, three l _ _ _ (c .before .before .before .if1 .left)) (P.SizesOf.given (c .before .before .before .if1 .left))
+    rw (c .success .ensures, three l _ _ _ (c .before .before .before .if1 .left)) (unless-enough (c .before .before .before .if1 .left) gives)
 
 pub sizes-of-spec : {M : Type 1} → statement M
 sizes-of-spec =
