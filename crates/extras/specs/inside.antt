@@ -1,2 +1,3 @@
 pub mod Parts
+pub mod Shapes
 pub mod Tabled

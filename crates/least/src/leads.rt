@@ -1,5 +1,7 @@
 // By how much the rest may fall from one start of a job to the next; how long a vertex waits.
-use extras::Extras;
+use extras::cap_of;
+use extras::fall_of;
+use extras::rise_of;
 use flat::Flat;
 use flat::device_count;
 use flat::horizon_of;
@@ -19,21 +21,21 @@ ghost use Rattle.extras.specs.inside.Tabled.{Tabled, riseAt, fallAt};
 ghost use Rattle.least.specs.inside.Shown.{fallsBy, Ordered};
 
 // By how much device k can lower the rest, where job j starts one tick later.
-fn fall_with(r: &Flat, extras: &Extras, round: bool, k: usize, j: usize, end: u32) -> u32
+fn fall_with(r: &Flat, extras: &[u32], round: bool, k: usize, j: usize, end: u32) -> u32
     requires { ⌜ Tabled (recorderOf (now r)) (now extras) × ((k < recorderOf (now r) .devices .count) × (j < 16)) ⌝ }
     ensures { λ x. ⌜ (x ≡ cond (uses (recorderOf (now (r .entry))) k j) (cond (unused round end) (riseAt (now (extras .entry)) k + fallAt (now (extras .entry)) k) (riseAt (now (extras .entry)) k)) 0) × (x ≤ 536862720) ⌝ }
 {
     if is_used(r, k, j) {
         if is_unused(round, end) {
-            return extras[32784 + k] + extras[32792 + k];
+            return rise_of(extras, k) + fall_of(extras, k);
         }
-        return extras[32784 + k];
+        return rise_of(extras, k);
     }
     0
 }
 
 // By how much all devices can.
-pub fn fall_of(r: &Flat, extras: &Extras, v: &Cells, j: usize) -> u32
+pub fn falls_of(r: &Flat, extras: &[u32], v: &Cells, j: usize) -> u32
     requires { ⌜ Tabled (recorderOf (now r)) (now extras) × (j < 16) ⌝ }
     ensures { λ x. ⌜ x ≡ fallsBy (recorderOf (now (r .entry))) (riseAt (now (extras .entry))) (fallAt (now (extras .entry))) (now (v .entry)) j ⌝ }
 {
@@ -67,7 +69,7 @@ fn wait_with(cap: u32, unused: bool, end: u32, ahead: u32, time: u32, until: u32
 
 // Up to which time a vertex looks at starts itself; from there on it is the same vertex at that time. It is when one more device has reached its cap; with all there,
 // the next step of 32 ticks; or the horizon.
-pub fn wait_of(r: &Flat, extras: &Extras, v: &Cells, time: u32) -> u32
+pub fn wait_of(r: &Flat, extras: &[u32], v: &Cells, time: u32) -> u32
     requires { ⌜ Tabled (recorderOf (now r)) (now extras) × Ordered (recorderOf (now r)) (now v) time ⌝ }
     ensures { λ x. ⌜ (x ≤ recorderOf (now (r .entry)) .horizon) × (x < recorderOf (now (r .entry)) .horizon → time < x) ⌝ }
 {
@@ -77,7 +79,7 @@ pub fn wait_of(r: &Flat, extras: &Extras, v: &Cells, time: u32) -> u32
     let mut k: usize = 0;
     while k < m {
         until = wait_with(
-            extras[32776 + k],
+            cap_of(extras, k),
             is_unused(round, v[k]),
             v[k],
             v[16 + k],

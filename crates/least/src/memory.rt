@@ -1,6 +1,7 @@
 // What the search remembers: entries of five words (specs/inside/Entries), four to a row. Which row a key has is of no matter to what is found there: an entry holds its whole
 // key. A word of 0 is no entry: of a key that is looked for some job is unplaced.
 use stored::Key;
+use stored::comparing::is_key;
 use stored::row_of;
 ghost use mathlib.Core.Path.{_≡_};
 ghost use mathlib.Core.Bool.{true};
@@ -24,19 +25,7 @@ fn is_at(memory: &[u64], i: usize, q: Key) -> bool
     ensures { λ x. ⌜ (x ≡ true → keyAt (now (memory .entry)) i ≡ q) ⌝ }
 {
     let at = 5 * i;
-    if memory[at] % TWO29 != q.head {
-        return false;
-    }
-    if memory[at + 1] != q.idle {
-        return false;
-    }
-    if memory[at + 2] != q.idle4 {
-        return false;
-    }
-    if memory[at + 3] != q.first {
-        return false;
-    }
-    memory[at + 4] == q.first4
+    is_key(memory, at, memory[at] % TWO29, q)
 }
 
 // Looks in the four entries of the key's row. Where it is in none, its place is that of the entry that took the least effort. Where there is no row, nothing is known.

@@ -4,7 +4,7 @@ use crate::search::STOP;
 use crate::search::enter;
 use crate::search::last_of;
 use crate::search::least;
-use extras::Extras;
+use extras::rise_of;
 use flat::Flat;
 use flat::job_count;
 use flat::numbers::later;
@@ -21,7 +21,7 @@ ghost use mathlib.Core.Path.{_≡_};
 ghost use mathlib.Core.Bool.{true};
 ghost use mathlib.Core.Option.{some};
 ghost use Prim.Native.Nat.{ℕ, suc, _-_, _*_, _^_, _<_, _≤_};
-ghost use lib.ListN.{replicate};
+ghost use lib.ListN.{length, replicate};
 ghost use Rattle.schedule.specs.Quantities.{jobs};
 ghost use Rattle.schedule.specs.Visiting.{Vertex};
 ghost use Rattle.flat.specs.inside.Flat.{recorderOf};
@@ -42,7 +42,7 @@ pub struct Child {
 // Whether the child that places job j at s has `goal` in all: 1 or 0, or STOP.
 fn hits(
     r: &Flat,
-    extras: &Extras,
+    extras: &[u32],
     latest: &Table,
     memory: &mut [u64],
     entered: &mut u32,
@@ -87,7 +87,7 @@ fn hits(
 // The first start of job j with which the extras to come are `goal`; NEVER where there is none.
 fn first_start(
     r: &Flat,
-    extras: &Extras,
+    extras: &[u32],
     latest: &Table,
     memory: &mut [u64],
     entered: &mut u32,
@@ -138,7 +138,7 @@ fn first_start(
 // The first child with which they are; a start of STOP where the budget is used up.
 fn first_child(
     r: &Flat,
-    extras: &Extras,
+    extras: &[u32],
     latest: &Table,
     memory: &mut [u64],
     entered: &mut u32,
@@ -191,7 +191,7 @@ fn first_child(
 // Writes the starts of the first of the least, whose extras are `total` below the root. Answers whether the budget was enough.
 fn read_off(
     r: &Flat,
-    extras: &Extras,
+    extras: &[u32],
     latest: &Table,
     memory: &mut [u64],
     entered: &mut u32,
@@ -238,11 +238,13 @@ fn read_off(
 }
 
 // By how much more than asked is looked for: eight of the steepest rise.
-fn lift_of(extras: &Extras) -> u32 {
+fn lift_of(extras: &[u32]) -> u32
+    requires { ⌜ 40 ≤ length (now extras) ⌝ }
+{
     let mut most: u32 = 0;
     let mut k: usize = 0;
     while k < 8 {
-        most = later(most, extras[32784 + k]);
+        most = later(most, rise_of(extras, k));
         k += 1;
     }
     most % 268435456 * 8
@@ -251,7 +253,7 @@ fn lift_of(extras: &Extras) -> u32 {
 // Writes the starts of the first of the least-energy schedules, by job number. Answers whether the budget was enough.
 pub fn least_starts(
     r: &Flat,
-    extras: &Extras,
+    extras: &[u32],
     latest: &Table,
     memory: &mut [u64],
     budget: u32,

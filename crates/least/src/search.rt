@@ -1,11 +1,10 @@
 // The search: least -> learn -> examine -> choices -> tries -> attempt -> enter -> least. It works out a number, the least extras to come of a vertex, as far as they
 // are below what is asked for. The parent is lent for reading, and a child is made only where no earlier start rules it out.
-use crate::leads::fall_of;
+use crate::leads::falls_of;
 use crate::leads::wait_of;
 use crate::memory::Spot;
 use crate::memory::look;
 use crate::memory::remember;
-use extras::Extras;
 use flat::Flat;
 use flat::deadline_of;
 use flat::job_count;
@@ -89,7 +88,7 @@ pub fn last_of(r: &Flat, latest: &Table, set: usize, j: usize) -> u32
 // The child that places job j at s.
 pub fn enter(
     r: &Flat,
-    extras: &Extras,
+    extras: &[u32],
     latest: &Table,
     memory: &mut [u64],
     entered: &mut u32,
@@ -127,7 +126,7 @@ pub fn enter(
 // The least extras to come of a vertex: the answer is never more, and where it is below slack it is the least itself.
 pub fn least(
     r: &Flat,
-    extras: &Extras,
+    extras: &[u32],
     latest: &Table,
     memory: &mut [u64],
     entered: &mut u32,
@@ -170,7 +169,7 @@ pub fn least(
 // The same of a vertex with jobs unplaced of which too little is known; it is remembered.
 fn learn(
     r: &Flat,
-    extras: &Extras,
+    extras: &[u32],
     latest: &Table,
     memory: &mut [u64],
     entered: &mut u32,
@@ -218,7 +217,7 @@ fn learn(
 // The starts before the vertex waits, and the vertex that has waited.
 fn examine(
     r: &Flat,
-    extras: &Extras,
+    extras: &[u32],
     latest: &Table,
     memory: &mut [u64],
     entered: &mut u32,
@@ -277,7 +276,7 @@ fn examine(
 // Each unplaced job in turn, at its starts before `until`.
 fn choices(
     r: &Flat,
-    extras: &Extras,
+    extras: &[u32],
     latest: &Table,
     memory: &mut [u64],
     entered: &mut u32,
@@ -332,7 +331,7 @@ fn choices(
 // they are lower by `fall` at most.
 fn tries(
     r: &Flat,
-    extras: &Extras,
+    extras: &[u32],
     latest: &Table,
     memory: &mut [u64],
     entered: &mut u32,
@@ -352,7 +351,7 @@ fn tries(
     ensures answer { λ x. ⌜ ((m : ℕ) (u : Vertex) (o : Option ℕ) → Shows (recorderOf (now (r .entry))) (now (v .entry)) set (suc m) u → u .time ≡ time → Answers limit o given → Came budget (now (entered .entry)) (now (entered .exit)) ((until - time) * mostOf (recorderOf (now (r .entry))) m 0) x (Answers limit (lesser o (leastIn (viaChild (recorderOf (now (r .entry))) m u j) (startsTo (recorderOf (now (r .entry))) (u .time) until j))) x)) ⌝ }
 {
     let to = sooner(until, last_of(r, latest, set - p, j));
-    let fall = fall_of(r, extras, v, j);
+    let fall = falls_of(r, extras, v, j);
     let mut best = given;
     let mut ahead: u32 = 0;
     let mut s = later(time, wide(release_of(r, j)));
@@ -389,7 +388,7 @@ fn tries(
 // A bound of the child that places job j at s: the one that is known, where with it the child can't come below `most`; else the child is entered.
 fn attempt(
     r: &Flat,
-    extras: &Extras,
+    extras: &[u32],
     latest: &Table,
     memory: &mut [u64],
     entered: &mut u32,

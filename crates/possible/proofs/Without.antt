@@ -3,11 +3,11 @@ use mathlib.Core.Path.{_≡_, refl, ap, _∙_}
 use mathlib.Core.Bool.{Bool, cond}
 use mathlib.Core.Option.{Option, none, some}
 use mathlib.Core.List.{List, [], _∷_}
-use Prim.Native.Nat.{ℕ, zero, suc, _+_}
+use Prim.Native.Nat.{ℕ, zero, suc}
 use native.Mathlib.Omega.{arith}
 use Rattle.base.specs.Lists.{upFrom}
 use Rattle.base.specs.Loops.{through}
-use Rattle.base.specs.Sums.{total, sum}
+use Rattle.base.specs.Sums.{total}
 use Rattle.base.proofs.Cases.{test-cases}
 use Rattle.schedule.specs.declared.Recorder.{Recorder}
 use Rattle.schedule.specs.Quantities.{jobs, run, Valid}

@@ -2,7 +2,6 @@
 use crate::memory::Spot;
 use crate::memory::look;
 use crate::memory::slacked;
-use extras::Extras;
 use flat::Flat;
 use stored::Key;
 use stored::naming::key_of;
@@ -24,7 +23,7 @@ pub struct Asked {
 
 pub fn ask(
     r: &Flat,
-    extras: &Extras,
+    extras: &[u32],
     memory: &[u64],
     v: &Cells,
     set: usize,

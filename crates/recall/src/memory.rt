@@ -1,6 +1,7 @@
 // The memory of the counted search: entries of six words (specs/inside/Entries), a key with its slack and a count. Which entry a key has is of no matter to what is found
 // there: an entry holds its whole key. A count of 0 is no entry.
 use stored::Key;
+use stored::comparing::is_key;
 use stored::row_of;
 ghost use mathlib.Core.Path.{_≡_};
 ghost use mathlib.Core.Bool.{true};
@@ -38,19 +39,7 @@ fn is_at(memory: &[u64], i: usize, q: Key) -> bool
     ensures { λ x. ⌜ (x ≡ true → keyAt (now (memory .entry)) i ≡ q) ⌝ }
 {
     let at = 6 * i;
-    if memory[at] != q.head {
-        return false;
-    }
-    if memory[at + 1] != q.idle {
-        return false;
-    }
-    if memory[at + 2] != q.idle4 {
-        return false;
-    }
-    if memory[at + 3] != q.first {
-        return false;
-    }
-    memory[at + 4] == q.first4
+    is_key(memory, at, memory[at], q)
 }
 
 // Looks at the one place that the key has. Where there is no entry at all, nothing is known.

@@ -1,2 +1,3 @@
 pub mod Cleared
+pub mod Holding
 pub mod Naming

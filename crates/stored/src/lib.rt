@@ -3,6 +3,7 @@ ghost use mathlib.Core.Path.{_≡_};
 ghost use Prim.Native.Nat.{ℕ, _<_};
 ghost use lib.ListN.{getD};
 
+pub mod comparing; // comparing.rt: a stored key compared
 pub mod naming; // naming.rt: the key of a vertex
 
 const TWO32: u64 = 4294967296;

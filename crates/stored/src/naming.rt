@@ -1,6 +1,6 @@
 // The key of a vertex: all that what is still to pay depends on (value/specs/inside/Stored).
 use crate::Key;
-use extras::Extras;
+use extras::cap_of;
 use flat::Flat;
 use flat::device_count;
 use flat::horizon_of;
@@ -32,7 +32,7 @@ fn idle_with(cap: u32, unused: bool, h: u32, end: u32, first: u32, ahead: u32, t
     sooner(first + (h - end), cap)
 }
 
-fn idle_of(r: &Flat, extras: &Extras, v: &Cells, k: usize, time: u32) -> u64
+fn idle_of(r: &Flat, extras: &[u32], v: &Cells, k: usize, time: u32) -> u64
     requires { ⌜ Tabled (recorderOf (now r)) (now extras) × (Ordered (recorderOf (now r)) (now v) time × (k < 8)) ⌝ }
     ensures { λ x. ⌜ (x ≡ idleBy (recorderOf (now (r .entry))) (capAt (now (extras .entry))) (now (v .entry)) time k) × (x < 65536) ⌝ }
 {
@@ -40,7 +40,7 @@ fn idle_of(r: &Flat, extras: &Extras, v: &Cells, k: usize, time: u32) -> u64
         let h = wide(horizon_of(r));
         let unused = is_unused(is_round(r), v[k]);
         return idle_with(
-            extras[32776 + k],
+            cap_of(extras, k),
             unused,
             h,
             v[k],
@@ -53,13 +53,13 @@ fn idle_of(r: &Flat, extras: &Extras, v: &Cells, k: usize, time: u32) -> u64
 }
 
 // When it was first used, up to its cap, as long as it is needed.
-fn first_of(r: &Flat, extras: &Extras, v: &Cells, k: usize) -> u64
+fn first_of(r: &Flat, extras: &[u32], v: &Cells, k: usize) -> u64
     requires { ⌜ Tabled (recorderOf (now r)) (now extras) × (k < 8) ⌝ }
     ensures { λ x. ⌜ (x ≡ firstBy (recorderOf (now (r .entry))) (capAt (now (extras .entry))) (now (v .entry)) k) × (x < 65536) ⌝ }
 {
     if k < device_count(r) {
         if 0 < v[16 + k] {
-            return sooner(v[8 + k], extras[32776 + k]) as u64;
+            return sooner(v[8 + k], cap_of(extras, k)) as u64;
         }
     }
     0
@@ -73,7 +73,7 @@ fn packed(a: u64, b: u64, c: u64, d: u64) -> u64
     ((a * 65536 + b) * 65536 + c) * 65536 + d
 }
 
-fn four_idle(r: &Flat, extras: &Extras, v: &Cells, k: usize, time: u32) -> u64
+fn four_idle(r: &Flat, extras: &[u32], v: &Cells, k: usize, time: u32) -> u64
     requires { ⌜ Tabled (recorderOf (now r)) (now extras) × (Ordered (recorderOf (now r)) (now v) time × (k ≤ 4)) ⌝ }
     ensures { λ x. ⌜ x ≡ four (idleBy (recorderOf (now (r .entry))) (capAt (now (extras .entry))) (now (v .entry)) time) k ⌝ }
 {
@@ -84,7 +84,7 @@ fn four_idle(r: &Flat, extras: &Extras, v: &Cells, k: usize, time: u32) -> u64
     packed(a, b, c, d)
 }
 
-fn four_first(r: &Flat, extras: &Extras, v: &Cells, k: usize) -> u64
+fn four_first(r: &Flat, extras: &[u32], v: &Cells, k: usize) -> u64
     requires { ⌜ Tabled (recorderOf (now r)) (now extras) × (k ≤ 4) ⌝ }
     ensures { λ x. ⌜ x ≡ four (firstBy (recorderOf (now (r .entry))) (capAt (now (extras .entry))) (now (v .entry))) k ⌝ }
 {
@@ -95,7 +95,7 @@ fn four_first(r: &Flat, extras: &Extras, v: &Cells, k: usize) -> u64
     packed(a, b, c, d)
 }
 
-pub fn key_of(r: &Flat, extras: &Extras, v: &Cells, set: usize, time: u32) -> Key
+pub fn key_of(r: &Flat, extras: &[u32], v: &Cells, set: usize, time: u32) -> Key
     requires { ⌜ Tabled (recorderOf (now r)) (now extras) × (Ordered (recorderOf (now r)) (now v) time × (set < 65536)) ⌝ }
     ensures { λ q. ⌜ q ≡ keyBy (recorderOf (now (r .entry))) (capAt (now (extras .entry))) (now (v .entry)) set time ⌝ }
 {

@@ -1,7 +1,7 @@
-// The extras that a job adds before it starts, and those that the end adds; from where on a later start adds the same; and the floor with nothing added.
+// The extras that a job adds before it starts, and those that the end adds; from where on no later start adds less; and the floor with nothing added.
 use crate::cells::Cells;
-use extras::Extras;
 use extras::extra_of;
+use extras::foot_of;
 use flat::Flat;
 use flat::deep_power;
 use flat::device_count;
@@ -15,11 +15,12 @@ ghost use mathlib.Core.Path.{_≡_};
 ghost use mathlib.Core.Bool.{true, false, cond};
 ghost use Prim.Native.Nat.{ℕ, _+_, _-_, _*_, _<_, _≤_};
 ghost use lib.Dec.{ltb};
+ghost use lib.ListN.{length};
 ghost use Rattle.base.specs.Sums.{sum};
 ghost use Rattle.schedule.specs.Quantities.{device, run, uses};
 ghost use Rattle.flat.specs.inside.Flat.{recorderOf};
 ghost use Rattle.keys.specs.inside.Keys.{extra};
-ghost use Rattle.extras.specs.inside.Tabled.{Tabled, capAt};
+ghost use Rattle.extras.specs.inside.Tabled.{Tabled, footAt};
 ghost use Rattle.vertex.specs.inside.Shown.{unused, aheadAt, leadsBy, closesBy, endsBy, idleFloor, Ordered};
 
 // Whether a device whose last use ended at `end` has none yet in a round. (A use ends after tick 0.)
@@ -37,7 +38,7 @@ fn chosen(test: bool, x: u32, y: u32) -> u32
 }
 
 // What device k pays for the gap before job j, if it uses the device, where it starts at s. The table is read before the tests, so that no jump hangs on them.
-fn lead_with(r: &Flat, extras: &Extras, round: bool, k: usize, j: usize, end: u32, s: u32) -> u32
+fn lead_with(r: &Flat, extras: &[u32], round: bool, k: usize, j: usize, end: u32, s: u32) -> u32
     requires { ⌜ Tabled (recorderOf (now r)) (now extras) × ((k < recorderOf (now r) .devices .count) × ((j < 16) × ((end ≤ s) × (s ≤ recorderOf (now r) .horizon)))) ⌝ }
     ensures { λ x. ⌜ (x ≡ cond (uses (recorderOf (now (r .entry))) k j) (cond (unused round end) 0 (extra (device (recorderOf (now (r .entry))) k) (s - end))) 0) × (x ≤ 268431360) ⌝ }
 {
@@ -52,7 +53,7 @@ fn lead_with(r: &Flat, extras: &Extras, round: bool, k: usize, j: usize, end: u3
 }
 
 // What all devices pay for the gaps before job j, where it starts at s.
-pub fn lead_of(r: &Flat, extras: &Extras, v: &Cells, j: usize, s: u32) -> u32
+pub fn lead_of(r: &Flat, extras: &[u32], v: &Cells, j: usize, s: u32) -> u32
     requires { ⌜ Tabled (recorderOf (now r)) (now extras) × ((j < 16) × Ordered (recorderOf (now r)) (now v) s) ⌝ }
     ensures { λ x. ⌜ (x ≡ leadsBy (recorderOf (now (r .entry))) (now (v .entry)) j s) × (x ≤ 2147450880) ⌝ }
 {
@@ -68,7 +69,7 @@ pub fn lead_of(r: &Flat, extras: &Extras, v: &Cells, j: usize, s: u32) -> u32
 }
 
 // What device k pays for the gap that closes its round.
-fn close_with(r: &Flat, extras: &Extras, round: bool, k: usize, h: u32, end: u32, first: u32) -> u32
+fn close_with(r: &Flat, extras: &[u32], round: bool, k: usize, h: u32, end: u32, first: u32) -> u32
     requires { ⌜ Tabled (recorderOf (now r)) (now extras) × ((k < recorderOf (now r) .devices .count) × ((first ≤ end) × ((end ≤ h) × (h ≤ recorderOf (now r) .horizon)))) ⌝ }
     ensures { λ x. ⌜ (x ≡ cond (unused round end) 0 (extra (device (recorderOf (now (r .entry))) k) (first + (h - end)))) × (x ≤ 268431360) ⌝ }
 {
@@ -80,7 +81,7 @@ fn close_with(r: &Flat, extras: &Extras, round: bool, k: usize, h: u32, end: u32
 }
 
 // What all devices pay for them.
-pub fn close_of(r: &Flat, extras: &Extras, v: &Cells) -> u32
+pub fn close_of(r: &Flat, extras: &[u32], v: &Cells) -> u32
     requires { ⌜ Tabled (recorderOf (now r)) (now extras) × Ordered (recorderOf (now r)) (now v) (recorderOf (now r) .horizon) ⌝ }
     ensures { λ x. ⌜ (x ≡ closesBy (recorderOf (now (r .entry))) (now (v .entry))) × (x ≤ 2147450880) ⌝ }
 {
@@ -99,7 +100,7 @@ pub fn close_of(r: &Flat, extras: &Extras, v: &Cells) -> u32
 // The same where job j, which runs for c ticks, is the last and starts at s: its devices end with it.
 fn end_with(
     r: &Flat,
-    extras: &Extras,
+    extras: &[u32],
     round: bool,
     k: usize,
     h: u32,
@@ -119,7 +120,7 @@ fn end_with(
 }
 
 // What all devices pay for them. The child that places job j at s is complete, and is not made.
-pub fn end_of(r: &Flat, extras: &Extras, v: &Cells, j: usize, s: u32) -> u32
+pub fn end_of(r: &Flat, extras: &[u32], v: &Cells, j: usize, s: u32) -> u32
     requires { ⌜ Tabled (recorderOf (now r)) (now extras) × ((j < 16) × (Ordered (recorderOf (now r)) (now v) s × (s + run (recorderOf (now r)) j ≤ recorderOf (now r) .horizon))) ⌝ }
     ensures { λ x. ⌜ (x ≡ endsBy (recorderOf (now (r .entry))) (now (v .entry)) j s) × (x ≤ 2147450880) ⌝ }
 {
@@ -136,24 +137,24 @@ pub fn end_of(r: &Flat, extras: &Extras, v: &Cells, j: usize, s: u32) -> u32
     sum
 }
 
-// Whether the gap before job j, where it starts at s, is shorter than the cap of device k, which pays for it.
-fn is_short(r: &Flat, extras: &Extras, round: bool, k: usize, j: usize, end: u32, s: u32) -> bool
-    requires { ⌜ (k < 8) × ((j < 16) × (end ≤ s)) ⌝ }
-    ensures { λ x. ⌜ x ≡ cond (uses (recorderOf (now (r .entry))) k j) (cond (unused round end) false (ltb (s - end) (capAt (now (extras .entry)) k))) false ⌝ }
+// Whether the gap before job j, where it starts at s, is shorter than the foot of device k, which pays for it.
+fn is_short(r: &Flat, extras: &[u32], round: bool, k: usize, j: usize, end: u32, s: u32) -> bool
+    requires { ⌜ (k < 8) × ((j < 16) × ((end ≤ s) × (40 ≤ length (now extras)))) ⌝ }
+    ensures { λ x. ⌜ x ≡ cond (uses (recorderOf (now (r .entry))) k j) (cond (unused round end) false (ltb (s - end) (footAt (now (extras .entry)) k))) false ⌝ }
 {
     if is_used(r, k, j) {
         if is_unused(round, end) {
             return false;
         }
-        return s - end < extras[32776 + k];
+        return s - end < foot_of(extras, k);
     }
     false
 }
 
-// Whether every gap before job j, where it starts at s, has reached the cap: then every later start adds the same.
-pub fn is_steady(r: &Flat, extras: &Extras, v: &Cells, j: usize, s: u32) -> bool
+// Whether every gap before job j, where it starts at s, has reached the foot: then no later start adds less.
+pub fn is_climbing(r: &Flat, extras: &[u32], v: &Cells, j: usize, s: u32) -> bool
     requires { ⌜ Tabled (recorderOf (now r)) (now extras) × ((j < 16) × Ordered (recorderOf (now r)) (now v) s) ⌝ }
-    ensures { λ x. ⌜ (x ≡ true → (t : ℕ) → s ≤ t → t ≤ recorderOf (now (r .entry)) .horizon → leadsBy (recorderOf (now (r .entry))) (now (v .entry)) j t ≡ leadsBy (recorderOf (now (r .entry))) (now (v .entry)) j s) ⌝ }
+    ensures { λ x. ⌜ (x ≡ true → (t : ℕ) → s ≤ t → t ≤ recorderOf (now (r .entry)) .horizon → leadsBy (recorderOf (now (r .entry))) (now (v .entry)) j s ≤ leadsBy (recorderOf (now (r .entry))) (now (v .entry)) j t) ⌝ }
 {
     let round = is_round(r);
     let m = device_count(r);
@@ -176,7 +177,7 @@ fn floor_with(work: u16, deep: u16, h: u32, ahead: u32) -> u32
 }
 
 // The floor of the root: at work for the ticks to come of each device, and in its deepest sleep for all others.
-pub fn root_floor(r: &Flat, extras: &Extras, v: &Cells) -> u32
+pub fn root_floor(r: &Flat, extras: &[u32], v: &Cells) -> u32
     requires { ⌜ Tabled (recorderOf (now r)) (now extras) × ((k : ℕ) → k < recorderOf (now r) .devices .count → aheadAt (now v) k ≤ recorderOf (now r) .horizon) ⌝ }
     ensures { λ x. ⌜ (x ≡ sum (recorderOf (now (r .entry)) .devices .count) (idleFloor (recorderOf (now (r .entry))) (now (v .entry)))) × (x ≤ 2147450880) ⌝ }
 {

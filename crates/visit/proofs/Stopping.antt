@@ -11,7 +11,7 @@ use Rattle.base.specs.Loops.{through}
 use Rattle.base.proofs.Cases.{cond-cases, test-cases}
 use Rattle.schedule.specs.declared.Recorder.{Recorder}
 use Rattle.schedule.specs.Quantities.{jobs}
-use Rattle.schedule.specs.Visiting.{Vertex, Visited, Walk, counted, root, child, starts, startsOf, cutA, cutB, better, choices, complete, examine, visit, visited}
+use Rattle.schedule.specs.Visiting.{Vertex, Visited, Walk, counted, root, child, starts, cutA, cutB, better, choices, complete, examine, visit, visited}
 use Rattle.recall.proofs.Falling.{Falls, Less, visit-falls}
 use Rattle.visit.specs.inside.Stops.{Open, unlessEnded, visitBy, visitedBy}
 

@@ -14,7 +14,6 @@ use Rattle.base.specs.Lists.{In, remove}
 use Rattle.base.proofs.Numbers.{length-nil, remove-in, in-remove}
 use Rattle.schedule.specs.declared.Recorder.{Recorder}
 use Rattle.schedule.specs.Quantities.{jobs, Valid}
-use Rattle.schedule.specs.Listing.{Feasible}
 use Rattle.schedule.specs.Visiting.{Vertex, Visited, child, startsOf, counted, planEnergy, better}
 use Rattle.schedule.proofs.Runs.{length-starts, run-feasible}
 use Rattle.schedule.proofs.Tree.{Reached, starts-child, full-run}

@@ -1,5 +1,5 @@
 -- The visit of a vertex (specs/inside/Stops): it only adds to the count; where a cut drops the vertex it counts it alone; and else it enters it.
-use mathlib.Core.Path.{_≡_, refl, sym, _∙_, subst}
+use mathlib.Core.Path.{_≡_, refl, sym, _∙_}
 use mathlib.Core.Bool.{Bool, true, false, true≢false}
 use mathlib.Core.List.{List, [], _∷_}
 use mathlib.Core.Logic.{_⊎_, inl, inr, ⊎-elim}

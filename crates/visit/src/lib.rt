@@ -1,7 +1,6 @@
 // The search for the cheapest schedule, and for the first one whatever it costs: depth first, under a budget of vertices (rules 40 to 48, 60 to 63). The parent is
 // lent for reading, and a child is made only where no cut drops it and jobs are left to place.
 use base::JobNumber;
-use extras::Extras;
 use extras::laying::lay_extras;
 use flat::Flat;
 use flat::deadline_of;
@@ -28,19 +27,18 @@ use vertex::dues::dues_in;
 use vertex::dues::limit_of;
 use vertex::gaps::close_of;
 use vertex::gaps::end_of;
-use vertex::gaps::is_steady;
+use vertex::gaps::is_climbing;
 use vertex::gaps::lead_of;
 use vertex::gaps::root_floor;
 ghost use mathlib.Core.Path.{_≡_};
 ghost use mathlib.Core.Bool.{Bool, true, false, cond};
 ghost use mathlib.Core.Logic.{_⊎_};
 ghost use mathlib.Core.List.{_++_};
-ghost use Prim.Native.Nat.{ℕ, suc, _+_, _-_, _^_, _<_, _≤_, min};
+ghost use Prim.Native.Nat.{ℕ, _+_, _-_, _*_, _^_, _<_, _≤_, min};
 ghost use lib.ListN.{length, drop};
-ghost use Rattle.base.specs.Lists.{upTo, upFrom};
-ghost use Rattle.base.specs.Loops.{through};
+ghost use Rattle.base.specs.Lists.{upTo};
 ghost use Rattle.schedule.specs.Quantities.{Valid, jobs, deadline, run};
-ghost use Rattle.schedule.specs.Visiting.{Vertex, Visited, child, earliest, starts, visited};
+ghost use Rattle.schedule.specs.Visiting.{child, earliest, starts, visited};
 ghost use Rattle.schedule.specs.Visiting as order;
 ghost use Rattle.flat.specs.inside.Flat.{recorderOf};
 ghost use Rattle.latest.specs.inside.Sets.{has};
@@ -49,8 +47,8 @@ ghost use Rattle.vertex.specs.inside.Lasts.{TwoLeast};
 ghost use Rattle.vertex.specs.inside.Shown.{loadAt, leadsBy, Ordered};
 ghost use Rattle.vertex.specs.inside.Sums.{limitFor};
 ghost use Rattle.recall.specs.inside.Asks.{Asks};
-ghost use Rattle.visit.specs.inside.Stops.{visitBy, visitedBy, entered};
-ghost use Rattle.visit.specs.inside.Lent.{countAt, energyAt, bestAt, stopAt, slackBy, Lends, Tells, Came, Ran, Stands, Tries, Drops, Enters, Some, Finds};
+ghost use Rattle.visit.specs.inside.Stops.{visitedBy};
+ghost use Rattle.visit.specs.inside.Lent.{Leaves, StandsAt, VisitCame, EnterCame, ChoicesCame, StartsCame, DropsCame, countAt, energyAt, bestAt, stopAt, slackBy, Lends, Came, Ran, Stands, Tries, Drops, Enters, Some, Finds};
 
 mod tally; // tally.rt: the count, the best so far and the starts of the placed jobs
 
@@ -94,10 +92,10 @@ fn first_cut(r: &Flat, v: &Cells, dues: Dues, j: JobNumber) -> u32
     lessened(sooner(limit, wide(deadline_of(r, j.0))) + 1, c)
 }
 
-// The same, once the child that places job j at s has the floor `floor`: where cut B drops it and every later start adds the same, it drops all from here on.
+// The same, once the child that places job j at s has the floor `floor`: where cut B drops it and no later start adds less, it drops all from here on.
 fn cut_at(
     r: &Flat,
-    extras: &Extras,
+    extras: &[u32],
     v: &Cells,
     best: u32,
     floor: u32,
@@ -106,10 +104,10 @@ fn cut_at(
     s: u32,
 ) -> u32
     requires { ⌜ Tabled (recorderOf (now r)) (now extras) × ((j < 16) × Ordered (recorderOf (now r)) (now v) s) ⌝ }
-    ensures { λ x. ⌜ (x ≡ cut) ⊎ ((x ≡ s) × (best ≤ floor) × ((t : ℕ) → s ≤ t → t ≤ recorderOf (now (r .entry)) .horizon → leadsBy (recorderOf (now (r .entry))) (now (v .entry)) j t ≡ leadsBy (recorderOf (now (r .entry))) (now (v .entry)) j s)) ⌝ }
+    ensures { λ x. ⌜ (x ≡ cut) ⊎ ((x ≡ s) × (best ≤ floor) × ((t : ℕ) → s ≤ t → t ≤ recorderOf (now (r .entry)) .horizon → leadsBy (recorderOf (now (r .entry))) (now (v .entry)) j s ≤ leadsBy (recorderOf (now (r .entry))) (now (v .entry)) j t)) ⌝ }
 {
     if best <= floor {
-        if is_steady(r, extras, v, j, s) {
+        if is_climbing(r, extras, v, j, s) {
             return s;
         }
     }
@@ -151,7 +149,7 @@ fn is_whole(short: bool, best: u32, after: u32) -> bool
 // The child of v that places job j at s, and all below it. From the start `cut` on it is dropped; before, its floor is `floor`. Answers whether the visit goes no further: the budget is used up, or what it stops at is found.
 fn visit(
     r: &Flat,
-    extras: &Extras,
+    extras: &[u32],
     memory: &mut [u64],
     v: &Cells,
     tally: &mut Tally,
@@ -165,8 +163,8 @@ fn visit(
     s: u32,
 ) -> bool
     requires { ⌜ Lends (recorderOf (now r)) (now extras) (now memory) × ((p ≡ 2 ^ j .0) × Some (recorderOf (now r)) budget (now tally) (Tries (recorderOf (now r)) (now v) (energyAt (now tally)) set from cut floor (j .0) s)) ⌝ }
-    ensures kept { λ _. ⌜ Lends (recorderOf (now (r .entry))) (now (extras .entry)) (now (memory .exit)) × ((length (now (tally .exit)) ≡ 35) × (energyAt (now (tally .exit)) ≤ energyAt (now (tally .entry)))) ⌝ }
-    ensures came { λ x. ⌜ ((stop : Bool) (m : ℕ) (u : Vertex) (st : Visited) → Tries (recorderOf (now (r .entry))) (now (v .entry)) (energyAt (now (tally .entry))) set from cut floor (j .0) s m u → Tells (recorderOf (now (r .entry))) stop budget (now (tally .entry)) u st → Came (recorderOf (now (r .entry))) stop budget (now (tally .exit)) u (visitBy (recorderOf (now (r .entry))) stop m (child (recorderOf (now (r .entry))) u (j .0) s) st) x) ⌝ }
+    ensures kept { λ _. ⌜ Leaves (recorderOf (now (r .entry))) (now (extras .entry)) (now (memory .exit)) (now (tally .entry)) (now (tally .exit)) ⌝ }
+    ensures came { λ x. ⌜ VisitCame (recorderOf (now (r .entry))) budget (now (v .entry)) (now (tally .entry)) (now (tally .exit)) x set from cut floor (j .0) s ⌝ }
 {
     if tally[COUNT] == budget {
         return true;
@@ -184,7 +182,7 @@ fn visit(
 // The same child, which is counted and which no cut drops: it is complete, or its children are examined. `left` is the set of the jobs that it leaves unplaced.
 fn enter(
     r: &Flat,
-    extras: &Extras,
+    extras: &[u32],
     memory: &mut [u64],
     v: &Cells,
     tally: &mut Tally,
@@ -195,8 +193,8 @@ fn enter(
     s: u32,
 ) -> bool
     requires { ⌜ Lends (recorderOf (now r)) (now extras) (now memory) × ((floor < energyAt (now tally)) × Some (recorderOf (now r)) budget (now tally) (Enters (recorderOf (now r)) (now v) left floor (j .0) s)) ⌝ }
-    ensures kept { λ _. ⌜ Lends (recorderOf (now (r .entry))) (now (extras .entry)) (now (memory .exit)) × ((length (now (tally .exit)) ≡ 35) × (energyAt (now (tally .exit)) ≤ energyAt (now (tally .entry)))) ⌝ }
-    ensures came { λ x. ⌜ ((stop : Bool) (m : ℕ) (u : Vertex) (st : Visited) → Enters (recorderOf (now (r .entry))) (now (v .entry)) left floor (j .0) s m u → Tells (recorderOf (now (r .entry))) stop budget (now (tally .entry)) u st → Came (recorderOf (now (r .entry))) stop budget (now (tally .exit)) u (entered (recorderOf (now (r .entry))) stop m (child (recorderOf (now (r .entry))) u (j .0) s) st) x) ⌝ }
+    ensures kept { λ _. ⌜ Leaves (recorderOf (now (r .entry))) (now (extras .entry)) (now (memory .exit)) (now (tally .entry)) (now (tally .exit)) ⌝ }
+    ensures came { λ x. ⌜ EnterCame (recorderOf (now (r .entry))) budget (now (v .entry)) (now (tally .entry)) (now (tally .exit)) x left floor (j .0) s ⌝ }
 {
     note(tally, j.0, s);
     if left == 0 {
@@ -213,7 +211,7 @@ fn enter(
 // The children of a vertex that is not complete: what is remembered of them, or each of them examined.
 fn below(
     r: &Flat,
-    extras: &Extras,
+    extras: &[u32],
     memory: &mut [u64],
     v: &Cells,
     tally: &mut Tally,
@@ -222,9 +220,9 @@ fn below(
     from: u32,
     time: u32,
 ) -> bool
-    requires { ⌜ Lends (recorderOf (now r)) (now extras) (now memory) × ((from < energyAt (now tally)) × Some (recorderOf (now r)) budget (now tally) (λ m u. Stands (recorderOf (now r)) (now v) set from m u × (u .time ≡ time))) ⌝ }
-    ensures kept { λ _. ⌜ Lends (recorderOf (now (r .entry))) (now (extras .entry)) (now (memory .exit)) × ((length (now (tally .exit)) ≡ 35) × (energyAt (now (tally .exit)) ≤ energyAt (now (tally .entry)))) ⌝ }
-    ensures came { λ x. ⌜ ((stop : Bool) (m : ℕ) (u : Vertex) (st : Visited) → Stands (recorderOf (now (r .entry))) (now (v .entry)) set from m u → u .time ≡ time → Tells (recorderOf (now (r .entry))) stop budget (now (tally .entry)) u st → Came (recorderOf (now (r .entry))) stop budget (now (tally .exit)) u (order.choices (recorderOf (now (r .entry))) (visitBy (recorderOf (now (r .entry))) stop m) u st) x) ⌝ }
+    requires { ⌜ Lends (recorderOf (now r)) (now extras) (now memory) × ((from < energyAt (now tally)) × Some (recorderOf (now r)) budget (now tally) (StandsAt (recorderOf (now r)) (now v) set from time)) ⌝ }
+    ensures kept { λ _. ⌜ Leaves (recorderOf (now (r .entry))) (now (extras .entry)) (now (memory .exit)) (now (tally .entry)) (now (tally .exit)) ⌝ }
+    ensures came { λ x. ⌜ ChoicesCame (recorderOf (now (r .entry))) budget (now (v .entry)) (now (tally .entry)) (now (tally .exit)) x set from time ⌝ }
 {
     if !is_many(set) {
         return choices(r, extras, memory, v, tally, budget, set, from, time);
@@ -240,7 +238,7 @@ fn below(
 // Each of them examined, and remembered where they leave the best as it was.
 fn learn(
     r: &Flat,
-    extras: &Extras,
+    extras: &[u32],
     memory: &mut [u64],
     v: &Cells,
     tally: &mut Tally,
@@ -250,9 +248,9 @@ fn learn(
     time: u32,
     asked: Asked,
 ) -> bool
-    requires { ⌜ Lends (recorderOf (now r)) (now extras) (now memory) × ((from < energyAt (now tally)) × (Asks (recorderOf (now r)) (capAt (now extras)) (now v) set time (slackBy (energyAt (now tally)) from) asked × Some (recorderOf (now r)) budget (now tally) (λ m u. Stands (recorderOf (now r)) (now v) set from m u × (u .time ≡ time)))) ⌝ }
-    ensures kept { λ _. ⌜ Lends (recorderOf (now (r .entry))) (now (extras .entry)) (now (memory .exit)) × ((length (now (tally .exit)) ≡ 35) × (energyAt (now (tally .exit)) ≤ energyAt (now (tally .entry)))) ⌝ }
-    ensures came { λ x. ⌜ ((stop : Bool) (m : ℕ) (u : Vertex) (st : Visited) → Stands (recorderOf (now (r .entry))) (now (v .entry)) set from m u → u .time ≡ time → Tells (recorderOf (now (r .entry))) stop budget (now (tally .entry)) u st → Came (recorderOf (now (r .entry))) stop budget (now (tally .exit)) u (order.choices (recorderOf (now (r .entry))) (visitBy (recorderOf (now (r .entry))) stop m) u st) x) ⌝ }
+    requires { ⌜ Lends (recorderOf (now r)) (now extras) (now memory) × ((from < energyAt (now tally)) × (Asks (recorderOf (now r)) (capAt (now extras)) (now v) set time (slackBy (energyAt (now tally)) from) asked × Some (recorderOf (now r)) budget (now tally) (StandsAt (recorderOf (now r)) (now v) set from time))) ⌝ }
+    ensures kept { λ _. ⌜ Leaves (recorderOf (now (r .entry))) (now (extras .entry)) (now (memory .exit)) (now (tally .entry)) (now (tally .exit)) ⌝ }
+    ensures came { λ x. ⌜ ChoicesCame (recorderOf (now (r .entry))) budget (now (v .entry)) (now (tally .entry)) (now (tally .exit)) x set from time ⌝ }
 {
     let before = tally[COUNT];
     let best = tally[ENERGY];
@@ -266,7 +264,7 @@ fn learn(
 // Each unplaced job in turn.
 fn choices(
     r: &Flat,
-    extras: &Extras,
+    extras: &[u32],
     memory: &mut [u64],
     v: &Cells,
     tally: &mut Tally,
@@ -275,9 +273,9 @@ fn choices(
     from: u32,
     time: u32,
 ) -> bool
-    requires { ⌜ Lends (recorderOf (now r)) (now extras) (now memory) × Some (recorderOf (now r)) budget (now tally) (λ m u. Stands (recorderOf (now r)) (now v) set from m u × (u .time ≡ time)) ⌝ }
-    ensures kept { λ _. ⌜ Lends (recorderOf (now (r .entry))) (now (extras .entry)) (now (memory .exit)) × ((length (now (tally .exit)) ≡ 35) × (energyAt (now (tally .exit)) ≤ energyAt (now (tally .entry)))) ⌝ }
-    ensures came { λ x. ⌜ ((stop : Bool) (m : ℕ) (u : Vertex) (st : Visited) → Stands (recorderOf (now (r .entry))) (now (v .entry)) set from m u → u .time ≡ time → Tells (recorderOf (now (r .entry))) stop budget (now (tally .entry)) u st → Came (recorderOf (now (r .entry))) stop budget (now (tally .exit)) u (order.choices (recorderOf (now (r .entry))) (visitBy (recorderOf (now (r .entry))) stop m) u st) x) ⌝ }
+    requires { ⌜ Lends (recorderOf (now r)) (now extras) (now memory) × Some (recorderOf (now r)) budget (now tally) (StandsAt (recorderOf (now r)) (now v) set from time) ⌝ }
+    ensures kept { λ _. ⌜ Leaves (recorderOf (now (r .entry))) (now (extras .entry)) (now (memory .exit)) (now (tally .entry)) (now (tally .exit)) ⌝ }
+    ensures came { λ x. ⌜ ChoicesCame (recorderOf (now (r .entry))) budget (now (v .entry)) (now (tally .entry)) (now (tally .exit)) x set from time ⌝ }
 {
     let n = job_count(r);
     let dues = dues_in(r, set);
@@ -313,7 +311,7 @@ fn choices(
 // Each start of the unplaced job j in turn.
 fn tries(
     r: &Flat,
-    extras: &Extras,
+    extras: &[u32],
     memory: &mut [u64],
     v: &Cells,
     tally: &mut Tally,
@@ -325,9 +323,9 @@ fn tries(
     dues: Dues,
     j: JobNumber,
 ) -> bool
-    requires { ⌜ Lends (recorderOf (now r)) (now extras) (now memory) × ((j .0 < jobs (recorderOf (now r))) × ((has set (j .0) ≡ true) × ((p ≡ 2 ^ j .0) × (TwoLeast (recorderOf (now r)) set (jobs (recorderOf (now r))) dues × Some (recorderOf (now r)) budget (now tally) (λ m u. Stands (recorderOf (now r)) (now v) set from m u × (u .time ≡ time)))))) ⌝ }
-    ensures kept { λ _. ⌜ Lends (recorderOf (now (r .entry))) (now (extras .entry)) (now (memory .exit)) × ((length (now (tally .exit)) ≡ 35) × (energyAt (now (tally .exit)) ≤ energyAt (now (tally .entry)))) ⌝ }
-    ensures came { λ x. ⌜ ((stop : Bool) (m : ℕ) (u : Vertex) (st : Visited) → Stands (recorderOf (now (r .entry))) (now (v .entry)) set from m u → u .time ≡ time → Tells (recorderOf (now (r .entry))) stop budget (now (tally .entry)) u st → Came (recorderOf (now (r .entry))) stop budget (now (tally .exit)) u (through (λ (x : ℕ). visitBy (recorderOf (now (r .entry))) stop m (child (recorderOf (now (r .entry))) u (j .0) x)) (starts (recorderOf (now (r .entry))) (u .time) (j .0)) st) x) ⌝ }
+    requires { ⌜ Lends (recorderOf (now r)) (now extras) (now memory) × ((j .0 < jobs (recorderOf (now r))) × ((has set (j .0) ≡ true) × ((p ≡ 2 ^ j .0) × (TwoLeast (recorderOf (now r)) set (jobs (recorderOf (now r))) dues × Some (recorderOf (now r)) budget (now tally) (StandsAt (recorderOf (now r)) (now v) set from time))))) ⌝ }
+    ensures kept { λ _. ⌜ Leaves (recorderOf (now (r .entry))) (now (extras .entry)) (now (memory .exit)) (now (tally .entry)) (now (tally .exit)) ⌝ }
+    ensures came { λ x. ⌜ StartsCame (recorderOf (now (r .entry))) budget (now (v .entry)) (now (tally .entry)) (now (tally .exit)) x set from time (j .0) ⌝ }
 {
     let mut cut = first_cut(r, v, dues, j);
     let mut s = later(time, wide(release_of(r, j.0)));
@@ -359,7 +357,7 @@ fn tries(
 // The starts of job j from `start` on, at which every child is dropped: each is counted.
 fn drops(
     r: &Flat,
-    extras: &Extras,
+    extras: &[u32],
     memory: &mut [u64],
     v: &Cells,
     tally: &mut Tally,
@@ -371,8 +369,8 @@ fn drops(
     start: u32,
 ) -> bool
     requires { ⌜ Lends (recorderOf (now r)) (now extras) (now memory) × ((j .0 < jobs (recorderOf (now r))) × ((has set (j .0) ≡ true) × ((p ≡ 2 ^ j .0) × ((start ≤ 65536) × (Drops (recorderOf (now r)) (now v) set from (energyAt (now tally)) (j .0) start × Some (recorderOf (now r)) budget (now tally) (λ m u. Stands (recorderOf (now r)) (now v) set from m u × (earliest (recorderOf (now r)) (u .time) (j .0) ≤ start))))))) ⌝ }
-    ensures kept { λ _. ⌜ Lends (recorderOf (now (r .entry))) (now (extras .entry)) (now (memory .exit)) × ((length (now (tally .exit)) ≡ 35) × (energyAt (now (tally .exit)) ≤ energyAt (now (tally .entry)))) ⌝ }
-    ensures came { λ x. ⌜ ((stop : Bool) (m : ℕ) (u : Vertex) (st : Visited) → Stands (recorderOf (now (r .entry))) (now (v .entry)) set from m u → earliest (recorderOf (now (r .entry))) (u .time) (j .0) ≤ start → Tells (recorderOf (now (r .entry))) stop budget (now (tally .entry)) u st → Came (recorderOf (now (r .entry))) stop budget (now (tally .exit)) u (through (λ (x : ℕ). visitBy (recorderOf (now (r .entry))) stop m (child (recorderOf (now (r .entry))) u (j .0) x)) (upFrom start (suc (deadline (recorderOf (now (r .entry))) (j .0)) - (start + run (recorderOf (now (r .entry))) (j .0)))) st) x) ⌝ }
+    ensures kept { λ _. ⌜ Leaves (recorderOf (now (r .entry))) (now (extras .entry)) (now (memory .exit)) (now (tally .entry)) (now (tally .exit)) ⌝ }
+    ensures came { λ x. ⌜ DropsCame (recorderOf (now (r .entry))) budget (now (v .entry)) (now (tally .entry)) (now (tally .exit)) x set from (j .0) start ⌝ }
 {
     let c = wide(run_of(r, j.0));
     let d = wide(deadline_of(r, j.0));
@@ -401,7 +399,7 @@ fn drops(
 }
 
 // The root and all below it.
-fn root_visit(r: &Flat, extras: &Extras, memory: &mut [u64], tally: &mut Tally, budget: u32) -> bool
+fn root_visit(r: &Flat, extras: &[u32], memory: &mut [u64], tally: &mut Tally, budget: u32) -> bool
     requires { ⌜ Lends (recorderOf (now r)) (now extras) (now memory) × ((length (now tally) ≡ 35) × ((countAt (now tally) ≡ 0) × ((energyAt (now tally) ≡ 4294967295) × ((stop : Bool) × (stopAt (now tally) ≡ cond stop 1 0))))) ⌝ }
     ensures { λ x. ⌜ (length (now (tally .exit)) ≡ 35) × ((stop : Bool) → stopAt (now (tally .entry)) ≡ cond stop 1 0 → Came (recorderOf (now (r .entry))) stop budget (now (tally .exit)) (order.root (recorderOf (now (r .entry)))) (visitedBy (recorderOf (now (r .entry))) stop) x) ⌝ }
 {
@@ -426,7 +424,7 @@ fn root_visit(r: &Flat, extras: &Extras, memory: &mut [u64], tally: &mut Tally, 
 // The whole visit, from nothing counted. Answers whether the budget is used up.
 fn whole_visit(
     r: &Flat,
-    extras: &Extras,
+    extras: &[u32],
     memory: &mut [u64],
     tally: &mut Tally,
     stop: bool,
@@ -443,7 +441,7 @@ fn whole_visit(
 // The same with a memory that is lent, whatever it holds.
 fn lent_visit(
     r: &Flat,
-    extras: &Extras,
+    extras: &[u32],
     memory: &mut [u64],
     tally: &mut Tally,
     stop: bool,
@@ -457,7 +455,7 @@ fn lent_visit(
 }
 
 // The same with a memory of its own, of 2,048 entries of six words.
-fn own_visit(r: &Flat, extras: &Extras, tally: &mut Tally, stop: bool, budget: u32) -> bool
+fn own_visit(r: &Flat, extras: &[u32], tally: &mut Tally, stop: bool, budget: u32) -> bool
     requires { ⌜ Tabled (recorderOf (now r)) (now extras) × (length (now tally) ≡ 35) ⌝ }
     ensures { λ x. ⌜ Ran (recorderOf (now (r .entry))) stop budget (now (tally .exit)) x ⌝ }
 {
@@ -466,7 +464,7 @@ fn own_visit(r: &Flat, extras: &Extras, tally: &mut Tally, stop: bool, budget: u
 }
 
 // The same without one, under a budget of few vertices.
-fn few_visit(r: &Flat, extras: &Extras, tally: &mut Tally, stop: bool, budget: u32) -> bool
+fn few_visit(r: &Flat, extras: &[u32], tally: &mut Tally, stop: bool, budget: u32) -> bool
     requires { ⌜ Tabled (recorderOf (now r)) (now extras) × (length (now tally) ≡ 35) ⌝ }
     ensures { λ x. ⌜ (length (now (tally .exit)) ≡ 35) × Ran (recorderOf (now (r .entry))) stop (min budget 1024) (now (tally .exit)) x ⌝ }
 {
@@ -478,7 +476,7 @@ fn few_visit(r: &Flat, extras: &Extras, tally: &mut Tally, stop: bool, budget: u
 // one that is lent.
 fn staged_visit(
     r: &Flat,
-    extras: &Extras,
+    extras: &[u32],
     memory: &mut [u64],
     own: bool,
     tally: &mut Tally,
@@ -498,6 +496,43 @@ fn staged_visit(
         return own_visit(r, extras, tally, stop, budget);
     }
     lent_visit(r, extras, memory, tally, stop, budget)
+}
+
+// The same with the table of extras laid first, in the place that is lent for it.
+fn laid_visit(
+    r: &Flat,
+    extras: &mut [u32],
+    memory: &mut [u64],
+    own: bool,
+    tally: &mut Tally,
+    stop: bool,
+    budget: u32,
+) -> bool
+    requires { ⌜ Valid (recorderOf (now r)) × ((40 + 8 * recorderOf (now r) .horizon ≤ length (now extras)) × (length (now tally) ≡ 35)) ⌝ }
+    ensures { λ x. ⌜ Ran (recorderOf (now (r .entry))) stop budget (now (tally .exit)) x ⌝ }
+{
+    lay_extras(r, extras);
+    staged_visit(r, extras, memory, own, tally, stop, budget)
+}
+
+// The same with a place for it: a short one, which is ready sooner, where the horizon lets it.
+fn placed_visit(
+    r: &Flat,
+    memory: &mut [u64],
+    own: bool,
+    tally: &mut Tally,
+    stop: bool,
+    budget: u32,
+) -> bool
+    requires { ⌜ Valid (recorderOf (now r)) × (length (now tally) ≡ 35) ⌝ }
+    ensures { λ x. ⌜ Ran (recorderOf (now (r .entry))) stop budget (now (tally .exit)) x ⌝ }
+{
+    if horizon_of(r) <= 127 {
+        let mut extras = [0u32; 1056];
+        return laid_visit(r, &mut extras, memory, own, tally, stop, budget);
+    }
+    let mut extras = [0u32; 32808];
+    laid_visit(r, &mut extras, memory, own, tally, stop, budget)
 }
 
 // Writes the first n starts of the best into the lent list.
@@ -535,10 +570,8 @@ fn found_by(
         };
     }
     let flat = flat_of(r);
-    let mut extras = [0u32; 32800];
-    lay_extras(&flat, &mut extras);
     let mut tally = [0u32; 35];
-    if staged_visit(&flat, &extras, memory, own, &mut tally, stop, budget) {
+    if placed_visit(&flat, memory, own, &mut tally, stop, budget) {
         return Found {
             number: 20,
             energy: 0,

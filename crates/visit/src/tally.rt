@@ -1,7 +1,7 @@
 // The lent tally: the vertices counted, the best so far, the starts of the jobs that are placed, and where the visit stops.
 ghost use mathlib.Core.Path.{_≡_};
 ghost use mathlib.Core.Bool.{true, cond};
-ghost use Prim.Native.Nat.{ℕ, _+_, _<_, _≤_};
+ghost use Prim.Native.Nat.{_+_, _<_, _≤_};
 ghost use lib.Dec.{eqb};
 ghost use lib.ListN.{set, length};
 ghost use Rattle.visit.specs.inside.Lent.{countAt, energyAt, stopAt, Added, Over};

@@ -44,9 +44,9 @@ struct Dues {
 struct Search<'a> {
     problem: &'a Problem,
     tasks: [Task; MOST_JOBS],
-    /// Of each device the extra of each gap, and the gap from which on all have the same.
+    /// Of each device the extra of each gap, and the gap from which on it no longer falls.
     extras: Vec<u32>,
-    caps: [u32; DEVICES],
+    feet: [u32; DEVICES],
     tally: &'a mut Tally,
     /// The energy of the best.
     best: u32,
@@ -70,12 +70,12 @@ impl Search<'_> {
         sum
     }
 
-    /// Whether every later start adds the same.
+    /// Whether no later start adds less.
     #[inline(always)]
-    fn is_steady(&self, vertex: &Vertex, task: &Task, start: u32) -> bool {
+    fn is_climbing(&self, vertex: &Vertex, task: &Task, start: u32) -> bool {
         task.devices[..task.count]
             .iter()
-            .all(|&k| self.is_fresh(vertex, k) || start - vertex.ends[k] >= self.caps[k])
+            .all(|&k| self.is_fresh(vertex, k) || start - vertex.ends[k] >= self.feet[k])
     }
 
     /// The child that places a job at `start`; from `cut` on every start of it is cut.
@@ -157,7 +157,7 @@ impl Search<'_> {
         let mut start = time.max(task.release);
         while start < cut {
             let child = floor + self.lead(vertex, &task, start);
-            if self.best <= child && self.is_steady(vertex, &task, start) {
+            if self.best <= child && self.is_climbing(vertex, &task, start) {
                 cut = start;
             }
             self.visit(vertex, left, child, cut, number, start);
@@ -256,7 +256,7 @@ pub fn search(file: &[u8], budget: u32) -> Found {
         }
         let horizon = problem.horizon;
         let mut extras = vec![0; GAPS * DEVICES];
-        let mut caps = [0; DEVICES];
+        let mut feet = [0; DEVICES];
         let mut floor = 0;
         for (k, device) in problem.devices.iter().enumerate() {
             root.aheads[k] = problem.ahead(all, k);
@@ -265,17 +265,16 @@ pub fn search(file: &[u8], budget: u32) -> Found {
             for (gap, extra) in (0..).zip(gaps.iter_mut()) {
                 *extra = extra_of(device, gap);
             }
-            let longest = gaps[horizon as usize];
-            caps[k] = gaps
-                .iter()
-                .rposition(|&extra| extra != longest)
+            feet[k] = gaps
+                .windows(2)
+                .rposition(|pair| pair[1] < pair[0])
                 .map_or(0, |gap| gap as u32 + 1);
         }
         let mut search = Search {
             problem,
             tasks,
             extras,
-            caps,
+            feet,
             tally,
             best: u32::MAX,
             path: [0; MOST_JOBS],

@@ -1,4 +1,7 @@
 -- `cheapest::find` meets its contract.
+use Prim.Native.Nat.{ℕ}
+use native.Mathlib.Omega.{arith}
+use lib.ListN.{length-replicate}
 use borrow.Author.Needs.{needs}
 use Rattle.flat.specs.inside.Flat.{recorderOf}
 use Rattle.extras.specs.inside.Tabled.{capAt}
@@ -9,17 +12,23 @@ use Rattle.least.proofs.Keyed.{recalls-none}
 use Rattle.cheapest.proofs.find.Statement.{statement}
 use Rattle.cheapest.proofs.find.Tie as tie
 
+lay-extras-requires : tie.Need-lay-extras-requires
+lay-extras-requires c κs =
+    let s = c .before .before in
+    (s .pre .0, omega (arith, s .pre .0 .few-ticks, length-replicate {A = ℕ} 32808 0))
+
 least-starts-requires : tie.Need-least-starts-requires
 least-starts-requires c κs =
-    let s = c .before .before .before .before .before .before .before .before .before .before in
+    let s = c .before .before .before .before .before .before .before .before .before .before .before in
     let R = recorderOf (s .args .r .now) in
-    let cap = capAt (c .before .before .before .before .before .before .before .lay-extras .last .1 .0) in
-    let tabled = c .before .before .before .before .before .before .before .lay-extras .ensures in (
+    let l = c .before .before .before .before .before .before .before .before .lay-extras in
+    let cap = capAt (l .last .1 .0) in
+    let tabled = l .ensures in (
       record {
         tabled = tabled;
         laid = s .pre .1 .0;
-        right = right-clear (Recalls R cap) (c .before .before .before .before .before .clear .last .0)
-            (recalls-none R (s .pre .0) cap (tabled .caps) (tabled .cap-most) noKey) (c .before .before .before .before .before .clear .ensures);
+        right =
+            right-clear (Recalls R cap) (c .before .before .before .before .before .clear .last .0) (recalls-none R (s .pre .0) cap (tabled .caps) (tabled .cap-most) noKey) (c .before .before .before .before .before .clear .ensures);
       },
       s .pre .1 .1,
     )
@@ -30,4 +39,11 @@ returns c = c .before .before .least-starts .ensures
 pub find-spec : {M : Type 1} → statement M
 find-spec =
     tie.close
-    (tie.spec (λ c κs. search needs) (λ c κs. search needs) least-starts-requires (λ c. search needs) returns)
+    (tie.spec
+    (λ c. search needs)
+    lay-extras-requires
+    (λ c κs. search needs)
+    (λ c. search needs)
+    least-starts-requires
+    (λ c. search needs)
+    returns)

@@ -1,5 +1,4 @@
 -- `extras::extra_of` meets its contract.
-use mathlib.Core.Path.{refl}
 use borrow.Author.Needs.{needs}
 use Rattle.extras.specs.inside.Tabled.{extraAt}
 use Rattle.extras.proofs.extra_of.Statement.{statement}
@@ -7,7 +6,7 @@ use Rattle.extras.proofs.extra_of.Tie as tie
 
 returns : tie.Need-returns
 unfolding extraAt
-returns c = refl
+returns c = search needs
 
 pub extra-of-spec : {M : Type 1} → statement M
-extra-of-spec = tie.close (tie.spec (λ c. search needs) (λ c. search needs) (λ c. search needs) (λ c. search needs) returns)
+extra-of-spec = tie.close (tie.spec (λ c. search needs) (λ c. search needs) (λ c. search needs) (λ c. search needs) (λ c. search needs) returns)

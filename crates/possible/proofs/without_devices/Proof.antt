@@ -1,6 +1,6 @@
 -- `possible::without_devices` meets its contract. The loop's invariant: the first j jobs use no device.
 use mathlib.Core.Path.{_≡_, refl}
-use Prim.Native.Nat.{ℕ, _≤_, _-_}
+use Prim.Native.Nat.{_≤_, _-_}
 use native.Mathlib.Omega.{arith}
 use borrow.Author.Needs.{needs}
 use Rattle.possible.proofs.Idling.{Idled, idled-none, idled-more}

@@ -3,7 +3,7 @@ use mathlib.Core.Path.{_≡_}
 use mathlib.Core.Bool.{cond}
 use mathlib.Core.Option.{Option, some}
 use mathlib.Core.List.{List}
-use Prim.Native.Nat.{ℕ, zero, suc, _+_, _-_, _≤_, _<_, min, max}
+use Prim.Native.Nat.{ℕ, zero, suc, _+_, _-_, _≤_, _<_, min}
 use Rattle.base.specs.Lists.{In, upFrom}
 use Rattle.base.specs.Sums.{sum}
 use Rattle.device.specs.declared.Device.{Device}
@@ -20,15 +20,6 @@ Rises d h g n = (i : ℕ) → g ≤ i → i < h → extra d (suc i) ≤ extra d 
 
 abbrev pub Falls : Device → ℕ → ℕ → Type 0
 Falls d h n = (i : ℕ) → i < h → extra d i ≤ extra d (suc i) + n
-
--- The steepest of both up to h, read off a table of costs.
-unfoldable pub riseOf : Device → ℕ → ℕ
-riseOf d zero = 0
-riseOf d (suc h) = max (riseOf d h) (extra d (suc h) - extra d h)
-
-unfoldable pub fallOf : Device → ℕ → ℕ
-fallOf d zero = 0
-fallOf d (suc h) = max (fallOf d h) (extra d h - extra d (suc h))
 
 module _ (R : Recorder) where
   -- What the child where job j starts at x adds, over all devices; and what the end adds.

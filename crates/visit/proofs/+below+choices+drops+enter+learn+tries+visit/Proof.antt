@@ -164,7 +164,7 @@ below-is-many-requires t c κs = search needs
 
 below-choices-requires : (t : ℕ) → below-lts.Need-choices-requires (below-calls t) (below-at t) below.Post
 below-choices-requires t c κs =
-    let s = c .before .before .before .before .before in
+    let s = c .before .before .before .before .before .before in
     (omega arith, (s .pre .1 .0, s .pre .1 .1 .1))
 
 below-same-length : (t : ℕ) → below-lts.Need-same-length (below-calls t) (below-at t) below.Post
@@ -174,20 +174,20 @@ below-returns : (t : ℕ) → below-lts.Need-returns (below-calls t) (below-at t
 below-returns t c = c .before .before .choices .ensures
 
 below-element-copy-out-slack-of : (t : ℕ) → below-lts.Need-element-copy-out-slack-of (below-calls t) (below-at t) below.Post
-below-element-copy-out-slack-of t c = omega (arith, c .before .before .before .pre .1 .1 .1 .tells .long)
+below-element-copy-out-slack-of t c = omega (arith, c .before .before .before .before .pre .1 .1 .1 .tells .long)
 
 below-slack-of-requires : (t : ℕ) → below-lts.Need-slack-of-requires (below-calls t) (below-at t) below.Post
-below-slack-of-requires t c κs = c .before .before .before .before .pre .1 .1 .0
+below-slack-of-requires t c κs = c .before .before .before .before .before .pre .1 .1 .0
 
 below-ask-requires : (t : ℕ) → below-lts.Need-ask-requires (below-calls t) (below-at t) below.Post
 below-ask-requires t c κs =
-    let s = c .before .before .before .before .before .before in
+    let s = c .before .before .before .before .before .before .before in
     let w = s .pre .1 .1 .1 in
     (s .pre .1 .0 .tabled, (record { left = suc (w .left); vertex = w .vertex; shows = w .holds .0 .shows; time = w .holds .1 }, s .pre .1 .0 .right))
 
 below-add-count-requires : (t : ℕ) → below-lts.Need-add-count-requires (below-calls t) (below-at t) below.Post
 below-add-count-requires t c κs =
-    let w = c .before .before .before .before .before .before .before .before .before .before .pre .1 .1 .1 .tells in
+    let w = c .before .before .before .before .before .before .before .before .before .before .before .pre .1 .1 .1 .tells in
     (w .long, omega (arith, w .count, w .within))
 
 below-same-length-2 : (t : ℕ) → below-lts.Need-same-length-2 (below-calls t) (below-at t) below.Post
@@ -195,7 +195,7 @@ below-same-length-2 t c = omega arith
 
 below-returns-2 : (t : ℕ) → below-lts.Need-returns-2 (below-calls t) (below-at t) below.Post
 below-returns-2 t c =
-    let s = c .before .before .before .before .before .before .before .before .before .before .before in
+    let s = c .before .before .before .before .before .before .before .before .before .before .before .before in
     let R = recorderOf (s .args .r .now) in
     let asks = subst (λ (x : ℕ). Asks R (capAt (s .args .extras .now)) (s .args .v .now) (s .args .set) (s .args .time) x (c .before .before .before .before .ask .result)) (c .before .before .before .before .before .before .slack-of .ensures) (c .before .before .before .before .ask .ensures) in (
       (s .pre .1 .0, added-kept R (s .pre .1 .1 .1 .stop) (s .args .budget) _ _ _ _ (s .pre .1 .1 .1 .tells .long) (c .add-count .ensures)),
@@ -206,7 +206,7 @@ below-returns-2 t c =
 
 below-learn-requires : (t : ℕ) → below-lts.Need-learn-requires (below-calls t) (below-at t) below.Post
 below-learn-requires t c κs =
-    let s = c .before .before .before .before .before .before .before .before .before .before .before in
+    let s = c .before .before .before .before .before .before .before .before .before .before .before .before in
     let R = recorderOf (s .args .r .now) in
     let asks = subst (λ (x : ℕ). Asks R (capAt (s .args .extras .now)) (s .args .v .now) (s .args .set) (s .args .time) x (c .before .before .before .before .ask .result)) (c .before .before .before .before .before .before .slack-of .ensures) (c .before .before .before .before .ask .ensures) in
     (omega arith, (s .pre .1 .0, (s .pre .1 .1 .0, (asks, s .pre .1 .1 .1))))
@@ -231,12 +231,12 @@ choices-job-count-requires : (t : ℕ) → choices-lts.Need-job-count-requires (
 choices-job-count-requires t c κs = search needs
 
 choices-dues-in-requires : (t : ℕ) → choices-lts.Need-dues-in-requires (choices-calls t) (choices-at t) choices.Post choices-Inv-loop choices-μ-loop
-choices-dues-in-requires t c κs = c .before .before .pre .1 .0 .tabled .valid
+choices-dues-in-requires t c κs = c .before .before .before .pre .1 .0 .tabled .valid
 
 choices-loop-holds : (t : ℕ) → choices-lts.Need-loop-holds (choices-calls t) (choices-at t) choices.Post choices-Inv-loop choices-μ-loop
 unfolding order.choices
 choices-loop-holds t c =
-    let s = c .before .before .before in
+    let s = c .before .before .before .before in
     let R = recorderOf (s .args .r .now) in
     let all : jobs R ≡ c .before .job-count .result - 0 = omega (arith, c .before .job-count .ensures) in (
       omega arith,
@@ -253,7 +253,7 @@ choices-loop-holds t c =
 
 choices-tries-requires : (t : ℕ) → choices-lts.Need-tries-requires (choices-calls t) (choices-at t) choices.Post choices-Inv-loop choices-μ-loop
 choices-tries-requires t c κs =
-    let s = c .before .before .before .before .before .before .before .before in
+    let s = c .before .before .before .before .before .before .before .before .before in
     let l = c .before .before .before .before .loop in
     let o = s .pre .1 .1 in
     let g = l .inv .5 (o .stop) (o .left) (o .vertex) (o .state) (o .holds .0) (o .holds .1) (o .tells) in
@@ -264,7 +264,7 @@ choices-same-length t c = omega arith
 
 choices-returns : (t : ℕ) → choices-lts.Need-returns (choices-calls t) (choices-at t) choices.Post choices-Inv-loop choices-μ-loop
 choices-returns t c =
-    let s = c .before .before .before .before .before .before .before .before .before .before .before .before in
+    let s = c .before .before .before .before .before .before .before .before .before .before .before .before .before in
     let R = recorderOf (s .args .r .now) in
     let l = c .before .before .before .before .before .before .before .before .loop in
     let e = c .before .before .before .tries in
@@ -280,7 +280,7 @@ choices-returns t c =
 choices-mul-p : (t : ℕ) → choices-lts.Need-mul-p (choices-calls t) (choices-at t) choices.Post choices-Inv-loop choices-μ-loop
 choices-mul-p t c =
     let l = c .before .before .loop in
-    omega (arith, l .inv .1, power-next (l .j) (omega (arith, c .before .loop-test .taken, c .before .before .before .before .job-count .ensures, c .before .before .before .before .before .before .pre .1 .0 .tabled .valid .few-jobs)))
+    omega (arith, l .inv .1, power-next (l .j) (omega (arith, c .before .loop-test .taken, c .before .before .before .before .job-count .ensures, c .before .before .before .before .before .before .before .pre .1 .0 .tabled .valid .few-jobs)))
 
 choices-add-j : (t : ℕ) → choices-lts.Need-add-j (choices-calls t) (choices-at t) choices.Post choices-Inv-loop choices-μ-loop
 choices-add-j t c = omega arith
@@ -290,7 +290,7 @@ choices-loop-less t c = omega arith
 
 choices-loop-again : (t : ℕ) → choices-lts.Need-loop-again (choices-calls t) (choices-at t) choices.Post choices-Inv-loop choices-μ-loop
 choices-loop-again t c =
-    let s = c .before .before .before .before .before .before in
+    let s = c .before .before .before .before .before .before .before in
     let R = recorderOf (s .args .r .now) in
     let l = c .before .before .loop in
     let n = c .before .before .before .before .job-count .result in
@@ -328,7 +328,7 @@ choices-same-length-2 t c = c .before .loop .inv .7
 
 choices-returns-2 : (t : ℕ) → choices-lts.Need-returns-2 (choices-calls t) (choices-at t) choices.Post choices-Inv-loop choices-μ-loop
 choices-returns-2 t c =
-    let s = c .before .before .before .before .before in
+    let s = c .before .before .before .before .before .before in
     let R = recorderOf (s .args .r .now) in
     let l = c .before .loop in (
       (l .inv .6, (l .inv .3, l .inv .4)),
@@ -338,24 +338,24 @@ choices-returns-2 t c =
 
 -- The start is noted.
 enter-tells :
-    (t : ℕ) (c : enter-lts.After-note (enter-calls t) (enter-at t) enter.Post) → let s = c .before .before .before in let R = recorderOf (s .args .r .now) in
+    (t : ℕ) (c : enter-lts.After-note (enter-calls t) (enter-at t) enter.Post) → let s = c .before .before .before .before in let R = recorderOf (s .args .r .now) in
     let o = s .pre .1 .1 .1 in Tells R (o .stop) (s .args .budget) (c .note .last .0) (child R (o .vertex) (s .args .j .0) (s .args .s)) (o .state)
 enter-tells t c =
-    let s = c .before .before .before in
+    let s = c .before .before .before .before in
     let o = s .pre .1 .1 .1 in
     let x = s .pre .1 .0 .tabled in
     enters-noted (recorderOf (s .args .r .now)) (x .valid) (x .narrow) _ _ _ _ _ _ _ _ _ (o .holds) _ _ (o .tells) _ (c .note .ensures)
 
 enter-note-requires : (t : ℕ) → enter-lts.Need-note-requires (enter-calls t) (enter-at t) enter.Post
 enter-note-requires t c κs =
-    let s = c .before .before in
+    let s = c .before .before .before in
     let o = s .pre .1 .1 .1 in
     let x = s .pre .1 .0 .tabled in
     (o .tells .long, starts-known (recorderOf (s .args .r .now)) (x .valid) (x .narrow) _ _ _ _ (o .holds .starts) (o .holds .shows .reached) .1)
 
 enter-end-of-requires : (t : ℕ) → enter-lts.Need-end-of-requires (enter-calls t) (enter-at t) enter.Post
 enter-end-of-requires t c κs =
-    let s = c .before .before .before .before in
+    let s = c .before .before .before .before .before in
     let o = s .pre .1 .1 .1 in
     let x = s .pre .1 .0 .tabled in
     let R = recorderOf (s .args .r .now) in
@@ -363,22 +363,22 @@ enter-end-of-requires t c κs =
 
 enter-add-e : (t : ℕ) → enter-lts.Need-add-e (enter-calls t) (enter-at t) enter.Post
 enter-add-e t c =
-    let s = c .before .before .before .before .before in
+    let s = c .before .before .before .before .before .before in
     let x = s .pre .1 .0 .tabled in
     omega (arith, c .end-of .ensures .1, enters-small (recorderOf (s .args .r .now)) (x .valid) (x .narrow) false 0 _ _ _ _ _ _ _ (s .pre .1 .1 .1 .holds))
 
 enter-offer-requires : (t : ℕ) → enter-lts.Need-offer-requires (enter-calls t) (enter-at t) enter.Post
 enter-offer-requires t c κs =
     let n = c .before .before .before in
-    noted-less (n .before .before .before .args .tally .now) _ (n .before .before .before .args .j .0) (n .before .before .before .args .s) (n .before .before .before .pre .1 .1 .1 .tells .long) (n .note .ensures) .0
+    noted-less (n .before .before .before .before .args .tally .now) _ (n .before .before .before .before .args .j .0) (n .before .before .before .before .args .s) (n .before .before .before .before .pre .1 .1 .1 .tells .long) (n .note .ensures) .0
 
 -- The tally that the complete vertex was offered to.
 enter-offered :
     (t : ℕ) (c : enter-lts.After-offer (enter-calls t) (enter-at t) enter.Post) → let n = c .before .before .before .before in
-    (length (c .offer .last .0) ≡ 35) × (energyAt (c .offer .last .0) ≤ energyAt (n .before .before .before .args .tally .now))
+    (length (c .offer .last .0) ≡ 35) × (energyAt (c .offer .last .0) ≤ energyAt (n .before .before .before .before .args .tally .now))
 enter-offered t c =
     let n = c .before .before .before .before in
-    let s = n .before .before .before in
+    let s = n .before .before .before .before in
     let q = noted-less (s .args .tally .now) _ (s .args .j .0) (s .args .s) (s .pre .1 .1 .1 .tells .long) (n .note .ensures) in
     let k = offered-less _ _ _ (q .0) (c .offer .ensures) in
     (k .0, omega (arith, k .1, q .1))
@@ -390,7 +390,7 @@ enter-returns : (t : ℕ) → enter-lts.Need-returns (enter-calls t) (enter-at t
 enter-returns t c =
     let o = c .before .before in
     let n = o .before .before .before .before in
-    let s = n .before .before .before in
+    let s = n .before .before .before .before in
     let R = recorderOf (s .args .r .now) in
     let x = s .pre .1 .0 .tabled in
     let e = o .before .before .end-of in
@@ -402,7 +402,7 @@ enter-returns t c =
 
 enter-place-requires : (t : ℕ) → enter-lts.Need-place-requires (enter-calls t) (enter-at t) enter.Post
 enter-place-requires t c κs =
-    let s = c .before .before .before .before .before .before in
+    let s = c .before .before .before .before .before .before .before in
     let o = s .pre .1 .1 .1 in
     let x = s .pre .1 .0 .tabled in
     let R = recorderOf (s .args .r .now) in
@@ -412,7 +412,7 @@ enter-place-requires t c κs =
 
 enter-run-of-requires : (t : ℕ) → enter-lts.Need-run-of-requires (enter-calls t) (enter-at t) enter.Post
 enter-run-of-requires t c κs =
-    let s = c .before .before .before .before .before .before .before in
+    let s = c .before .before .before .before .before .before .before .before in
     let o = s .pre .1 .1 .1 in
     let x = s .pre .1 .0 .tabled in
     starts-known (recorderOf (s .args .r .now)) (x .valid) (x .narrow) _ _ _ _ (o .holds .starts) (o .holds .shows .reached) .1
@@ -422,14 +422,14 @@ enter-wide-requires t c κs = search needs
 
 enter-add-time : (t : ℕ) → enter-lts.Need-add-time (enter-calls t) (enter-at t) enter.Post
 enter-add-time t c =
-    let s = c .before .before .before .before .before .before .before .before .before in
+    let s = c .before .before .before .before .before .before .before .before .before .before in
     let o = s .pre .1 .1 .1 in
     let x = s .pre .1 .0 .tabled in
     omega (arith, c .wide .ensures .0 ∙ c .before .run-of .ensures, starts-end (recorderOf (s .args .r .now)) (x .valid) (x .narrow) _ _ _ _ (o .holds .starts) (o .holds .shows .reached), x .valid .few-ticks)
 
 enter-below-requires : (t : ℕ) → enter-lts.Need-below-requires (enter-calls t) (enter-at t) enter.Post
 enter-below-requires t c κs =
-    let s = c .before .before .before .before .before .before .before .before .before .before .before .before in
+    let s = c .before .before .before .before .before .before .before .before .before .before .before .before .before in
     let n = c .before .before .before .before .before .before .before .before .before in
     let o = s .pre .1 .1 .1 in
     let x = s .pre .1 .0 .tabled in
@@ -457,7 +457,7 @@ enter-same-length t c = omega arith
 
 enter-returns-2 : (t : ℕ) → enter-lts.Need-returns-2 (enter-calls t) (enter-at t) enter.Post
 enter-returns-2 t c =
-    let s = c .before .before .before .before .before .before .before .before .before .before .before .before .before .before .before in
+    let s = c .before .before .before .before .before .before .before .before .before .before .before .before .before .before .before .before in
     let n = c .before .before .before .before .before .before .before .before .before .before .before .before in
     let x = s .pre .1 .0 .tabled in
     let R = recorderOf (s .args .r .now) in
@@ -473,14 +473,14 @@ enter-returns-2 t c =
     )
 
 learn-element-copy-out-before : (t : ℕ) → learn-lts.Need-element-copy-out-before (learn-calls t) (learn-at t) learn.Post
-learn-element-copy-out-before t c = omega (arith, c .before .pre .1 .1 .1 .1 .tells .long)
+learn-element-copy-out-before t c = omega (arith, c .before .before .pre .1 .1 .1 .1 .tells .long)
 
 learn-element-copy-out-best : (t : ℕ) → learn-lts.Need-element-copy-out-best (learn-calls t) (learn-at t) learn.Post
-learn-element-copy-out-best t c = omega (arith, c .before .before .pre .1 .1 .1 .1 .tells .long)
+learn-element-copy-out-best t c = omega (arith, c .before .before .before .pre .1 .1 .1 .1 .tells .long)
 
 learn-choices-requires : (t : ℕ) → learn-lts.Need-choices-requires (learn-calls t) (learn-at t) learn.Post
 learn-choices-requires t c κs =
-    let s = c .before .before .before .before .before in
+    let s = c .before .before .before .before .before .before in
     (omega arith, (s .pre .1 .0, s .pre .1 .1 .1 .1))
 
 learn-element-copy-out-is-whole : (t : ℕ) → learn-lts.Need-element-copy-out-is-whole (learn-calls t) (learn-at t) learn.Post
@@ -495,17 +495,17 @@ learn-element-copy-out-keep t c = omega (arith, c .before .before .before .befor
 -- The count was not cut short, and the tally tells what was seen.
 learn-tells :
     (t : ℕ) (c : learn-lts.Then1 (learn-calls t) (learn-at t) learn.Post) → let e = c .before .before .before .before .before in
-    let s = e .before .before .before .before .before .before in let R = recorderOf (s .args .r .now) in let w = s .pre .1 .1 .1 .1 in
+    let s = e .before .before .before .before .before .before .before in let R = recorderOf (s .args .r .now) in let w = s .pre .1 .1 .1 .1 in
     Tells R (w .stop) (s .args .budget) (e .choices .last .1 .1 .1 .1 .0) (w .vertex) (order.choices R (visitBy R (w .stop) (w .left)) (w .vertex) (w .state))
 learn-tells t c =
     let e = c .before .before .before .before .before in
-    let s = e .before .before .before .before .before .before in
+    let s = e .before .before .before .before .before .before .before in
     let w = s .pre .1 .1 .1 .1 in
     came-done _ _ _ _ _ _ _ (e .choices .ensures .1 (w .stop) (w .left) (w .vertex) (w .state) (w .holds .0) (w .holds .1) (w .tells)) (c .before .is-whole .ensures (c .if1 .taken) .0)
 
 learn-sub-keep : (t : ℕ) → learn-lts.Need-sub-keep (learn-calls t) (learn-at t) learn.Post
 learn-sub-keep t c =
-    let s = c .before .before .before .before .before .before .before .before .before .before .before .before .before in
+    let s = c .before .before .before .before .before .before .before .before .before .before .before .before .before .before in
     let w = s .pre .1 .1 .1 .1 in
     omega (arith, w .tells .count, learn-tells t (c .before .before) .count, choices-grow (recorderOf (s .args .r .now)) (w .stop) (w .left) (w .vertex) (w .state))
 
@@ -519,7 +519,7 @@ learn-returns : (t : ℕ) → learn-lts.Need-returns (learn-calls t) (learn-at t
 learn-returns t c =
     let k = c .before .before .before .before .before in
     let e = k .before .before .before .before .before in
-    let s = e .before .before .before .before .before .before in
+    let s = e .before .before .before .before .before .before .before in
     let R = recorderOf (s .args .r .now) in
     let w = s .pre .1 .1 .1 .1 in (
       (
@@ -550,27 +550,27 @@ abbrev tries-μ-loop : tries-lts.MeasureT-loop
 tries-μ-loop r extras memory₀ v tally₀ budget set p from time j cut₀ s₀ memory tally cut s = 65536 - s
 
 -- From where on the starts are looked at.
-tries-from : (t : ℕ) (c : tries-lts.After-later (tries-calls t) (tries-at t) tries.Post tries-Inv-loop tries-μ-loop) → let a = c .before .before .before .before .before .args in c .later .result ≡ max (a .time) (release (recorderOf (a .r .now)) (a .j .0))
+tries-from : (t : ℕ) (c : tries-lts.After-later (tries-calls t) (tries-at t) tries.Post tries-Inv-loop tries-μ-loop) → let a = c .before .before .before .before .before .before .args in c .later .result ≡ max (a .time) (release (recorderOf (a .r .now)) (a .j .0))
 tries-from t c = c .later .ensures ∙ ap (max _) (c .before .wide .ensures .0 ∙ c .before .before .release-of .ensures)
 
 -- The start at hand meets the deadline.
-tries-due : (t : ℕ) (c : tries-lts.In-loop (tries-calls t) (tries-at t) tries.Post tries-Inv-loop tries-μ-loop) → let a = c .before .before .before .before .before .before .before .args in let R = recorderOf (a .r .now) in
+tries-due : (t : ℕ) (c : tries-lts.In-loop (tries-calls t) (tries-at t) tries.Post tries-Inv-loop tries-μ-loop) → let a = c .before .before .before .before .before .before .before .before .args in let R = recorderOf (a .r .now) in
     c .before .loop .s + run R (a .j .0) ≤ deadline R (a .j .0)
 tries-due t c = omega (arith, c .loop-test .taken, c .before .loop .inv .4, c .before .before .before .before .before .first-cut .ensures)
 
 -- It is one of the job's.
 tries-starts :
-    (t : ℕ) (c : tries-lts.In-loop (tries-calls t) (tries-at t) tries.Post tries-Inv-loop tries-μ-loop) → let a = c .before .before .before .before .before .before .before .args in
+    (t : ℕ) (c : tries-lts.In-loop (tries-calls t) (tries-at t) tries.Post tries-Inv-loop tries-μ-loop) → let a = c .before .before .before .before .before .before .before .before .args in
     (m : ℕ) (u : Vertex) → Stands (recorderOf (a .r .now)) (a .v .now) (a .set) (a .from) m u → u .time ≡ a .time → Starts (recorderOf (a .r .now)) u (a .j .0) (c .before .loop .s)
 tries-starts t c m u stands time =
     let l = c .before in
-    let s = l .before .before .before .before .before .before in
+    let s = l .before .before .before .before .before .before .before in
     let x = s .pre .1 .0 .tabled in
     starts-of (recorderOf (s .args .r .now)) (x .valid) (x .narrow) _ _ _ m u _ _ _ _ _ _ stands time (s .pre .1 .1 .0) (s .pre .1 .1 .1 .0) (tries-from t (l .before)) (l .loop .inv .0) refl refl (tries-due t c)
 
 tries-first-cut-requires : (t : ℕ) → tries-lts.Need-first-cut-requires (tries-calls t) (tries-at t) tries.Post tries-Inv-loop tries-μ-loop
 tries-first-cut-requires t c κs =
-    let s = c .before in
+    let s = c .before .before in
     let x = s .pre .1 .0 .tabled in
     let R = recorderOf (s .args .r .now) in
     let o = s .pre .1 .1 .1 .1 .1 .1 in
@@ -578,7 +578,7 @@ tries-first-cut-requires t c κs =
     (x .valid, (omega (arith, s .pre .1 .1 .0, x .valid .few-jobs), (load-shown R (x .valid) _ _ _ _ (stands .shows) _ (job-in R (x .valid) _ _ _ _ (stands .shows) _ (s .pre .1 .1 .0) (s .pre .1 .1 .1 .0)), load-room R (x .valid) (x .narrow) _ _ _ _ _ stands)))
 
 tries-release-of-requires : (t : ℕ) → tries-lts.Need-release-of-requires (tries-calls t) (tries-at t) tries.Post tries-Inv-loop tries-μ-loop
-tries-release-of-requires t c κs = omega (arith, c .before .before .pre .1 .1 .0, c .before .before .pre .1 .0 .tabled .valid .few-jobs)
+tries-release-of-requires t c κs = omega (arith, c .before .before .before .pre .1 .1 .0, c .before .before .before .pre .1 .0 .tabled .valid .few-jobs)
 
 tries-wide-requires : (t : ℕ) → tries-lts.Need-wide-requires (tries-calls t) (tries-at t) tries.Post tries-Inv-loop tries-μ-loop
 tries-wide-requires t c κs = search needs
@@ -589,7 +589,7 @@ tries-later-requires t c κs = search needs
 tries-loop-holds : (t : ℕ) → tries-lts.Need-loop-holds (tries-calls t) (tries-at t) tries.Post tries-Inv-loop tries-μ-loop
 unfolding starts
 tries-loop-holds t c =
-    let s = c .before .before .before .before .before in
+    let s = c .before .before .before .before .before .before in
     let R = recorderOf (s .args .r .now) in
     let j = s .args .j .0 in
     let o = s .pre .1 .1 .1 .1 .1 .1 in (
@@ -609,7 +609,7 @@ tries-loop-holds t c =
 
 tries-lead-of-requires : (t : ℕ) → tries-lts.Need-lead-of-requires (tries-calls t) (tries-at t) tries.Post tries-Inv-loop tries-μ-loop
 tries-lead-of-requires t c κs =
-    let s = c .before .before .before .before .before .before .before in
+    let s = c .before .before .before .before .before .before .before .before in
     let x = s .pre .1 .0 .tabled in
     let R = recorderOf (s .args .r .now) in
     let o = s .pre .1 .1 .1 .1 .1 .1 in
@@ -617,7 +617,7 @@ tries-lead-of-requires t c κs =
 
 tries-add-floor : (t : ℕ) → tries-lts.Need-add-floor (tries-calls t) (tries-at t) tries.Post tries-Inv-loop tries-μ-loop
 tries-add-floor t c =
-    let s = c .before .before .before .before .before .before .before .before in
+    let s = c .before .before .before .before .before .before .before .before .before in
     let x = s .pre .1 .0 .tabled in
     omega (arith, c .lead-of .ensures .1, from-small (recorderOf (s .args .r .now)) (x .valid) (x .narrow) _ _ _ _ _ (s .pre .1 .1 .1 .1 .1 .1 .holds .0))
 
@@ -626,7 +626,7 @@ tries-element-copy-out-cut-at t c = omega (arith, c .before .before .loop .inv .
 
 tries-cut-at-requires : (t : ℕ) → tries-lts.Need-cut-at-requires (tries-calls t) (tries-at t) tries.Post tries-Inv-loop tries-μ-loop
 tries-cut-at-requires t c κs =
-    let s = c .before .before .before .before .before .before .before .before .before in
+    let s = c .before .before .before .before .before .before .before .before .before .before in
     let x = s .pre .1 .0 .tabled in
     let R = recorderOf (s .args .r .now) in
     let o = s .pre .1 .1 .1 .1 .1 .1 in
@@ -635,23 +635,23 @@ tries-cut-at-requires t c κs =
 -- From where on all are dropped.
 tries-cuts :
     (t : ℕ) (c : tries-lts.After-cut-at (tries-calls t) (tries-at t) tries.Post tries-Inv-loop tries-μ-loop) → let l = c .before .before .before .before in
-    let a = l .before .before .before .before .before .before .args in let R = recorderOf (a .r .now) in let x = l .before .before .before .before .first-cut .result in
+    let a = l .before .before .before .before .before .before .before .args in let R = recorderOf (a .r .now) in let x = l .before .before .before .before .first-cut .result in
     Cuts R (a .v .now) (energyAt (l .loop .tally)) (a .from) (a .j .0) x (c .cut-at .result) × (c .cut-at .result ≤ x)
 tries-cuts t c =
     let l = c .before .before .before .before in
-    let s = l .before .before .before .before .before .before in
+    let s = l .before .before .before .before .before .before .before in
     let x = s .pre .1 .0 .tabled in
     cuts-at (recorderOf (s .args .r .now)) (x .valid) (x .narrow) _ _ _ _ _ _ _ _ _ (s .pre .1 .1 .0) (l .loop .inv .3) (c .before .before .before .loop-test .taken) (l .loop .inv .4) (ap (λ (y : ℕ). s .args .from + y) (c .before .before .lead-of .ensures .0)) (c .cut-at .ensures)
 
 -- What is asked of the start at hand.
 tries-tries :
     (t : ℕ) (c : tries-lts.After-cut-at (tries-calls t) (tries-at t) tries.Post tries-Inv-loop tries-μ-loop) → let l = c .before .before .before .before in
-    let a = l .before .before .before .before .before .before .args in let R = recorderOf (a .r .now) in
+    let a = l .before .before .before .before .before .before .before .args in let R = recorderOf (a .r .now) in
     (m : ℕ) (u : Vertex) → Stands R (a .v .now) (a .set) (a .from) m u → u .time ≡ a .time
     → Tries R (a .v .now) (energyAt (l .loop .tally)) (a .set) (a .from) (c .cut-at .result) (a .from + c .before .before .lead-of .result) (a .j .0) (l .loop .s) m u
 tries-tries t c m u stands time =
     let l = c .before .before .before .before in
-    let s = l .before .before .before .before .before .before in
+    let s = l .before .before .before .before .before .before .before in
     let x = s .pre .1 .0 .tabled in
     let R = recorderOf (s .args .r .now) in
     let o = tries-starts t (c .before .before .before) m u stands time in
@@ -663,7 +663,7 @@ tries-visit-requires : (t : ℕ) → tries-lts.Need-visit-requires (tries-calls 
 tries-visit-requires t c κs =
     let k = c .before .before in
     let l = k .before .before .before .before in
-    let s = l .before .before .before .before .before .before in
+    let s = l .before .before .before .before .before .before .before in
     let o = s .pre .1 .1 .1 .1 .1 .1 in
     let g = l .loop .inv .5 (o .stop) (o .left) (o .vertex) (o .state) (o .holds .0) (o .holds .1) (o .tells) in
     (omega arith, (l .loop .inv .7, (s .pre .1 .1 .1 .1 .0, record { stop = o .stop; left = o .left; vertex = o .vertex; state = g .state; holds = tries-tries t k (o .left) (o .vertex) (o .holds .0) (o .holds .1); tells = g .tells })))
@@ -671,20 +671,20 @@ tries-visit-requires t c κs =
 -- The walk with the start at hand in front.
 tries-first :
     (t : ℕ) (c : tries-lts.After-cut-at (tries-calls t) (tries-at t) tries.Post tries-Inv-loop tries-μ-loop) → let l = c .before .before .before .before in
-    let a = l .before .before .before .before .before .before .args in let R = recorderOf (a .r .now) in
+    let a = l .before .before .before .before .before .before .before .args in let R = recorderOf (a .r .now) in
     (stop : Bool) (m : ℕ) (u : Vertex) (st : Visited) → Stands R (a .v .now) (a .set) (a .from) m u → u .time ≡ a .time → Tells R stop (a .budget) (a .tally .now) u st
     → Going R stop (a .budget) u (λ (x : ℕ). visitBy R stop m (child R u (a .j .0) x)) (l .loop .tally)
     (l .loop .s ∷ upFrom (l .loop .s + 1) (suc (deadline R (a .j .0)) - (l .loop .s + 1 + run R (a .j .0)))) (jobWalk R stop m u (a .j .0) st)
 tries-first t c stop m u st stands time tells =
     let l = c .before .before .before .before in
-    let a = l .before .before .before .before .before .before .args in
+    let a = l .before .before .before .before .before .before .before .args in
     going-as (recorderOf (a .r .now)) stop (a .budget) u _ (l .loop .tally) _ _ _ (up-next (l .loop .s) _ _ (tries-due t (c .before .before .before))) (l .loop .inv .5 stop m u st stands time tells)
 
 tries-returns : (t : ℕ) → tries-lts.Need-returns (tries-calls t) (tries-at t) tries.Post tries-Inv-loop tries-μ-loop
 tries-returns t c =
     let k = c .before .before .before .before .before .before in
     let l = k .before .before .before .before in
-    let a = l .before .before .before .before .before .before .args in
+    let a = l .before .before .before .before .before .before .before .args in
     let R = recorderOf (a .r .now) in
     let e = c .before .before .before .visit in (
       (e .ensures .0 .0, (e .ensures .0 .1 .0, omega (arith, e .ensures .0 .1 .1, l .loop .inv .2))),
@@ -701,7 +701,7 @@ tries-add-s t c =
 -- It is early.
 tries-early : (t : ℕ) (c : tries-lts.In-loop (tries-calls t) (tries-at t) tries.Post tries-Inv-loop tries-μ-loop) → c .before .loop .s < 65536
 tries-early t c =
-    let s = c .before .before .before .before .before .before .before in
+    let s = c .before .before .before .before .before .before .before .before in
     let x = s .pre .1 .0 .tabled in
     omega (arith, tries-due t c, x .valid .ends (s .args .j .0) (s .pre .1 .1 .0), x .valid .few-ticks)
 
@@ -713,7 +713,7 @@ tries-loop-again : (t : ℕ) → tries-lts.Need-loop-again (tries-calls t) (trie
 tries-loop-again t c =
     let k = c .before .before .before .before .before .before in
     let l = k .before .before .before .before in
-    let s = l .before .before .before .before .before .before in
+    let s = l .before .before .before .before .before .before .before in
     let a = s .args in
     let x = s .pre .1 .0 .tabled in
     let R = recorderOf (a .r .now) in
@@ -734,14 +734,14 @@ tries-loop-again t c =
 
 -- What is left starts no earlier than the job may.
 tries-after :
-    (t : ℕ) (c : tries-lts.At-loop (tries-calls t) (tries-at t) tries.Post tries-Inv-loop tries-μ-loop) → let a = c .before .before .before .before .before .before .args in
+    (t : ℕ) (c : tries-lts.At-loop (tries-calls t) (tries-at t) tries.Post tries-Inv-loop tries-μ-loop) → let a = c .before .before .before .before .before .before .before .args in
     (u : Vertex) → u .time ≡ a .time → earliest (recorderOf (a .r .now)) (u .time) (a .j .0) ≤ c .loop .s
 tries-after t c u time = omega (arith, time, tries-from t (c .before), c .loop .inv .0)
 
 tries-drops-requires : (t : ℕ) → tries-lts.Need-drops-requires (tries-calls t) (tries-at t) tries.Post tries-Inv-loop tries-μ-loop
 tries-drops-requires t c κs =
     let l = c .before .before .before in
-    let s = l .before .before .before .before .before .before in
+    let s = l .before .before .before .before .before .before .before in
     let x = s .pre .1 .0 .tabled in
     let R = recorderOf (s .args .r .now) in
     let o = s .pre .1 .1 .1 .1 .1 .1 in
@@ -771,7 +771,7 @@ tries-drops-requires t c κs =
 tries-returns-2 : (t : ℕ) → tries-lts.Need-returns-2 (tries-calls t) (tries-at t) tries.Post tries-Inv-loop tries-μ-loop
 tries-returns-2 t c =
     let l = c .before .before .before .before .before .before in
-    let a = l .before .before .before .before .before .before .args in
+    let a = l .before .before .before .before .before .before .before .args in
     let R = recorderOf (a .r .now) in
     let e = c .before .before .drops in (
       (e .ensures .0 .0, (e .ensures .0 .1 .0, omega (arith, e .ensures .0 .1 .1, l .loop .inv .2))),
@@ -794,7 +794,7 @@ abbrev drops-μ-loop : drops-lts.MeasureT-loop
 drops-μ-loop r extras memory₀ v tally₀ budget set p from j start c d s₀ memory tally s = 65536 - s
 
 -- The start at hand meets the deadline.
-drops-due : (t : ℕ) (c : drops-lts.In-loop (drops-calls t) (drops-at t) drops.Post drops-Inv-loop drops-μ-loop) → let a = c .before .before .before .before .before .before .before .args in let R = recorderOf (a .r .now) in
+drops-due : (t : ℕ) (c : drops-lts.In-loop (drops-calls t) (drops-at t) drops.Post drops-Inv-loop drops-μ-loop) → let a = c .before .before .before .before .before .before .before .before .args in let R = recorderOf (a .r .now) in
     (c .before .loop .s + run R (a .j .0) ≤ deadline R (a .j .0)) × (c .before .loop .s < 65536)
 drops-due t c =
     let l = c .before in
@@ -803,32 +803,32 @@ drops-due t c =
     (omega (arith, c .loop-test .taken, run-is, due-is), omega (arith, c .loop-test .taken, l .before .wide2 .ensures .1))
 
 drops-tries :
-    (t : ℕ) (c : drops-lts.In-loop (drops-calls t) (drops-at t) drops.Post drops-Inv-loop drops-μ-loop) → let a = c .before .before .before .before .before .before .before .args in let R = recorderOf (a .r .now) in
+    (t : ℕ) (c : drops-lts.In-loop (drops-calls t) (drops-at t) drops.Post drops-Inv-loop drops-μ-loop) → let a = c .before .before .before .before .before .before .before .before .args in let R = recorderOf (a .r .now) in
     (m : ℕ) (u : Vertex) → Stands R (a .v .now) (a .set) (a .from) m u → earliest R (u .time) (a .j .0) ≤ a .start
     → Tries R (a .v .now) (energyAt (c .before .loop .tally)) (a .set) (a .from) 0 0 (a .j .0) (c .before .loop .s) m u
 drops-tries t c m u stands early =
     let l = c .before in
-    let s = l .before .before .before .before .before .before in
+    let s = l .before .before .before .before .before .before .before in
     let x = s .pre .1 .0 .tabled in
     let R = recorderOf (s .args .r .now) in
     tries-dropped R (x .valid) (x .narrow) _ _ _ _ _ _ _ _ m u (s .pre .1 .1 .1 .1 .1 .1 .0) (l .loop .inv .2) (l .loop .inv .0) stands
     (record { job = job-in R (x .valid) _ _ _ u (stands .shows) _ (s .pre .1 .1 .0) (s .pre .1 .1 .1 .0); early = omega (arith, early, l .loop .inv .0); late = drops-due t c .0 })
 
 drops-run-of-requires : (t : ℕ) → drops-lts.Need-run-of-requires (drops-calls t) (drops-at t) drops.Post drops-Inv-loop drops-μ-loop
-drops-run-of-requires t c κs = omega (arith, c .before .pre .1 .1 .0, c .before .pre .1 .0 .tabled .valid .few-jobs)
+drops-run-of-requires t c κs = omega (arith, c .before .before .pre .1 .1 .0, c .before .before .pre .1 .0 .tabled .valid .few-jobs)
 
 drops-wide-requires : (t : ℕ) → drops-lts.Need-wide-requires (drops-calls t) (drops-at t) drops.Post drops-Inv-loop drops-μ-loop
 drops-wide-requires t c κs = search needs
 
 drops-deadline-of-requires : (t : ℕ) → drops-lts.Need-deadline-of-requires (drops-calls t) (drops-at t) drops.Post drops-Inv-loop drops-μ-loop
-drops-deadline-of-requires t c κs = omega (arith, c .before .before .before .pre .1 .1 .0, c .before .before .before .pre .1 .0 .tabled .valid .few-jobs)
+drops-deadline-of-requires t c κs = omega (arith, c .before .before .before .before .pre .1 .1 .0, c .before .before .before .before .pre .1 .0 .tabled .valid .few-jobs)
 
 drops-wide-requires-2 : (t : ℕ) → drops-lts.Need-wide-requires-2 (drops-calls t) (drops-at t) drops.Post drops-Inv-loop drops-μ-loop
 drops-wide-requires-2 t c κs = search needs
 
 drops-loop-holds : (t : ℕ) → drops-lts.Need-loop-holds (drops-calls t) (drops-at t) drops.Post drops-Inv-loop drops-μ-loop
 drops-loop-holds t c =
-    let s = c .before .before .before .before .before in
+    let s = c .before .before .before .before .before .before in
     let R = recorderOf (s .args .r .now) in (
       le-refl _,
       s .pre .1 .1 .1 .1 .1 .1 .1 .tells .long,
@@ -847,7 +847,7 @@ drops-visit-requires : (t : ℕ) → drops-lts.Need-visit-requires (drops-calls 
 drops-visit-requires t c κs =
     let k = c .before .before in
     let l = k .before in
-    let s = l .before .before .before .before .before .before in
+    let s = l .before .before .before .before .before .before .before in
     let o = s .pre .1 .1 .1 .1 .1 .1 .1 in
     let g = l .loop .inv .3 (o .stop) (o .left) (o .vertex) (o .state) (o .holds .0) (o .holds .1) (o .tells) in
     (omega arith, (l .loop .inv .5, (s .pre .1 .1 .1 .1 .0, record { stop = o .stop; left = o .left; vertex = o .vertex; state = g .state; holds = drops-tries t k (o .left) (o .vertex) (o .holds .0) (o .holds .1); tells = g .tells })))
@@ -855,21 +855,21 @@ drops-visit-requires t c κs =
 -- The walk with the start at hand in front.
 drops-first :
     (t : ℕ) (c : drops-lts.In-loop (drops-calls t) (drops-at t) drops.Post drops-Inv-loop drops-μ-loop) → let l = c .before in
-    let a = l .before .before .before .before .before .before .args in let R = recorderOf (a .r .now) in
+    let a = l .before .before .before .before .before .before .before .args in let R = recorderOf (a .r .now) in
     (stop : Bool) (m : ℕ) (u : Vertex) (st : Visited) → Stands R (a .v .now) (a .set) (a .from) m u → earliest R (u .time) (a .j .0) ≤ a .start → Tells R stop (a .budget) (a .tally .now) u st
     → Going R stop (a .budget) u (λ (x : ℕ). visitBy R stop m (child R u (a .j .0) x)) (l .loop .tally)
     (l .loop .s ∷ upFrom (l .loop .s + 1) (suc (deadline R (a .j .0)) - (l .loop .s + 1 + run R (a .j .0))))
     (through (λ (x : ℕ). visitBy R stop m (child R u (a .j .0) x)) (upFrom (a .start) (suc (deadline R (a .j .0)) - (a .start + run R (a .j .0)))) st)
 drops-first t c stop m u st stands early tells =
     let l = c .before in
-    let a = l .before .before .before .before .before .before .args in
+    let a = l .before .before .before .before .before .before .before .args in
     going-as (recorderOf (a .r .now)) stop (a .budget) u _ (l .loop .tally) _ _ _ (up-next (l .loop .s) _ _ (drops-due t c .0)) (l .loop .inv .3 stop m u st stands early tells)
 
 drops-returns : (t : ℕ) → drops-lts.Need-returns (drops-calls t) (drops-at t) drops.Post drops-Inv-loop drops-μ-loop
 drops-returns t c =
     let k = c .before .before .before .before .before .before in
     let l = k .before in
-    let a = l .before .before .before .before .before .before .args in
+    let a = l .before .before .before .before .before .before .before .args in
     let R = recorderOf (a .r .now) in
     let e = c .before .before .before .visit in (
       (e .ensures .0 .0, (e .ensures .0 .1 .0, omega (arith, e .ensures .0 .1 .1, l .loop .inv .2))),
@@ -888,7 +888,7 @@ drops-loop-again : (t : ℕ) → drops-lts.Need-loop-again (drops-calls t) (drop
 drops-loop-again t c =
     let k = c .before .before .before .before .before .before in
     let l = k .before in
-    let a = l .before .before .before .before .before .before .args in
+    let a = l .before .before .before .before .before .before .before .args in
     let R = recorderOf (a .r .now) in
     let e = c .before .before .before .visit in (
       omega (arith, l .loop .inv .0),
@@ -905,7 +905,7 @@ drops-loop-again t c =
 drops-returns-2 : (t : ℕ) → drops-lts.Need-returns-2 (drops-calls t) (drops-at t) drops.Post drops-Inv-loop drops-μ-loop
 drops-returns-2 t c =
     let l = c .before in
-    let s = l .before .before .before .before .before .before in
+    let s = l .before .before .before .before .before .before .before in
     let a = s .args in
     let R = recorderOf (a .r .now) in
     let run-is = l .before .before .before .wide .ensures .0 ∙ l .before .before .before .before .run-of .ensures in
@@ -929,28 +929,28 @@ drops-same-length-2 : (t : ℕ) → drops-lts.Need-same-length-2 (drops-calls t)
 drops-same-length-2 t c = c .before .loop .inv .6
 
 visit-element-copy-out-if1 : (t : ℕ) → visit-lts.Need-element-copy-out-if1 (visit-calls t) (visit-at t) visit.Post
-visit-element-copy-out-if1 t c = omega (arith, c .before .pre .1 .1 .1 .tells .long)
+visit-element-copy-out-if1 t c = omega (arith, c .before .before .pre .1 .1 .1 .tells .long)
 
 visit-returns : (t : ℕ) → visit-lts.Need-returns (visit-calls t) (visit-at t) visit.Post
 visit-returns t c =
-    let s = c .before .before .before in
+    let s = c .before .before .before .before in
     let x = s .pre .1 .0 .tabled in
     ((s .pre .1 .0, (s .pre .1 .1 .1 .tells .long, le-refl _)), λ stop m u st tries tells. visit-over (recorderOf (s .args .r .now)) (x .valid) (x .narrow) _ _ _ _ _ _ _ _ _ _ _ _ _ tries tells (c .if1 .taken))
 
 -- The budget is not used up.
-visit-less : (t : ℕ) (c : visit-lts.Else1 (visit-calls t) (visit-at t) visit.Post) → let a = c .before .before .before .args in countAt (a .tally .now) < a .budget
-visit-less t c = let o = c .before .before .before .pre .1 .1 .1 in omega (arith, o .tells .count, o .tells .within, c .if1 .left)
+visit-less : (t : ℕ) (c : visit-lts.Else1 (visit-calls t) (visit-at t) visit.Post) → let a = c .before .before .before .before .args in countAt (a .tally .now) < a .budget
+visit-less t c = let o = c .before .before .before .before .pre .1 .1 .1 in omega (arith, o .tells .count, o .tells .within, c .if1 .left)
 
 visit-count-one-requires : (t : ℕ) → visit-lts.Need-count-one-requires (visit-calls t) (visit-at t) visit.Post
 visit-count-one-requires t c κs =
-    let s = c .before .before .before .before in
+    let s = c .before .before .before .before .before in
     (s .pre .1 .1 .1 .tells .long, omega (arith, visit-less t (c .before)))
 
 visit-returns-2 : (t : ℕ) → visit-lts.Need-returns-2 (visit-calls t) (visit-at t) visit.Post
 visit-returns-2 t c =
     let k = c .before in
     let b = k .before .before in
-    let s = b .before .before .before in
+    let s = b .before .before .before .before in
     let x = s .pre .1 .0 .tabled in
     let q = counted-less (s .args .tally .now) _ (s .pre .1 .1 .1 .tells .long) (k .count-one .ensures) in
     ((s .pre .1 .0, (q .0, omega (arith, q .1))), λ stop m u st tries tells. visit-drops (recorderOf (s .args .r .now)) (x .valid) (x .narrow) _ _ _ _ _ _ _ _ _ _ _ _ _ tries tells (visit-less t b) _ (k .count-one .ensures) (tries .dropped (c .if2 .taken)))
@@ -958,14 +958,14 @@ visit-returns-2 t c =
 visit-element-copy-out-if3 : (t : ℕ) → visit-lts.Need-element-copy-out-if3 (visit-calls t) (visit-at t) visit.Post
 visit-element-copy-out-if3 t c =
     let k = c .before in
-    let s = k .before .before .before .before .before in
+    let s = k .before .before .before .before .before .before in
     omega (arith, counted-less (s .args .tally .now) _ (s .pre .1 .1 .1 .tells .long) (k .count-one .ensures) .0)
 
 visit-returns-3 : (t : ℕ) → visit-lts.Need-returns-3 (visit-calls t) (visit-at t) visit.Post
 visit-returns-3 t c =
     let k = c .before .before .before in
     let b = k .before .before in
-    let s = b .before .before .before in
+    let s = b .before .before .before .before in
     let x = s .pre .1 .0 .tabled in
     let q = counted-less (s .args .tally .now) _ (s .pre .1 .1 .1 .tells .long) (k .count-one .ensures) in (
       (s .pre .1 .0, (q .0, omega (arith, q .1))),
@@ -976,7 +976,7 @@ visit-returns-3 t c =
 
 visit-sub-enter : (t : ℕ) → visit-lts.Need-sub-enter (visit-calls t) (visit-at t) visit.Post
 visit-sub-enter t c =
-    let s = c .before .before .before .before .before .before .before .before .before .before in
+    let s = c .before .before .before .before .before .before .before .before .before .before .before in
     let x = s .pre .1 .0 .tabled in
     let o = s .pre .1 .1 .1 in
     omega (arith, bit-room (recorderOf (s .args .r .now)) (x .valid) (x .narrow) _ _ _ _ _ _ (o .holds .stands .shows) (o .holds .starts .job) (s .pre .1 .1 .0))
@@ -985,7 +985,7 @@ visit-enter-requires : (t : ℕ) → visit-lts.Need-enter-requires (visit-calls 
 visit-enter-requires t c κs =
     let k = c .before .before .before .before .before in
     let b = k .before .before in
-    let s = b .before .before .before in
+    let s = b .before .before .before .before in
     let x = s .pre .1 .0 .tabled in
     let o = s .pre .1 .1 .1 in
     let R = recorderOf (s .args .r .now) in
@@ -1015,7 +1015,7 @@ visit-returns-4 : (t : ℕ) → visit-lts.Need-returns-4 (visit-calls t) (visit-
 visit-returns-4 t c =
     let k = c .before .before .before .before .before .before .before .before in
     let b = k .before .before in
-    let s = b .before .before .before in
+    let s = b .before .before .before .before in
     let x = s .pre .1 .0 .tabled in
     let R = recorderOf (s .args .r .now) in
     let e = c .before .before .enter in

@@ -10,6 +10,6 @@ cut-at-spec =
     tie.close
     (tie.spec
     (λ c κs. search needs)
-    (λ c. inr (refl, c .before .before .if1 .taken, c .before .is-steady .ensures (c .if2 .taken)))
+    (λ c. inr (refl, c .before .before .if1 .taken, c .before .is-climbing .ensures (c .if2 .taken)))
     (λ c. inl refl)
     (λ c. inl refl))

@@ -7,7 +7,7 @@ use Rattle.visit.proofs.lent_visit.Tie as tie
 whole-visit-requires : tie.Need-whole-visit-requires
 whole-visit-requires c κs =
     let k = c .before .before .before .before in
-    let s = k .before .before .before in
+    let s = k .before .before .before .before in
     (lends-clear _ _ _ (s .pre .0) (k .clear .ensures), s .pre .1)
 
 returns : tie.Need-returns

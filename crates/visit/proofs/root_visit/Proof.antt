@@ -14,18 +14,18 @@ use Rattle.visit.proofs.root_visit.Statement.{statement}
 use Rattle.visit.proofs.root_visit.Tie as tie
 
 returns : tie.Need-returns
-returns c = let s = c .before .before in (s .pre .1 .0, λ stop e. root-over _ stop _ (c .if1 .taken) _ (s .pre .1 .1 .1 .0) e)
+returns c = let s = c .before .before .before in (s .pre .1 .0, λ stop e. root-over _ stop _ (c .if1 .taken) _ (s .pre .1 .1 .1 .0) e)
 
 count-one-requires : tie.Need-count-one-requires
-count-one-requires c κs = let s = c .before .before .before in (s .pre .1 .0, omega (arith, s .pre .1 .1 .0))
+count-one-requires c κs = let s = c .before .before .before .before in (s .pre .1 .0, omega (arith, s .pre .1 .1 .0))
 
 root-of-requires : tie.Need-root-of-requires
-root-of-requires c κs = c .before .before .before .before .pre .0 .tabled .valid
+root-of-requires c κs = c .before .before .before .before .before .pre .0 .tabled .valid
 
 returns-2 : tie.Need-returns-2
 returns-2 c =
     let k = c .before .before .before .before in
-    let s = k .before .before .before .before in
+    let s = k .before .before .before .before .before in
     let R = recorderOf (s .args .r .now) in (
       counted-less (s .args .tally .now) _ (s .pre .1 .0) (k .count-one .ensures) .0,
       λ stop e. root-cut R stop (s .args .budget) (s .pre .0 .tabled .valid) _ (c .before .before .before .root-of .ensures)
@@ -37,13 +37,13 @@ root-floor-requires : tie.Need-root-floor-requires
 root-floor-requires c κs =
     let e = c .before in
     let k = e .before .before .before .before in
-    let s = k .before .before .before .before in
+    let s = k .before .before .before .before .before in
     (s .pre .0 .tabled, root-aheads (recorderOf (s .args .r .now)) (s .pre .1 .1 .1 .1 .0) (s .args .budget) (s .pre .0 .tabled .valid) _ (e .before .before .before .root-of .ensures) (omega (arith, e .if2 .left, e .before .wide .ensures .0 ∙ e .before .before .horizon-of .ensures)))
 
 close-of-requires : tie.Need-close-of-requires
 close-of-requires c κs =
     let e = c .before .before .before .before .before in
-    let s = e .before .before .before .before .before .before .before .before in
+    let s = e .before .before .before .before .before .before .before .before .before in
     let x = s .pre .0 .tabled in
     let R = recorderOf (s .args .r .now) in
     (x, ordered-later R (x .valid) _ 0 (R .horizon) (shown-ordered R (x .valid) _ _ _ _ (e .before .before .before .root-of .ensures)) (omega arith) (omega arith))
@@ -54,14 +54,14 @@ add-e c = omega (arith, c .close-of .ensures .1, c .before .before .before .befo
 offer-requires : tie.Need-offer-requires
 offer-requires c κs =
     let k = c .before .before .before .before .before .before .before .before .before .before .before in
-    let s = k .before .before .before .before in
+    let s = k .before .before .before .before .before in
     counted-less (s .args .tally .now) _ (s .pre .1 .0) (k .count-one .ensures) .0
 
 -- The tally that the complete root was offered to.
 offered-long : (c : tie.After-offer) → length (c .offer .last .0) ≡ 35
 offered-long c =
     let k = c .before .before .before .before .before .before .before .before .before .before .before .before in
-    let s = k .before .before .before .before in
+    let s = k .before .before .before .before .before in
     offered-less _ _ _ (counted-less (s .args .tally .now) _ (s .pre .1 .0) (k .count-one .ensures) .0) (c .offer .ensures) .0
 
 stops-requires : tie.Need-stops-requires
@@ -72,7 +72,7 @@ returns-3 c =
     let o = c .before .before in
     let e = o .before .before .before .before .before .before .before .before in
     let k = e .before .before .before .before in
-    let s = k .before .before .before .before in
+    let s = k .before .before .before .before .before in
     let R = recorderOf (s .args .r .now) in
     let close = o .before .before .close-of in
     let f = o .before .before .before .before .before .before .root-floor in (
@@ -85,13 +85,13 @@ returns-3 c =
     )
 
 all-jobs-requires : tie.Need-all-jobs-requires
-all-jobs-requires c κs = c .before .before .before .before .before .before .before .before .before .before .before .before .before .before .before .pre .0 .tabled .valid
+all-jobs-requires c κs = c .before .before .before .before .before .before .before .before .before .before .before .before .before .before .before .before .pre .0 .tabled .valid
 
 choices-requires : tie.Need-choices-requires
 choices-requires c κs =
     let e = c .before .before .before .before .before .before .before .before in
     let k = e .before .before .before .before in
-    let s = k .before .before .before .before in
+    let s = k .before .before .before .before .before in
     let x = s .pre .0 .tabled in
     let R = recorderOf (s .args .r .now) in
     let f = c .before .before .before .before .before .before .root-floor in
@@ -116,7 +116,7 @@ returns-4 : tie.Need-returns-4
 returns-4 c =
     let e = c .before .before .before .before .before .before .before .before .before .before .before in
     let k = e .before .before .before .before in
-    let s = k .before .before .before .before in
+    let s = k .before .before .before .before .before in
     let x = s .pre .0 .tabled in
     let R = recorderOf (s .args .r .now) in
     let f = c .before .before .before .before .before .before .before .before .before .root-floor in

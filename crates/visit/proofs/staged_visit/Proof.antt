@@ -7,7 +7,7 @@ use Rattle.visit.proofs.staged_visit.Statement.{statement}
 use Rattle.visit.proofs.staged_visit.Tie as tie
 
 few-visit-requires : tie.Need-few-visit-requires
-few-visit-requires c κs = c .before .before .pre
+few-visit-requires c κs = c .before .before .before .pre
 
 returns : tie.Need-returns
 returns c = ran-larger _ _ _ _ (omega arith) _ _ (c .before .few-visit .ensures .1) (not-true _ (c .if1 .taken))
@@ -16,13 +16,13 @@ returns-2 : tie.Need-returns-2
 returns-2 c = ran-spent _ _ _ _ (omega (arith, c .if2 .taken)) _ _ (c .before .before .few-visit .ensures .1) (not-false _ (c .before .if1 .left))
 
 own-visit-requires : tie.Need-own-visit-requires
-own-visit-requires c κs = let v = c .before .before .before .before in (v .before .before .before .pre .0, v .few-visit .ensures .0)
+own-visit-requires c κs = let v = c .before .before .before .before in (v .before .before .before .before .pre .0, v .few-visit .ensures .0)
 
 returns-3 : tie.Need-returns-3
 returns-3 c = c .own-visit .ensures
 
 lent-visit-requires : tie.Need-lent-visit-requires
-lent-visit-requires c κs = let v = c .before .before .before .before .before in (v .before .before .before .pre .0, v .few-visit .ensures .0)
+lent-visit-requires c κs = let v = c .before .before .before .before .before in (v .before .before .before .before .pre .0, v .few-visit .ensures .0)
 
 returns-4 : tie.Need-returns-4
 returns-4 c = c .before .before .lent-visit .ensures

@@ -8,17 +8,18 @@ use mathlib.Core.Option.{Option, none, some}
 use Prim.Native.Nat.{ℕ, suc, _+_, _-_, _^_, _≤_, _<_}
 use lib.Dec.{eqb}
 use lib.ListN.{getD, set, length, drop}
-use Rattle.base.specs.Lists.{In}
+use Rattle.base.specs.Lists.{In, upFrom}
+use Rattle.base.specs.Loops.{through}
 use Rattle.schedule.specs.declared.Recorder.{Recorder}
 use Rattle.schedule.specs.Quantities.{jobs, run, deadline}
 use Rattle.schedule.specs.Listing.{Feasible}
-use Rattle.schedule.specs.Visiting.{Vertex, Visited, startsOf, child, earliest, cutA, floor, planEnergy}
+use Rattle.schedule.specs.Visiting.{Vertex, Visited, startsOf, child, starts, earliest, choices, cutA, floor, planEnergy}
 use Rattle.extras.specs.inside.Tabled.{Tabled, capAt}
 use Rattle.vertex.specs.inside.Shown.{Shows}
 use Rattle.recall.specs.inside.Entries.{Right}
 use Rattle.recall.specs.inside.Counts.{Counts}
 use Rattle.visit.specs.declared.Found.{Found}
-use Rattle.visit.specs.inside.Stops.{Open, visitedBy}
+use Rattle.visit.specs.inside.Stops.{Open, visitBy, visitedBy, entered}
 
 -- ---- the tally
 
@@ -135,6 +136,46 @@ pub record Some (R : Recorder) (budget : ℕ) (tally : List ℕ) (P : ℕ → Ve
   pub state : Visited
   pub holds : P left vertex
   pub tells : Tells R stop budget tally vertex state
+
+-- ---- what the calls leave and answer
+
+-- A memory that is right, and a best of no more energy.
+abbrev pub Leaves : Recorder → List ℕ → List ℕ → List ℕ → List ℕ → Type 0
+Leaves R extras memory l l′ = Lends R extras memory × ((length l′ ≡ 35) × (energyAt l′ ≤ energyAt l))
+
+-- The vertex stands at the time t.
+abbrev pub StandsAt : Recorder → List ℕ → ℕ → ℕ → ℕ → ℕ → Vertex → Type 0
+StandsAt R v set from t m u = Stands R v set from m u × (u .time ≡ t)
+
+-- The call answered x, and left the tally l as l′: from each vertex u that the numbers v show, and whatever the tally tells there, it came to what the visiting order
+-- does at that place.
+module _ (R : Recorder) (budget : ℕ) (v l l′ : List ℕ) (x : Bool) where
+  -- The child that places job j at s, and all below it; and the same child once it is entered.
+  abbrev pub VisitCame : ℕ → ℕ → ℕ → ℕ → ℕ → ℕ → Type 0
+  VisitCame set from cut f j s =
+      (stop : Bool) (m : ℕ) (u : Vertex) (st : Visited) → Tries R v (energyAt l) set from cut f j s m u → Tells R stop budget l u st
+      → Came R stop budget l′ u (visitBy R stop m (child R u j s) st) x
+
+  abbrev pub EnterCame : ℕ → ℕ → ℕ → ℕ → Type 0
+  EnterCame left f j s =
+      (stop : Bool) (m : ℕ) (u : Vertex) (st : Visited) → Enters R v left f j s m u → Tells R stop budget l u st
+      → Came R stop budget l′ u (entered R stop m (child R u j s) st) x
+
+  -- All children; those that place job j; and of these those from `start` on.
+  abbrev pub ChoicesCame : ℕ → ℕ → ℕ → Type 0
+  ChoicesCame set from t =
+      (stop : Bool) (m : ℕ) (u : Vertex) (st : Visited) → Stands R v set from m u → u .time ≡ t → Tells R stop budget l u st
+      → Came R stop budget l′ u (choices R (visitBy R stop m) u st) x
+
+  abbrev pub StartsCame : ℕ → ℕ → ℕ → ℕ → Type 0
+  StartsCame set from t j =
+      (stop : Bool) (m : ℕ) (u : Vertex) (st : Visited) → Stands R v set from m u → u .time ≡ t → Tells R stop budget l u st
+      → Came R stop budget l′ u (through (λ (y : ℕ). visitBy R stop m (child R u j y)) (starts R (u .time) j) st) x
+
+  abbrev pub DropsCame : ℕ → ℕ → ℕ → ℕ → Type 0
+  DropsCame set from j start =
+      (stop : Bool) (m : ℕ) (u : Vertex) (st : Visited) → Stands R v set from m u → earliest R (u .time) j ≤ start → Tells R stop budget l u st
+      → Came R stop budget l′ u (through (λ (y : ℕ). visitBy R stop m (child R u j y)) (upFrom start (suc (deadline R j) - (start + run R j))) st) x
 
 -- ---- the answer
 

@@ -1,6 +1,7 @@
 -- `extras::laying::lay_extras` meets its contract. The loop's invariant: the devices passed are laid.
-use mathlib.Core.Path.{_≡_, subst}
+use mathlib.Core.Path.{_≡_, refl, _∙_, subst}
 use Prim.Native.Nat.{ℕ, _-_, _≤_}
+use lib.ListN.{length}
 use native.Mathlib.Omega.{arith}
 use borrow.Author.Needs.{needs}
 use Rattle.flat.specs.inside.Flat.{recorderOf}
@@ -9,7 +10,7 @@ use Rattle.extras.proofs.laying.lay_extras.Statement.{statement}
 use Rattle.extras.proofs.laying.lay_extras.Tie as tie
 
 abbrev Inv-loop : tie.InvT-loop
-Inv-loop r extras₀ m k₀ extras k = (k ≤ m) × Devices (recorderOf r) k extras
+Inv-loop r extras₀ m k₀ extras k = (k ≤ m) × Devices (recorderOf r) k extras × (length extras ≡ length extras₀)
 
 abbrev μ-loop : tie.MeasureT-loop
 μ-loop r extras₀ m k₀ extras k = m - k
@@ -18,12 +19,12 @@ device-count-requires : tie.Need-device-count-requires Inv-loop μ-loop
 device-count-requires c κs = search needs
 
 loop-holds : tie.Need-loop-holds Inv-loop μ-loop
-loop-holds c = (omega arith, devices-none (c .before .pre .1))
+loop-holds c = (omega arith, devices-none (c .before .before .pre .1), refl)
 
 lay-device-requires : tie.Need-lay-device-requires Inv-loop μ-loop
 lay-device-requires c κs =
     let l = c .before .before in
-    let s = l .before .before in
+    let s = l .before .before .before in
     (s .pre .0, (omega (arith, c .before .loop-test .taken, l .before .device-count .ensures), l .loop .inv .1 .long))
 
 add-k : tie.Need-add-k Inv-loop μ-loop
@@ -33,11 +34,14 @@ loop-less : tie.Need-loop-less Inv-loop μ-loop
 loop-less c = search needs
 
 loop-again : tie.Need-loop-again Inv-loop μ-loop
-loop-again c = (omega arith, devices-next (c .before .before .before .loop .inv .1) (c .lay-device .ensures))
+loop-again c =
+    let w = c .before .before .lay-device .ensures in
+    let l = c .before .before .before .before .before .loop .inv in
+    (omega arith, devices-next (l .1) w, w .long ∙ l .2)
 
 returns : tie.Need-returns Inv-loop μ-loop
 returns c =
-    let s = c .before .before .before in
+    let s = c .before .before .before .before in
     let R = recorderOf (s .args .r .now) in
     let all : c .before .loop .k ≡ R .devices .count = omega (arith, c .before .before .device-count .ensures) in
     devices-all (s .pre .0) (subst (λ (n : ℕ). Devices R n (c .before .loop .extras)) all (c .before .loop .inv .1))
@@ -54,4 +58,5 @@ lay-extras-spec =
     add-k
     loop-less
     loop-again
+    (λ c. c .before .loop .inv .2)
     returns)

@@ -5,7 +5,6 @@ use Prim.Native.Nat.{ℕ, _≤_, _<_, _-_, min}
 use native.Mathlib.Omega.{arith}
 use borrow.Author.Needs.{needs}
 use Rattle.flat.specs.inside.Flat.{recorderOf}
-use Rattle.extras.specs.inside.Tabled.{capAt}
 use Rattle.least.proofs.leads.wait_of.Statement.{statement}
 use Rattle.least.proofs.leads.wait_of.Tie as tie
 
@@ -26,7 +25,7 @@ soon : (s : tie.Start Inv-loop μ-loop) → s .args .time ≤ 4096
 soon s = omega (arith, s .pre .1 .by, s .pre .0 .valid .few-ticks)
 
 loop-holds : tie.Need-loop-holds Inv-loop μ-loop
-loop-holds c = (omega arith, omega (arith, c .device-count .ensures, c .before .before .pre .0 .valid .few-devices), omega (arith, soon (c .before .before)))
+loop-holds c = (omega arith, omega (arith, c .device-count .ensures, c .before .before .before .pre .0 .valid .few-devices), omega (arith, soon (c .before .before .before)))
 
 add-wait-with : tie.Need-add-wait-with Inv-loop μ-loop
 add-wait-with c = omega arith
@@ -52,22 +51,19 @@ mul-wait-with-2 c = omega arith
 element-copy-out-wait-with-2 : tie.Need-element-copy-out-wait-with-2 Inv-loop μ-loop
 element-copy-out-wait-with-2 c = omega arith
 
-add-wait-with-2 : tie.Need-add-wait-with-2 Inv-loop μ-loop
-add-wait-with-2 c = omega arith
-
-mul-wait-with-3 : tie.Need-mul-wait-with-3 Inv-loop μ-loop
-mul-wait-with-3 c = omega arith
-
-element-copy-out-wait-with-3 : tie.Need-element-copy-out-wait-with-3 Inv-loop μ-loop
-element-copy-out-wait-with-3 c = omega arith
+cap-of-requires : tie.Need-cap-of-requires Inv-loop μ-loop
+cap-of-requires c κs =
+    let s = c .before .before .before .before .before in
+    (omega (arith, c .loop-test .taken, c .before .loop .inv), omega (arith, s .pre .0 .long))
 
 wait-with-requires : tie.Need-wait-with-requires Inv-loop μ-loop
-unfolding capAt
 wait-with-requires c κs =
     let l = c .before .before .before .before .before .before in
-    let start = l .before .before .before in
-    let few : l .loop .k < recorderOf (start .args .r .now) .devices .count = omega (arith, c .before .before .before .before .before .loop-test .taken, l .before .device-count .ensures) in
-    (start .pre .0 .cap-most (l .loop .k) few, (omega (arith, start .pre .1 .ends (l .loop .k) few, soon start), l .loop .inv .2))
+    let start = l .before .before .before .before in
+    let few : l .loop .k < recorderOf (start .args .r .now) .devices .count = omega (arith, c .before .before .before .before .before .loop-test .taken, l .before .device-count .ensures) in (
+      omega (arith, c .before .before .before .before .cap-of .ensures, start .pre .0 .cap-most (l .loop .k) few),
+      (omega (arith, start .pre .1 .ends (l .loop .k) few, soon start), l .loop .inv .2),
+    )
 
 add-k : tie.Need-add-k Inv-loop μ-loop
 add-k c = omega arith
@@ -79,10 +75,10 @@ loop-again : tie.Need-loop-again Inv-loop μ-loop
 loop-again c = (omega arith, c .before .before .before .before .before .before .before .loop .inv .1, c .wait-with .ensures)
 
 add-until : tie.Need-add-until Inv-loop μ-loop
-add-until c = omega (arith, soon (c .before .before .before .before .before))
+add-until c = omega (arith, soon (c .before .before .before .before .before .before))
 
 mul-until : tie.Need-mul-until Inv-loop μ-loop
-mul-until c = omega (arith, soon (c .before .before .before .before .before))
+mul-until c = omega (arith, soon (c .before .before .before .before .before .before))
 
 horizon-of-requires : tie.Need-horizon-of-requires Inv-loop μ-loop
 horizon-of-requires c κs = search needs
@@ -94,7 +90,7 @@ sooner-requires : tie.Need-sooner-requires Inv-loop μ-loop
 sooner-requires c κs = search needs
 
 -- With all devices at their caps the next step of 32 ticks is later too.
-after : (c : tie.Joined1 Inv-loop μ-loop) → c .before .before .before .before .before .args .time < c .if1 .until
+after : (c : tie.Joined1 Inv-loop μ-loop) → c .before .before .before .before .before .before .args .time < c .if1 .until
 after c = ⊎-elim (λ x. omega (arith, x .1)) (λ x. omega (arith, x .1, c .before .before .loop .inv .2)) (c .if1 .came)
 
 of-two : (t u h x : ℕ) → x ≡ min u h → t < u → (x ≤ h) × (x < h → t < x)
@@ -114,17 +110,15 @@ wait-of-spec =
     is-round-requires
     device-count-requires
     loop-holds
-    add-wait-with
-    mul-wait-with
-    element-copy-out-wait-with
+    cap-of-requires
     mul-is-unused
     element-copy-out-is-unused
     is-unused-requires
+    mul-wait-with
+    element-copy-out-wait-with
+    add-wait-with
     mul-wait-with-2
     element-copy-out-wait-with-2
-    add-wait-with-2
-    mul-wait-with-3
-    element-copy-out-wait-with-3
     wait-with-requires
     add-k
     loop-less

@@ -26,12 +26,12 @@ job-count-requires c κs = search needs
 
 loop-holds : tie.Need-loop-holds Inv-loop μ-loop
 loop-holds c =
-    let s = c .before .before in
+    let s = c .before .before .before in
     (omega arith, refl, omega arith, s .pre .0, s .pre .1 .0, sought-none _ _ _ _ _ _, refl)
 
 first-start-requires : tie.Need-first-start-requires Inv-loop μ-loop
 first-start-requires c κs =
-    let s = c .before .before .before .before .before .before .before in
+    let s = c .before .before .before .before .before .before .before .before in
     let l = c .before .before .before .before .loop in
     (l .inv .3, (l .inv .4, (s .pre .1 .1 .0, (s .pre .1 .1 .1, (omega (arith, c .before .before .before .loop-test .taken, c .before .before .before .before .before .job-count .ensures), (bit-is _ _ _ (l .inv .2) (c .before .before .if1 .taken), l .inv .1))))))
 
@@ -40,7 +40,7 @@ same-length c = omega arith
 
 returns : tie.Need-returns Inv-loop μ-loop
 returns c =
-    let s = c .before .before .before .before .before .before .before .before .before .before .before in
+    let s = c .before .before .before .before .before .before .before .before .before .before .before .before in
     let R = recorderOf (s .args .r .now) in
     let valid = s .pre .0 .tabled .valid in
     let l = c .before .before .before .before .before .before .before .before .loop in
@@ -50,7 +50,7 @@ returns c =
 mul-p : tie.Need-mul-p Inv-loop μ-loop
 mul-p c =
     let l = c .before .before .loop in
-    omega (arith, l .inv .1, power-next (l .j) (omega (arith, c .before .loop-test .taken, c .before .before .before .job-count .ensures, c .before .before .before .before .before .pre .0 .tabled .valid .few-jobs)))
+    omega (arith, l .inv .1, power-next (l .j) (omega (arith, c .before .loop-test .taken, c .before .before .before .job-count .ensures, c .before .before .before .before .before .before .pre .0 .tabled .valid .few-jobs)))
 
 add-j : tie.Need-add-j Inv-loop μ-loop
 add-j c = omega arith
@@ -60,7 +60,7 @@ loop-less c = omega arith
 
 loop-again : tie.Need-loop-again Inv-loop μ-loop
 loop-again c =
-    let s = c .before .before .before .before .before in
+    let s = c .before .before .before .before .before .before in
     let R = recorderOf (s .args .r .now) in
     let valid = s .pre .0 .tabled .valid in
     let l = c .before .before .loop in
@@ -90,7 +90,7 @@ same-length-2 c = c .before .loop .inv .6
 
 returns-2 : tie.Need-returns-2 Inv-loop μ-loop
 returns-2 c =
-    let s = c .before .before .before .before in
+    let s = c .before .before .before .before .before in
     let R = recorderOf (s .args .r .now) in
     let valid = s .pre .0 .tabled .valid in
     let l = c .before .loop in

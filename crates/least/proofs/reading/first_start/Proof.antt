@@ -23,7 +23,7 @@ abbrev μ-loop : tie.MeasureT-loop
 
 sub-last-of : tie.Need-sub-last-of Inv-loop μ-loop
 sub-last-of c =
-    let s = c .before in
+    let s = c .before .before in
     let R = recorderOf (s .args .r .now) in
     let valid = s .pre .0 .tabled .valid in
     let held = s .pre .1 .1 .0 in
@@ -34,7 +34,7 @@ sub-last-of c =
 
 last-of-requires : tie.Need-last-of-requires Inv-loop μ-loop
 last-of-requires c κs =
-    let s = c .before in
+    let s = c .before .before in
     let R = recorderOf (s .args .r .now) in
     let valid = s .pre .0 .tabled .valid in
     let held = s .pre .1 .1 .0 in
@@ -45,7 +45,7 @@ last-of-requires c κs =
 
 release-of-requires : tie.Need-release-of-requires Inv-loop μ-loop
 release-of-requires c κs =
-    let s = c .before .before in
+    let s = c .before .before .before in
     let R = recorderOf (s .args .r .now) in
     let valid = s .pre .0 .tabled .valid in
     let held = s .pre .1 .1 .0 in
@@ -62,12 +62,12 @@ later-requires c κs = search needs
 
 loop-holds : tie.Need-loop-holds Inv-loop μ-loop
 loop-holds c =
-    let s = c .before .before .before .before .before in
+    let s = c .before .before .before .before .before .before in
     (s .pre .0, s .pre .1 .0, passed-none _ _ _ _ _ _ _ _, refl)
 
 lead-of-requires : tie.Need-lead-of-requires Inv-loop μ-loop
 lead-of-requires c κs =
-    let s = c .before .before .before .before .before .before .before in
+    let s = c .before .before .before .before .before .before .before .before in
     let R = recorderOf (s .args .r .now) in
     let valid = s .pre .0 .tabled .valid in
     let held = s .pre .1 .1 .0 in
@@ -82,7 +82,7 @@ lead-of-requires c κs =
 
 hits-requires : tie.Need-hits-requires Inv-loop μ-loop
 hits-requires c κs =
-    let s = c .before .before .before .before .before .before .before .before .before .before in
+    let s = c .before .before .before .before .before .before .before .before .before .before .before in
     let R = recorderOf (s .args .r .now) in
     let valid = s .pre .0 .tabled .valid in
     let held = s .pre .1 .1 .0 in
@@ -100,7 +100,7 @@ same-length c = omega arith
 
 returns : tie.Need-returns Inv-loop μ-loop
 returns c =
-    let s = c .before .before .before .before .before .before .before .before .before .before .before .before .before .before in
+    let s = c .before .before .before .before .before .before .before .before .before .before .before .before .before .before .before in
     let R = recorderOf (s .args .r .now) in
     let valid = s .pre .0 .tabled .valid in
     let held = s .pre .1 .1 .0 in
@@ -119,7 +119,7 @@ same-length-2 c = omega arith
 
 returns-2 : tie.Need-returns-2 Inv-loop μ-loop
 returns-2 c =
-    let s = c .before .before .before .before .before .before .before .before .before .before .before .before .before .before .before in
+    let s = c .before .before .before .before .before .before .before .before .before .before .before .before .before .before .before .before in
     let R = recorderOf (s .args .r .now) in
     let valid = s .pre .0 .tabled .valid in
     let held = s .pre .1 .1 .0 in
@@ -141,7 +141,7 @@ loop-less c = omega arith
 
 loop-again : tie.Need-loop-again Inv-loop μ-loop
 loop-again c =
-    let s = c .before .before .before .before .before .before .before .before .before .before .before .before .before .before .before in
+    let s = c .before .before .before .before .before .before .before .before .before .before .before .before .before .before .before .before in
     let R = recorderOf (s .args .r .now) in
     let valid = s .pre .0 .tabled .valid in
     let held = s .pre .1 .1 .0 in
@@ -160,7 +160,7 @@ same-length-3 c = c .before .loop .inv .3
 
 returns-3 : tie.Need-returns-3 Inv-loop μ-loop
 returns-3 c =
-    let s = c .before .before .before .before .before .before .before in
+    let s = c .before .before .before .before .before .before .before .before in
     let R = recorderOf (s .args .r .now) in
     let valid = s .pre .0 .tabled .valid in
     let held = s .pre .1 .1 .0 in

@@ -8,15 +8,15 @@ use Rattle.least.proofs.reading.hits.Tie as tie
 
 returns : tie.Need-returns
 returns c =
-    let s = c .before .before in
+    let s = c .before .before .before in
     ((s .pre .0, s .pre .1 .0), λ m u h q e. told (omega arith) (omega arith) (hit-far _ _ _ _ e (c .if1 .taken)))
 
 add-enter : tie.Need-add-enter
-add-enter c = omega (arith, c .before .before .before .before .pre .1 .1 .1 .1)
+add-enter c = omega (arith, c .before .before .before .before .before .pre .1 .1 .1 .1)
 
 enter-requires : tie.Need-enter-requires
 enter-requires c κs =
-    let s = c .before .before .before .before in
+    let s = c .before .before .before .before .before in
     (s .pre .0, (s .pre .1 .0, (s .pre .1 .1 .0, (s .pre .1 .1 .1 .0, omega (arith, s .pre .1 .1 .1 .1)))))
 
 same-length : tie.Need-same-length
@@ -29,7 +29,7 @@ returns-2 c =
 
 add-if3 : tie.Need-add-if3
 add-if3 c =
-    let s = c .before .before .before .before .before .before .before .before in
+    let s = c .before .before .before .before .before .before .before .before .before in
     let o = s .pre .1 .1 .0 in
     omega (arith, s .pre .1 .1 .1 .1, c .before .before .before .before .before .before .if1 .left, came-small (c .before .before .before .enter .ensures .1 (o .left) (o .vertex) (o .shows) (omega (arith, o .early))) (c .if2 .left))
 

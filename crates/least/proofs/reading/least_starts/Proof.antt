@@ -13,17 +13,17 @@ use Rattle.least.proofs.reading.least_starts.Statement.{statement}
 use Rattle.least.proofs.reading.least_starts.Tie as tie
 
 root-of-requires : tie.Need-root-of-requires
-root-of-requires c κs = c .before .pre .0 .tabled .valid
+root-of-requires c κs = c .before .before .pre .0 .tabled .valid
 
 power-requires : tie.Need-power-requires
-power-requires c κs = omega (arith, c .job-count .ensures, c .before .before .before .pre .0 .tabled .valid .few-jobs)
+power-requires c κs = omega (arith, c .job-count .ensures, c .before .before .before .before .pre .0 .tabled .valid .few-jobs)
 
 sub-all : tie.Need-sub-all
 sub-all c = omega (arith, c .power .ensures, pow-pos (c .before .job-count .result))
 
 least-requires : tie.Need-least-requires
 least-requires c κs =
-    let s = c .before .before .before .before .before .before .before .before in
+    let s = c .before .before .before .before .before .before .before .before .before in
     let R = recorderOf (s .args .r .now) in
     let valid = s .pre .0 .tabled .valid in
     let shows = c .before .before .before .before .before .before .root-of .ensures in
@@ -35,7 +35,7 @@ same-length c = omega arith
 
 returns : tie.Need-returns
 returns c =
-    let s = c .before .before .before .before .before .before .before .before .before .before .before .before in
+    let s = c .before .before .before .before .before .before .before .before .before .before .before .before .before in
     let R = recorderOf (s .args .r .now) in
     let valid = s .pre .0 .tabled .valid in
     let shows = c .before .before .before .before .before .before .before .before .before .before .root-of .ensures in
@@ -44,7 +44,7 @@ returns c =
 
 read-off-requires : tie.Need-read-off-requires
 read-off-requires c κs =
-    let s = c .before .before .before .before .before .before .before .before .before .before .before .before .before .before .before .before in
+    let s = c .before .before .before .before .before .before .before .before .before .before .before .before .before .before .before .before .before in
     let R = recorderOf (s .args .r .now) in
     let valid = s .pre .0 .tabled .valid in
     let shows = c .before .before .before .before .before .before .before .before .before .before .before .before .before .before .root-of .ensures in

@@ -15,14 +15,8 @@ abbrev μ-loop : tie.MeasureT-loop
 loop-holds : tie.Need-loop-holds Inv-loop μ-loop
 loop-holds c = omega arith
 
-add-later : tie.Need-add-later Inv-loop μ-loop
-add-later c = omega arith
-
-mul-later : tie.Need-mul-later Inv-loop μ-loop
-mul-later c = omega arith
-
-element-copy-out-later : tie.Need-element-copy-out-later Inv-loop μ-loop
-element-copy-out-later c = omega arith
+rise-of-requires : tie.Need-rise-of-requires Inv-loop μ-loop
+rise-of-requires c κs = (c .loop-test .taken, c .before .before .before .pre)
 
 later-requires : tie.Need-later-requires Inv-loop μ-loop
 later-requires c κs = search needs
@@ -49,9 +43,7 @@ lift-of-spec =
     Inv-loop
     μ-loop
     loop-holds
-    add-later
-    mul-later
-    element-copy-out-later
+    rise-of-requires
     later-requires
     add-k
     loop-less

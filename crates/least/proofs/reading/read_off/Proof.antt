@@ -22,12 +22,12 @@ abbrev μ-loop : tie.MeasureT-loop
 
 loop-holds : tie.Need-loop-holds Inv-loop μ-loop
 loop-holds c =
-    let s = c .before .before in
+    let s = c .before .before .before in
     (s .pre .0, s .pre .1 .0, s .pre .1 .1, refl)
 
 first-child-requires : tie.Need-first-child-requires Inv-loop μ-loop
 first-child-requires c κs =
-    let s = c .before .before .before .before .before .before .before in
+    let s = c .before .before .before .before .before .before .before .before in
     let l = c .before .before .before .before .loop in
     (l .inv .0, (l .inv .1, (reads-held _ _ _ _ _ _ _ (l .inv .2), reads-small _ _ _ _ _ _ _ (l .inv .2) _ (s .pre .0 .tabled))))
 
@@ -42,7 +42,7 @@ returns c =
 
 lead-of-requires : tie.Need-lead-of-requires Inv-loop μ-loop
 lead-of-requires c κs =
-    let s = c .before .before .before .before .before .before .before .before .before .before .before .before in
+    let s = c .before .before .before .before .before .before .before .before .before .before .before .before .before in
     let R = recorderOf (s .args .r .now) in
     let valid = s .pre .0 .tabled .valid in
     let l = c .before .before .before .before .before .before .before .before .before .loop in
@@ -55,7 +55,7 @@ lead-of-requires c κs =
 
 sub-goal : tie.Need-sub-goal Inv-loop μ-loop
 sub-goal c =
-    let s = c .before .before .before .before .before .before .before .before .before .before .before .before .before in
+    let s = c .before .before .before .before .before .before .before .before .before .before .before .before .before .before in
     let R = recorderOf (s .args .r .now) in
     let valid = s .pre .0 .tabled .valid in
     let l = c .before .before .before .before .before .before .before .before .before .before .loop in
@@ -71,7 +71,7 @@ cast-starts c = search needs
 
 mul-starts : tie.Need-mul-starts Inv-loop μ-loop
 mul-starts c =
-    let s = c .before .before .before .before .before .before .before .before .before .before .before .before .before in
+    let s = c .before .before .before .before .before .before .before .before .before .before .before .before .before .before in
     let R = recorderOf (s .args .r .now) in
     let valid = s .pre .0 .tabled .valid in
     let l = c .before .before .before .before .before .before .before .before .before .before .loop in
@@ -84,7 +84,7 @@ mul-starts c =
 
 element-write-starts : tie.Need-element-write-starts Inv-loop μ-loop
 element-write-starts c =
-    let s = c .before .before .before .before .before .before .before .before .before .before .before .before .before in
+    let s = c .before .before .before .before .before .before .before .before .before .before .before .before .before .before in
     let R = recorderOf (s .args .r .now) in
     let valid = s .pre .0 .tabled .valid in
     let l = c .before .before .before .before .before .before .before .before .before .before .loop in
@@ -97,7 +97,7 @@ element-write-starts c =
 
 place-requires : tie.Need-place-requires Inv-loop μ-loop
 place-requires c κs =
-    let s = c .before .before .before .before .before .before .before .before .before .before .before .before .before .before in
+    let s = c .before .before .before .before .before .before .before .before .before .before .before .before .before .before .before in
     let R = recorderOf (s .args .r .now) in
     let valid = s .pre .0 .tabled .valid in
     let l = c .before .before .before .before .before .before .before .before .before .before .before .loop in
@@ -110,7 +110,7 @@ place-requires c κs =
 
 run-of-requires : tie.Need-run-of-requires Inv-loop μ-loop
 run-of-requires c κs =
-    let s = c .before .before .before .before .before .before .before .before .before .before .before .before .before .before .before in
+    let s = c .before .before .before .before .before .before .before .before .before .before .before .before .before .before .before .before in
     let R = recorderOf (s .args .r .now) in
     let valid = s .pre .0 .tabled .valid in
     let l = c .before .before .before .before .before .before .before .before .before .before .before .before .loop in
@@ -126,7 +126,7 @@ wide-requires c κs = search needs
 
 add-time : tie.Need-add-time Inv-loop μ-loop
 add-time c =
-    let s = c .before .before .before .before .before .before .before .before .before .before .before .before .before .before .before .before .before in
+    let s = c .before .before .before .before .before .before .before .before .before .before .before .before .before .before .before .before .before .before in
     let R = recorderOf (s .args .r .now) in
     let valid = s .pre .0 .tabled .valid in
     let l = c .before .before .before .before .before .before .before .before .before .before .before .before .before .before .loop in
@@ -139,7 +139,7 @@ add-time c =
 
 power-requires : tie.Need-power-requires Inv-loop μ-loop
 power-requires c κs =
-    let s = c .before .before .before .before .before .before .before .before .before .before .before .before .before .before .before .before .before in
+    let s = c .before .before .before .before .before .before .before .before .before .before .before .before .before .before .before .before .before .before in
     let R = recorderOf (s .args .r .now) in
     let valid = s .pre .0 .tabled .valid in
     let l = c .before .before .before .before .before .before .before .before .before .before .before .before .before .before .loop in
@@ -152,7 +152,7 @@ power-requires c κs =
 
 sub-set : tie.Need-sub-set Inv-loop μ-loop
 sub-set c =
-    let s = c .before .before .before .before .before .before .before .before .before .before .before .before .before .before .before .before .before .before in
+    let s = c .before .before .before .before .before .before .before .before .before .before .before .before .before .before .before .before .before .before .before in
     let R = recorderOf (s .args .r .now) in
     let valid = s .pre .0 .tabled .valid in
     let l = c .before .before .before .before .before .before .before .before .before .before .before .before .before .before .before .loop in
@@ -165,7 +165,7 @@ sub-set c =
 
 loop-less : tie.Need-loop-less Inv-loop μ-loop
 loop-less c =
-    let s = c .before .before .before .before .before .before .before .before .before .before .before .before .before .before .before .before .before .before in
+    let s = c .before .before .before .before .before .before .before .before .before .before .before .before .before .before .before .before .before .before .before in
     let R = recorderOf (s .args .r .now) in
     let valid = s .pre .0 .tabled .valid in
     let l = c .before .before .before .before .before .before .before .before .before .before .before .before .before .before .before .loop in
@@ -179,7 +179,7 @@ loop-less c =
 
 loop-again : tie.Need-loop-again Inv-loop μ-loop
 loop-again c =
-    let s = c .before .before .before .before .before .before .before .before .before .before .before .before .before .before .before .before .before .before in
+    let s = c .before .before .before .before .before .before .before .before .before .before .before .before .before .before .before .before .before .before .before in
     let R = recorderOf (s .args .r .now) in
     let valid = s .pre .0 .tabled .valid in
     let l = c .before .before .before .before .before .before .before .before .before .before .before .before .before .before .before .loop in

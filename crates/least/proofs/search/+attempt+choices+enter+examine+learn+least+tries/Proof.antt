@@ -55,7 +55,7 @@ use Rattle.flat.proofs.release_of.Reads as release-of-reads
 use Rattle.flat.proofs.run_of.Reads as run-of-reads
 use Rattle.vertex.proofs.cells.place.Reads as place-reads
 use Rattle.vertex.proofs.gaps.close_of.Reads as close-of-reads
-use Rattle.least.proofs.leads.fall_of.Reads as fall-of-reads
+use Rattle.least.proofs.leads.falls_of.Reads as falls-of-reads
 use Rattle.vertex.proofs.gaps.lead_of.Reads as lead-of-reads
 use Rattle.least.proofs.leads.wait_of.Reads as wait-of-reads
 use Rattle.least.proofs.memory.look.Reads as look-reads
@@ -150,7 +150,7 @@ abbrev least-calls : ℕ → least-lts.Claims
 least-calls t = (close-of-reads.Asked, close-of-reads.Learnt, key-of-reads.Asked, key-of-reads.Learnt, look-reads.Asked, look-reads.Learnt, is-enough-reads.Asked, is-enough-reads.Learnt, learn-below t, learn.Post)
 
 abbrev tries-calls : ℕ → tries-lts.Claims
-tries-calls t = (last-of-reads.Asked, last-of-reads.Learnt, sooner-reads.Asked, sooner-reads.Learnt, fall-of-reads.Asked, fall-of-reads.Learnt, release-of-reads.Asked, release-of-reads.Learnt, wide-reads.Asked, wide-reads.Learnt, later-reads.Asked, later-reads.Learnt, lead-of-reads.Asked, lead-of-reads.Learnt, attempt-below t, attempt.Post, lessened-reads.Asked, lessened-reads.Learnt)
+tries-calls t = (last-of-reads.Asked, last-of-reads.Learnt, sooner-reads.Asked, sooner-reads.Learnt, falls-of-reads.Asked, falls-of-reads.Learnt, release-of-reads.Asked, release-of-reads.Learnt, wide-reads.Asked, wide-reads.Learnt, later-reads.Asked, later-reads.Learnt, lead-of-reads.Asked, lead-of-reads.Learnt, attempt-below t, attempt.Post, lessened-reads.Asked, lessened-reads.Learnt)
 
 -- ---- attempt
 
@@ -159,7 +159,7 @@ attempt-add-if1 t c = omega arith
 
 attempt-returns : (t : ℕ) → attempt-lts.Need-returns (attempt-calls t) (attempt-at t) attempt.Post
 attempt-returns t c =
-    let s = c .before .before in
+    let s = c .before .before .before in
     ((s .pre .1 .0, s .pre .1 .1 .0), λ m u h q. told (s .pre .1 .1 .1 .1 .1 .1 .1) (omega arith) (passed (c .if1 .taken)))
 
 attempt-sub-enter : (t : ℕ) → attempt-lts.Need-sub-enter (attempt-calls t) (attempt-at t) attempt.Post
@@ -167,7 +167,7 @@ attempt-sub-enter t c = omega arith
 
 attempt-enter-requires : (t : ℕ) → attempt-lts.Need-enter-requires (attempt-calls t) (attempt-at t) attempt.Post
 attempt-enter-requires t c κs =
-    let s = c .before .before .before .before in
+    let s = c .before .before .before .before .before in
     (omega arith, (s .pre .1 .0, (s .pre .1 .1 .0, (s .pre .1 .1 .1 .0, (s .pre .1 .1 .1 .1 .0, omega arith)))))
 
 attempt-same-length : (t : ℕ) → attempt-lts.Need-same-length (attempt-calls t) (attempt-at t) attempt.Post
@@ -186,7 +186,7 @@ attempt-same-length-2 t c = omega arith
 
 attempt-returns-3 : (t : ℕ) → attempt-lts.Need-returns-3 (attempt-calls t) (attempt-at t) attempt.Post
 attempt-returns-3 t c =
-    let s = c .before .before .before .before .before .before .before .before .before in
+    let s = c .before .before .before .before .before .before .before .before .before .before in
     let e = c .before .before .before .before .enter in (
       e .ensures .0,
       λ m u h q. came-go _ _ _ (omega arith) (e .ensures .1 m u h q) (c .before .if2 .left)
@@ -207,12 +207,12 @@ choices-job-count-requires t c κs = search needs
 
 choices-loop-holds : (t : ℕ) → choices-lts.Need-loop-holds (choices-calls t) (choices-at t) choices.Post choices-Inv-loop choices-μ-loop
 choices-loop-holds t c =
-    let s = c .before .before in
+    let s = c .before .before .before in
     (omega arith, refl, omega arith, s .pre .1 .0, s .pre .1 .1 .0, chosen-none _ _ _ _ _ _ _ _ (s .pre .1 .1 .1 .1 .0), refl)
 
 choices-tries-requires : (t : ℕ) → choices-lts.Need-tries-requires (choices-calls t) (choices-at t) choices.Post choices-Inv-loop choices-μ-loop
 choices-tries-requires t c κs =
-    let s = c .before .before .before .before .before .before .before in
+    let s = c .before .before .before .before .before .before .before .before in
     let l = c .before .before .before .before .loop in
     (omega arith, (l .inv .3, (l .inv .4, (s .pre .1 .1 .1 .0, (s .pre .1 .1 .1 .1 .0, (l .inv .5 .small, (omega (arith, c .before .before .before .loop-test .taken, c .before .before .before .before .before .job-count .ensures), (bit-is _ _ _ (l .inv .2) (c .before .before .if1 .taken), l .inv .1))))))))
 
@@ -221,7 +221,7 @@ choices-same-length t c = omega arith
 
 choices-returns : (t : ℕ) → choices-lts.Need-returns (choices-calls t) (choices-at t) choices.Post choices-Inv-loop choices-μ-loop
 choices-returns t c =
-    let s = c .before .before .before .before .before .before .before .before .before .before .before in
+    let s = c .before .before .before .before .before .before .before .before .before .before .before .before in
     let R = recorderOf (s .args .r .now) in
     let valid = s .pre .1 .0 .tabled .valid in
     let l = c .before .before .before .before .before .before .before .before .loop in
@@ -231,7 +231,7 @@ choices-returns t c =
 choices-mul-p : (t : ℕ) → choices-lts.Need-mul-p (choices-calls t) (choices-at t) choices.Post choices-Inv-loop choices-μ-loop
 choices-mul-p t c =
     let l = c .before .before .loop in
-    omega (arith, l .inv .1, power-next (l .j) (omega (arith, c .before .loop-test .taken, c .before .before .before .job-count .ensures, c .before .before .before .before .before .pre .1 .0 .tabled .valid .few-jobs)))
+    omega (arith, l .inv .1, power-next (l .j) (omega (arith, c .before .loop-test .taken, c .before .before .before .job-count .ensures, c .before .before .before .before .before .before .pre .1 .0 .tabled .valid .few-jobs)))
 
 choices-add-j : (t : ℕ) → choices-lts.Need-add-j (choices-calls t) (choices-at t) choices.Post choices-Inv-loop choices-μ-loop
 choices-add-j t c = omega arith
@@ -241,7 +241,7 @@ choices-loop-less t c = omega arith
 
 choices-loop-again : (t : ℕ) → choices-lts.Need-loop-again (choices-calls t) (choices-at t) choices.Post choices-Inv-loop choices-μ-loop
 choices-loop-again t c =
-    let s = c .before .before .before .before .before in
+    let s = c .before .before .before .before .before .before in
     let R = recorderOf (s .args .r .now) in
     let valid = s .pre .1 .0 .tabled .valid in
     let l = c .before .before .loop in
@@ -272,7 +272,7 @@ choices-same-length-2 t c = c .before .loop .inv .6
 
 choices-returns-2 : (t : ℕ) → choices-lts.Need-returns-2 (choices-calls t) (choices-at t) choices.Post choices-Inv-loop choices-μ-loop
 choices-returns-2 t c =
-    let s = c .before .before .before .before in
+    let s = c .before .before .before .before .before in
     let R = recorderOf (s .args .r .now) in
     let valid = s .pre .1 .0 .tabled .valid in
     let l = c .before .loop in
@@ -282,7 +282,7 @@ choices-returns-2 t c =
 
 enter-place-requires : (t : ℕ) → enter-lts.Need-place-requires (enter-calls t) (enter-at t) enter.Post
 enter-place-requires t c κs =
-    let s = c .before .before .before in
+    let s = c .before .before .before .before in
     let R = recorderOf (s .args .r .now) in
     let valid = s .pre .1 .0 .tabled .valid in
     let o = s .pre .1 .1 .1 .0 in
@@ -290,7 +290,7 @@ enter-place-requires t c κs =
 
 enter-run-of-requires : (t : ℕ) → enter-lts.Need-run-of-requires (enter-calls t) (enter-at t) enter.Post
 enter-run-of-requires t c κs =
-    let s = c .before .before .before .before in
+    let s = c .before .before .before .before .before in
     let R = recorderOf (s .args .r .now) in
     let valid = s .pre .1 .0 .tabled .valid in
     let o = s .pre .1 .1 .1 .0 in
@@ -301,7 +301,7 @@ enter-wide-requires t c κs = search needs
 
 enter-add-end : (t : ℕ) → enter-lts.Need-add-end (enter-calls t) (enter-at t) enter.Post
 enter-add-end t c =
-    let s = c .before .before .before .before .before .before in
+    let s = c .before .before .before .before .before .before .before in
     let R = recorderOf (s .args .r .now) in
     let valid = s .pre .1 .0 .tabled .valid in
     let o = s .pre .1 .1 .1 .0 in
@@ -309,7 +309,7 @@ enter-add-end t c =
 
 enter-sub-least : (t : ℕ) → enter-lts.Need-sub-least (enter-calls t) (enter-at t) enter.Post
 enter-sub-least t c =
-    let s = c .before .before .before .before .before .before .before .before .before in
+    let s = c .before .before .before .before .before .before .before .before .before .before in
     let R = recorderOf (s .args .r .now) in
     let valid = s .pre .1 .0 .tabled .valid in
     let o = s .pre .1 .1 .1 .0 in
@@ -317,7 +317,7 @@ enter-sub-least t c =
 
 enter-least-requires : (t : ℕ) → enter-lts.Need-least-requires (enter-calls t) (enter-at t) enter.Post
 enter-least-requires t c κs =
-    let s = c .before .before .before .before .before .before .before .before .before in
+    let s = c .before .before .before .before .before .before .before .before .before .before in
     let R = recorderOf (s .args .r .now) in
     let valid = s .pre .1 .0 .tabled .valid in
     let o = s .pre .1 .1 .1 .0 in
@@ -330,7 +330,7 @@ enter-same-length t c = omega arith
 
 enter-returns : (t : ℕ) → enter-lts.Need-returns (enter-calls t) (enter-at t) enter.Post
 enter-returns t c =
-    let s = c .before .before .before .before .before .before .before .before .before .before .before .before in
+    let s = c .before .before .before .before .before .before .before .before .before .before .before .before .before in
     let R = recorderOf (s .args .r .now) in
     let valid = s .pre .1 .0 .tabled .valid in
     let o = s .pre .1 .1 .1 .0 in
@@ -343,20 +343,20 @@ enter-returns t c =
 
 examine-wait-of-requires : (t : ℕ) → examine-lts.Need-wait-of-requires (examine-calls t) (examine-at t) examine.Post
 examine-wait-of-requires t c κs =
-    let s = c .before in
+    let s = c .before .before in
     let R = recorderOf (s .args .r .now) in
     let valid = s .pre .1 .0 .tabled .valid in
     (s .pre .1 .0 .tabled, held-ordered R valid _ _ _ (s .pre .1 .1 .1 .0))
 
 examine-choices-requires : (t : ℕ) → examine-lts.Need-choices-requires (examine-calls t) (examine-at t) examine.Post
-examine-choices-requires t c κs = (omega arith, c .before .before .before .before .pre .1)
+examine-choices-requires t c κs = (omega arith, c .before .before .before .before .before .pre .1)
 
 examine-same-length : (t : ℕ) → examine-lts.Need-same-length (examine-calls t) (examine-at t) examine.Post
 examine-same-length t c = omega arith
 
 examine-returns : (t : ℕ) → examine-lts.Need-returns (examine-calls t) (examine-at t) examine.Post
 examine-returns t c =
-    let s = c .before .before .before .before .before .before .before .before in
+    let s = c .before .before .before .before .before .before .before .before .before in
     let R = recorderOf (s .args .r .now) in
     let valid = s .pre .1 .0 .tabled .valid in
     let held = s .pre .1 .1 .1 .0 in
@@ -367,14 +367,14 @@ examine-returns t c =
 
 examine-mul-last : (t : ℕ) → examine-lts.Need-mul-last (examine-calls t) (examine-at t) examine.Post
 examine-mul-last t c =
-    let s = c .before .before .before .before .before .before .before .before in
+    let s = c .before .before .before .before .before .before .before .before .before in
     let R = recorderOf (s .args .r .now) in
     let valid = s .pre .1 .0 .tabled .valid in
     omega (arith, held-few R valid (s .args .v .now) (s .args .set) (s .args .time) (s .pre .1 .1 .1 .0) .1)
 
 examine-element-copy-out-last : (t : ℕ) → examine-lts.Need-element-copy-out-last (examine-calls t) (examine-at t) examine.Post
 examine-element-copy-out-last t c =
-    let s = c .before .before .before .before .before .before .before .before in
+    let s = c .before .before .before .before .before .before .before .before .before in
     let R = recorderOf (s .args .r .now) in
     let valid = s .pre .1 .0 .tabled .valid in
     omega (arith, held-few R valid (s .args .v .now) (s .args .set) (s .args .time) (s .pre .1 .1 .1 .0) .1)
@@ -387,7 +387,7 @@ examine-same-length-2 t c = omega arith
 
 examine-returns-2 : (t : ℕ) → examine-lts.Need-returns-2 (examine-calls t) (examine-at t) examine.Post
 examine-returns-2 t c =
-    let s = c .before .before .before .before .before .before .before .before .before .before .before in
+    let s = c .before .before .before .before .before .before .before .before .before .before .before .before in
     let R = recorderOf (s .args .r .now) in
     let valid = s .pre .1 .0 .tabled .valid in
     let held = s .pre .1 .1 .1 .0 in
@@ -402,7 +402,7 @@ examine-sooner-requires t c κs = search needs
 
 examine-least-requires : (t : ℕ) → examine-lts.Need-least-requires (examine-calls t) (examine-at t) examine.Post
 examine-least-requires t c κs =
-    let s = c .before .before .before .before .before .before .before .before .before .before .before .before .before .before in
+    let s = c .before .before .before .before .before .before .before .before .before .before .before .before .before .before .before in
     let R = recorderOf (s .args .r .now) in
     let valid = s .pre .1 .0 .tabled .valid in
     let held = s .pre .1 .1 .1 .0 in
@@ -419,7 +419,7 @@ examine-same-length-3 t c = omega arith
 
 examine-returns-3 : (t : ℕ) → examine-lts.Need-returns-3 (examine-calls t) (examine-at t) examine.Post
 examine-returns-3 t c =
-    let s = c .before .before .before .before .before .before .before .before .before .before .before .before .before .before .before .before .before .before in
+    let s = c .before .before .before .before .before .before .before .before .before .before .before .before .before .before .before .before .before .before .before in
     let R = recorderOf (s .args .r .now) in
     let valid = s .pre .1 .0 .tabled .valid in
     let held = s .pre .1 .1 .1 .0 in
@@ -440,7 +440,7 @@ examine-same-length-4 t c = omega arith
 
 examine-returns-4 : (t : ℕ) → examine-lts.Need-returns-4 (examine-calls t) (examine-at t) examine.Post
 examine-returns-4 t c =
-    let s = c .before .before .before .before .before .before .before .before .before .before .before .before .before .before .before .before .before .before .before in
+    let s = c .before .before .before .before .before .before .before .before .before .before .before .before .before .before .before .before .before .before .before .before in
     let R = recorderOf (s .args .r .now) in
     let valid = s .pre .1 .0 .tabled .valid in
     let held = s .pre .1 .1 .1 .0 in
@@ -457,7 +457,7 @@ examine-returns-4 t c =
 
 learn-returns : (t : ℕ) → learn-lts.Need-returns (learn-calls t) (learn-at t) learn.Post
 learn-returns t c =
-    let s = c .before .before .before in
+    let s = c .before .before .before .before in
     ((s .pre .1 .0, s .pre .1 .1 .0), λ m u h q. stopped refl (omega (arith, most-own (recorderOf (s .args .r .now)) m (s .args .time), c .if1 .taken)))
 
 learn-add-entered : (t : ℕ) → learn-lts.Need-add-entered (learn-calls t) (learn-at t) learn.Post
@@ -468,7 +468,7 @@ learn-raised-requires t c κs = search needs
 
 learn-examine-requires : (t : ℕ) → learn-lts.Need-examine-requires (learn-calls t) (learn-at t) learn.Post
 learn-examine-requires t c κs =
-    let s = c .before .before .before .before .before .before in
+    let s = c .before .before .before .before .before .before .before in
     (omega arith, (s .pre .1 .0, (omega (arith, s .pre .1 .1 .0, c .before .before .before .if1 .left), (s .pre .1 .1 .1 .0, (c .before .before .raised .ensures .1, s .pre .1 .1 .1 .1 .1 .0)))))
 
 learn-same-length : (t : ℕ) → learn-lts.Need-same-length (learn-calls t) (learn-at t) learn.Post
@@ -476,7 +476,7 @@ learn-same-length t c = omega arith
 
 learn-returns-2 : (t : ℕ) → learn-lts.Need-returns-2 (learn-calls t) (learn-at t) learn.Post
 learn-returns-2 t c =
-    let s = c .before .before .before .before .before .before .before .before .before .before in
+    let s = c .before .before .before .before .before .before .before .before .before .before .before in
     let e = c .before .before .before .examine in
     (e .ensures .0, λ m u h q. came-stop _ _ (omega (arith, most-own (recorderOf (s .args .r .now)) m (s .args .time))) (came-from (s .args .entered .now) 1 (omega arith) (e .ensures .1 m u h q)) (c .if2 .taken))
 
@@ -488,7 +488,7 @@ learn-lessened-requires t c κs = search needs
 
 learn-remember-requires : (t : ℕ) → learn-lts.Need-remember-requires (learn-calls t) (learn-at t) learn.Post
 learn-remember-requires t c κs =
-    let s = c .before .before .before .before .before .before .before .before .before .before .before .before .before .before in
+    let s = c .before .before .before .before .before .before .before .before .before .before .before .before .before .before .before in
     let R = recorderOf (s .args .r .now) in
     let valid = s .pre .1 .0 .tabled .valid in
     let held = s .pre .1 .1 .1 .0 in
@@ -505,7 +505,7 @@ learn-same-length-2 t c = omega arith
 
 learn-returns-3 : (t : ℕ) → learn-lts.Need-returns-3 (learn-calls t) (learn-at t) learn.Post
 learn-returns-3 t c =
-    let s = c .before .before .before .before .before .before .before .before .before .before .before .before .before .before .before .before .before in
+    let s = c .before .before .before .before .before .before .before .before .before .before .before .before .before .before .before .before .before .before in
     let R = recorderOf (s .args .r .now) in
     let valid = s .pre .1 .0 .tabled .valid in
     let held = s .pre .1 .1 .1 .0 in
@@ -527,7 +527,7 @@ learn-returns-3 t c =
 
 least-close-of-requires : (t : ℕ) → least-lts.Need-close-of-requires (least-calls t) (least-at t) least.Post
 least-close-of-requires t c κs =
-    let s = c .before .before in
+    let s = c .before .before .before in
     let R = recorderOf (s .args .r .now) in
     let valid = s .pre .1 .0 .tabled .valid in
     let held = s .pre .1 .1 .1 .0 in
@@ -535,14 +535,14 @@ least-close-of-requires t c κs =
 
 least-returns : (t : ℕ) → least-lts.Need-returns (least-calls t) (least-at t) least.Post
 least-returns t c =
-    let s = c .before .before .before in
+    let s = c .before .before .before .before in
     let R = recorderOf (s .args .r .now) in
     let valid = s .pre .1 .0 .tabled .valid in
     ((s .pre .1 .0, s .pre .1 .1 .0), λ m u h q. told (omega (arith, c .close-of .ensures .1)) (omega arith) (complete-answers R valid _ _ m u h (c .before .if1 .taken) _ _ (c .close-of .ensures .0)))
 
 least-key-of-requires : (t : ℕ) → least-lts.Need-key-of-requires (least-calls t) (least-at t) least.Post
 least-key-of-requires t c κs =
-    let s = c .before .before in
+    let s = c .before .before .before in
     let R = recorderOf (s .args .r .now) in
     let valid = s .pre .1 .0 .tabled .valid in
     let held = s .pre .1 .1 .1 .0 in
@@ -559,7 +559,7 @@ least-same-length t c = omega arith
 
 least-returns-2 : (t : ℕ) → least-lts.Need-returns-2 (least-calls t) (least-at t) least.Post
 least-returns-2 t c =
-    let s = c .before .before .before .before .before .before .before .before in
+    let s = c .before .before .before .before .before .before .before .before .before in
     let R = recorderOf (s .args .r .now) in
     let valid = s .pre .1 .0 .tabled .valid in
     let looked = subst (λ (k : Key). Looked (s .args .memory .now) k (c .before .before .before .look .result)) (c .before .before .before .before .before .key-of .ensures) (c .before .before .before .look .ensures) in (
@@ -570,7 +570,7 @@ least-returns-2 t c =
 
 least-learn-requires : (t : ℕ) → least-lts.Need-learn-requires (least-calls t) (least-at t) least.Post
 least-learn-requires t c κs =
-    let s = c .before .before .before .before .before .before .before .before .before in
+    let s = c .before .before .before .before .before .before .before .before .before .before in
     (omega arith, (s .pre .1 .0, (s .pre .1 .1 .0, (s .pre .1 .1 .1 .0, (s .pre .1 .1 .1 .1, (omega (arith, c .before .before .before .before .before .before .before .if1 .left), (c .before .before .before .before .before .before .key-of .ensures, c .before .before .before .before .look .ensures)))))))
 
 least-same-length-2 : (t : ℕ) → least-lts.Need-same-length-2 (least-calls t) (least-at t) least.Post
@@ -578,7 +578,7 @@ least-same-length-2 t c = omega arith
 
 least-returns-3 : (t : ℕ) → least-lts.Need-returns-3 (least-calls t) (least-at t) least.Post
 least-returns-3 t c =
-    let s = c .before .before .before .before .before .before .before .before .before .before .before .before in
+    let s = c .before .before .before .before .before .before .before .before .before .before .before .before .before in
     let R = recorderOf (s .args .r .now) in
     let valid = s .pre .1 .0 .tabled .valid in
     let e = c .before .before .learn in
@@ -595,7 +595,7 @@ tries-μ-loop r extras latest memory₀ entered₀ budget lift v set p j time un
 
 tries-sub-last-of : (t : ℕ) → tries-lts.Need-sub-last-of (tries-calls t) (tries-at t) tries.Post tries-Inv-loop tries-μ-loop
 tries-sub-last-of t c =
-    let s = c .before in
+    let s = c .before .before in
     let R = recorderOf (s .args .r .now) in
     let valid = s .pre .1 .0 .tabled .valid in
     let held = s .pre .1 .1 .1 .0 in
@@ -606,7 +606,7 @@ tries-sub-last-of t c =
 
 tries-last-of-requires : (t : ℕ) → tries-lts.Need-last-of-requires (tries-calls t) (tries-at t) tries.Post tries-Inv-loop tries-μ-loop
 tries-last-of-requires t c κs =
-    let s = c .before in
+    let s = c .before .before in
     let R = recorderOf (s .args .r .now) in
     let valid = s .pre .1 .0 .tabled .valid in
     let held = s .pre .1 .1 .1 .0 in
@@ -618,9 +618,9 @@ tries-last-of-requires t c κs =
 tries-sooner-requires : (t : ℕ) → tries-lts.Need-sooner-requires (tries-calls t) (tries-at t) tries.Post tries-Inv-loop tries-μ-loop
 tries-sooner-requires t c κs = search needs
 
-tries-fall-of-requires : (t : ℕ) → tries-lts.Need-fall-of-requires (tries-calls t) (tries-at t) tries.Post tries-Inv-loop tries-μ-loop
-tries-fall-of-requires t c κs =
-    let s = c .before .before .before in
+tries-falls-of-requires : (t : ℕ) → tries-lts.Need-falls-of-requires (tries-calls t) (tries-at t) tries.Post tries-Inv-loop tries-μ-loop
+tries-falls-of-requires t c κs =
+    let s = c .before .before .before .before in
     let R = recorderOf (s .args .r .now) in
     let valid = s .pre .1 .0 .tabled .valid in
     let held = s .pre .1 .1 .1 .0 in
@@ -631,7 +631,7 @@ tries-fall-of-requires t c κs =
 
 tries-release-of-requires : (t : ℕ) → tries-lts.Need-release-of-requires (tries-calls t) (tries-at t) tries.Post tries-Inv-loop tries-μ-loop
 tries-release-of-requires t c κs =
-    let s = c .before .before .before .before in
+    let s = c .before .before .before .before .before in
     let R = recorderOf (s .args .r .now) in
     let valid = s .pre .1 .0 .tabled .valid in
     let held = s .pre .1 .1 .1 .0 in
@@ -648,12 +648,12 @@ tries-later-requires t c κs = search needs
 
 tries-loop-holds : (t : ℕ) → tries-lts.Need-loop-holds (tries-calls t) (tries-at t) tries.Post tries-Inv-loop tries-μ-loop
 tries-loop-holds t c =
-    let s = c .before .before .before .before .before .before .before in
+    let s = c .before .before .before .before .before .before .before .before in
     (s .pre .1 .0, s .pre .1 .1 .0, trial-start _ _ _ _ _ _ _ _ _ _ _ _ (s .pre .1 .1 .1 .1 .1 .0), refl)
 
 tries-lead-of-requires : (t : ℕ) → tries-lts.Need-lead-of-requires (tries-calls t) (tries-at t) tries.Post tries-Inv-loop tries-μ-loop
 tries-lead-of-requires t c κs =
-    let s = c .before .before .before .before .before .before .before .before .before in
+    let s = c .before .before .before .before .before .before .before .before .before .before in
     let R = recorderOf (s .args .r .now) in
     let valid = s .pre .1 .0 .tabled .valid in
     let held = s .pre .1 .1 .1 .0 in
@@ -672,7 +672,7 @@ tries-sooner-requires-2 t c κs = search needs
 
 tries-attempt-requires : (t : ℕ) → tries-lts.Need-attempt-requires (tries-calls t) (tries-at t) tries.Post tries-Inv-loop tries-μ-loop
 tries-attempt-requires t c κs =
-    let s = c .before .before .before .before .before .before .before .before .before .before .before .before .before in
+    let s = c .before .before .before .before .before .before .before .before .before .before .before .before .before .before in
     let R = recorderOf (s .args .r .now) in
     let valid = s .pre .1 .0 .tabled .valid in
     let held = s .pre .1 .1 .1 .0 in
@@ -691,7 +691,7 @@ tries-same-length t c = omega arith
 
 tries-returns : (t : ℕ) → tries-lts.Need-returns (tries-calls t) (tries-at t) tries.Post tries-Inv-loop tries-μ-loop
 tries-returns t c =
-    let s = c .before .before .before .before .before .before .before .before .before .before .before .before .before .before .before .before .before in
+    let s = c .before .before .before .before .before .before .before .before .before .before .before .before .before .before .before .before .before .before in
     let R = recorderOf (s .args .r .now) in
     let valid = s .pre .1 .0 .tabled .valid in
     let held = s .pre .1 .1 .1 .0 in
@@ -707,7 +707,7 @@ tries-returns t c =
 
 tries-add-sooner : (t : ℕ) → tries-lts.Need-add-sooner (tries-calls t) (tries-at t) tries.Post tries-Inv-loop tries-μ-loop
 tries-add-sooner t c =
-    let s = c .before .before .before .before .before .before .before .before .before .before .before .before .before .before .before .before .before in
+    let s = c .before .before .before .before .before .before .before .before .before .before .before .before .before .before .before .before .before .before in
     let R = recorderOf (s .args .r .now) in
     let valid = s .pre .1 .0 .tabled .valid in
     let held = s .pre .1 .1 .1 .0 in
@@ -736,7 +736,7 @@ tries-loop-less t c = omega arith
 
 tries-loop-again : (t : ℕ) → tries-lts.Need-loop-again (tries-calls t) (tries-at t) tries.Post tries-Inv-loop tries-μ-loop
 tries-loop-again t c =
-    let s = c .before .before .before .before .before .before .before .before .before .before .before .before .before .before .before .before .before .before .before in
+    let s = c .before .before .before .before .before .before .before .before .before .before .before .before .before .before .before .before .before .before .before .before in
     let R = recorderOf (s .args .r .now) in
     let valid = s .pre .1 .0 .tabled .valid in
     let held = s .pre .1 .1 .1 .0 in
@@ -751,7 +751,7 @@ tries-loop-again t c =
       e .ensures .0 .0,
       e .ensures .0 .1,
       trial-as _ _ _ _ _ _ _ _ _ _ _ _ _ _ _ _ _ _ _
-          (trial-next R valid _ _ _ _ _ _ _ _ _ _ _ _ _ _ _ (l .inv .2) (c .before .before .before .before .before .before .before .before .before .before .loop-test .taken) _ _ _ _ (c .before .before .before .before .before .before .before .before .sooner2 .ensures) (e .ensures .1) (omega (arith, l .inv .2 .low, from-is)) _ (s .pre .1 .0 .tabled) held known one (omega (arith, from-is)) (starts-late R (s .args .j) _ _ _ _ to-is last-is) (c .before .before .before .before .before .before .before .before .before .before .before .before .before .before .before .fall-of .ensures) (c .before .before .before .before .before .before .before .before .before .lead-of .ensures .0) (c .before .before .if1 .left))
+          (trial-next R valid _ _ _ _ _ _ _ _ _ _ _ _ _ _ _ (l .inv .2) (c .before .before .before .before .before .before .before .before .before .before .loop-test .taken) _ _ _ _ (c .before .before .before .before .before .before .before .before .sooner2 .ensures) (e .ensures .1) (omega (arith, l .inv .2 .low, from-is)) _ (s .pre .1 .0 .tabled) held known one (omega (arith, from-is)) (starts-late R (s .args .j) _ _ _ _ to-is last-is) (c .before .before .before .before .before .before .before .before .before .before .before .before .before .before .before .falls-of .ensures) (c .before .before .before .before .before .before .before .before .before .lead-of .ensures .0) (c .before .before .if1 .left))
           refl (c .before .sooner3 .ensures) (c .lessened .ensures),
       omega arith,
     )
@@ -761,7 +761,7 @@ tries-same-length-2 t c = c .before .loop .inv .3
 
 tries-returns-2 : (t : ℕ) → tries-lts.Need-returns-2 (tries-calls t) (tries-at t) tries.Post tries-Inv-loop tries-μ-loop
 tries-returns-2 t c =
-    let s = c .before .before .before .before .before .before .before .before .before in
+    let s = c .before .before .before .before .before .before .before .before .before .before in
     let R = recorderOf (s .args .r .now) in
     let valid = s .pre .1 .0 .tabled .valid in
     let held = s .pre .1 .1 .1 .0 in
@@ -869,7 +869,7 @@ pub +attempt+choices+enter+examine+learn+least+tries-spec : {M : Type 1} → sta
     (tries-sub-last-of t)
     (tries-last-of-requires t)
     (tries-sooner-requires t)
-    (tries-fall-of-requires t)
+    (tries-falls-of-requires t)
     (tries-release-of-requires t)
     (tries-wide-requires t)
     (tries-later-requires t)

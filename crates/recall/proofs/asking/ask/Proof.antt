@@ -14,7 +14,7 @@ use Rattle.recall.proofs.asking.ask.Tie as tie
 
 key-of-requires : tie.Need-key-of-requires
 key-of-requires c κs =
-    let s = c .before in
+    let s = c .before .before in
     let valid = s .pre .0 .valid in
     let h = s .pre .1 .0 in (
       s .pre .0,
@@ -26,13 +26,13 @@ key-of-requires c κs =
 
 slacked-requires : tie.Need-slacked-requires
 slacked-requires c κs =
-    let s = c .before .before in
+    let s = c .before .before .before in
     subst (λ (k : Key). k .head < 536870912) (sym (c .key-of .ensures))
     (held-head _ (s .args .extras .now) (s .args .v .now) (s .pre .0) (s .args .set) (s .args .time) (s .pre .1 .0))
 
 returns : tie.Need-returns
 returns c =
-    let s = c .before .before .before .before in
+    let s = c .before .before .before .before .before in
     let R = recorderOf (s .args .r .now) in
     let cap = capAt (s .args .extras .now) in
     looked-asks R (s .args .extras .now) (s .args .v .now) (s .pre .0) (s .args .set) (s .args .time) (s .args .memory .now) (s .pre .1 .1) (s .args .slack)

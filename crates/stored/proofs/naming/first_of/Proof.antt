@@ -13,25 +13,27 @@ use Rattle.stored.proofs.naming.first_of.Tie as tie
 there : (s : tie.Start) (n : ℕ) → n ≡ recorderOf (s .args .r .now) .devices .count → s .args .k < n → s .args .k < recorderOf (s .args .r .now) .devices .count
 there s n e b = omega arith
 
+cap-of-requires : tie.Need-cap-of-requires
+cap-of-requires c κs = let s = c .before .before .before .before .before .before in (s .pre .1, omega (arith, s .pre .0 .long))
+
 returns : tie.Need-returns
-unfolding capAt
 returns c =
-    let s = c .before .before .before .before .before .before .before in
+    let s = c .before .before .before .before .before .before .before .before in
     let d = c .before .before .before .before .before .before .device-count in
     let b = there s (d .result) (d .ensures) (c .before .before .before .before .before .if1 .taken) in
     first-there (recorderOf (s .args .r .now)) (capAt (s .args .extras .now)) (s .args .v .now) (s .args .k) (c .sooner .result) b
-    (s .pre .0 .cap-most (s .args .k) b) (c .before .before .before .if2 .taken) (c .sooner .ensures)
+    (s .pre .0 .cap-most (s .args .k) b) (c .before .before .before .if2 .taken) (rw (c .before .cap-of .ensures) at (c .sooner .ensures))
 
 returns-2 : tie.Need-returns-2
 returns-2 c =
-    let s = c .before .before .before .before in
+    let s = c .before .before .before .before .before in
     let d = c .before .before .before .device-count in
     first-over (recorderOf (s .args .r .now)) (capAt (s .args .extras .now)) (s .args .v .now) (s .args .k)
     (there s (d .result) (d .ensures) (c .before .before .if1 .taken)) (c .if2 .left)
 
 returns-3 : tie.Need-returns-3
 returns-3 c =
-    let s = c .before .before in
+    let s = c .before .before .before in
     first-none (recorderOf (s .args .r .now)) (capAt (s .args .extras .now)) (s .args .v .now) (s .args .k)
     (omega (arith, c .if1 .left, c .before .device-count .ensures))
 
@@ -46,9 +48,7 @@ first-of-spec =
     (λ c. search needs)
     (λ c. search needs)
     (λ c. search needs)
-    (λ c. search needs)
-    (λ c. search needs)
-    (λ c. search needs)
+    cap-of-requires
     (λ c κs. search needs)
     (λ c. search needs)
     returns

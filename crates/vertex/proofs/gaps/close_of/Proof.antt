@@ -30,7 +30,7 @@ device-count-requires : tie.Need-device-count-requires Inv-loop μ-loop
 device-count-requires c κs = search needs
 
 loop-holds : tie.Need-loop-holds Inv-loop μ-loop
-loop-holds c = (omega arith, omega (arith, c .device-count .ensures, c .before .before .before .before .pre .0 .valid .few-devices), refl, omega arith)
+loop-holds c = (omega arith, omega (arith, c .device-count .ensures, c .before .before .before .before .before .pre .0 .valid .few-devices), refl, omega arith)
 
 mul-close-with : tie.Need-mul-close-with Inv-loop μ-loop
 mul-close-with c = omega arith
@@ -50,7 +50,7 @@ element-copy-out-close-with-2 c = omega arith
 close-with-requires : tie.Need-close-with-requires Inv-loop μ-loop
 close-with-requires c κs =
     let l = c .before .before .before in
-    let start = l .before .before .before .before .before in
+    let start = l .before .before .before .before .before .before in
     let few : l .loop .k < recorderOf (start .args .r .now) .devices .count = omega (arith, c .before .before .loop-test .taken, l .before .device-count .ensures) in
     rw (l .before .before .wide .ensures .0, l .before .before .before .horizon-of .ensures)
     (start .pre .0, (few, (start .pre .1 .firsts (l .loop .k) few, (start .pre .1 .ends (l .loop .k) few, omega arith))))
@@ -77,7 +77,7 @@ unfolding closeBy
 loop-again c =
     let at = c .before .before .before .before in
     let l = at .loop in
-    let a = at .before .before .before .before .before .args in
+    let a = at .before .before .before .before .before .before .args in
     let R = recorderOf (a .r .now) in
     let here : c .close-with .result ≡ closeBy R (a .v .now) (l .k)
     = rw (at .before .before .before .before .is-round .ensures, at .before .before .wide .ensures .0, at .before .before .before .horizon-of .ensures) at (c .close-with .ensures .0) in
@@ -85,7 +85,7 @@ loop-again c =
 
 returns : tie.Need-returns Inv-loop μ-loop
 returns c =
-    let a = c .before .before .before .before .before .before .args in
+    let a = c .before .before .before .before .before .before .before .args in
     let R = recorderOf (a .r .now) in
     let l = c .before .loop in
     let all : l .k ≡ R .devices .count = omega (arith, c .before .before .device-count .ensures) in

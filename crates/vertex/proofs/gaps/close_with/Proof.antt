@@ -14,13 +14,16 @@ room : (s : tie.Start) → (s .args .end ≤ s .args .h) × (s .args .first + (s
 room s = let p = s .pre .1 .1 in (p .1 .0, omega (arith, p .0, p .1 .0, p .1 .1))
 
 sub-extra-of : tie.Need-sub-extra-of
-sub-extra-of c = omega (arith, room c .0)
+sub-extra-of c = omega (arith, room (c .before) .0)
 
 add-extra-of : tie.Need-add-extra-of
-add-extra-of c = omega (arith, room c .1, c .pre .0 .valid .few-ticks)
+add-extra-of c = omega (arith, room (c .before) .1, c .before .pre .0 .valid .few-ticks)
 
 extra-of-requires : tie.Need-extra-of-requires
-extra-of-requires c κs = (omega (arith, c .pre .1 .0, c .pre .0 .valid .few-devices), omega (arith, room c .1, c .pre .0 .valid .few-ticks))
+extra-of-requires c κs =
+    let s = c .before in
+    let r = room s .1 in
+    (omega (arith, s .pre .1 .0, s .pre .0 .valid .few-devices), (omega (arith, r, s .pre .0 .valid .few-ticks), omega (arith, r, s .pre .0 .long)))
 
 returns : tie.Need-returns
 returns c = (rw (← c .before .is-unused .ensures, c .if1 .taken), omega arith)
@@ -28,7 +31,7 @@ returns c = (rw (← c .before .is-unused .ensures, c .if1 .taken), omega arith)
 returns-2 : tie.Need-returns-2
 returns-2 c =
     let x = c .before .before in
-    let s = x .before in
+    let s = x .before .before in
     let a = s .args in
     let g = a .first + (a .h - a .end) in
     let is : x .extra-of .result ≡ extra (device (recorderOf (a .r .now)) (a .k)) (a .first + (a .h - a .end))

@@ -27,7 +27,7 @@ wide-requires : tie.Need-wide-requires Inv-loop μ-loop
 wide-requires c κs = search needs
 
 run-of-requires : tie.Need-run-of-requires Inv-loop μ-loop
-run-of-requires c κs = c .before .before .before .pre .1 .0
+run-of-requires c κs = c .before .before .before .before .pre .1 .0
 
 wide-requires-2 : tie.Need-wide-requires-2 Inv-loop μ-loop
 wide-requires-2 c κs = search needs
@@ -36,7 +36,7 @@ device-count-requires : tie.Need-device-count-requires Inv-loop μ-loop
 device-count-requires c κs = search needs
 
 loop-holds : tie.Need-loop-holds Inv-loop μ-loop
-loop-holds c = (omega arith, omega (arith, c .device-count .ensures, c .before .before .before .before .before .before .pre .0 .valid .few-devices), refl, omega arith)
+loop-holds c = (omega arith, omega (arith, c .device-count .ensures, c .before .before .before .before .before .before .before .pre .0 .valid .few-devices), refl, omega arith)
 
 mul-end-with : tie.Need-mul-end-with Inv-loop μ-loop
 mul-end-with c = omega arith
@@ -56,7 +56,7 @@ element-copy-out-end-with-2 c = omega arith
 end-with-requires : tie.Need-end-with-requires Inv-loop μ-loop
 end-with-requires c κs =
     let l = c .before .before .before in
-    let start = l .before .before .before .before .before .before .before in
+    let start = l .before .before .before .before .before .before .before .before in
     let few : l .loop .k < recorderOf (start .args .r .now) .devices .count = omega (arith, c .before .before .loop-test .taken, l .before .device-count .ensures) in
     let ord = start .pre .1 .1 .0 in
     rw (l .before .before .before .before .wide .ensures .0, l .before .before .before .before .before .horizon-of .ensures, l .before .before .wide2 .ensures .0, l .before .before .before .run-of .ensures)
@@ -84,7 +84,7 @@ unfolding endBy
 loop-again c =
     let at = c .before .before .before .before in
     let l = at .loop in
-    let a = at .before .before .before .before .before .before .before .args in
+    let a = at .before .before .before .before .before .before .before .before .args in
     let R = recorderOf (a .r .now) in
     let here : c .end-with .result ≡ endBy R (a .v .now) (a .j) (a .s) (l .k)
     = rw (at .before .before .before .before .before .before .is-round .ensures, at .before .before .before .before .wide .ensures .0, at .before .before .before .before .before .horizon-of .ensures, at .before .before .wide2 .ensures .0, at .before .before .before .run-of .ensures) at (c .end-with .ensures .0) in
@@ -92,7 +92,7 @@ loop-again c =
 
 returns : tie.Need-returns Inv-loop μ-loop
 returns c =
-    let a = c .before .before .before .before .before .before .before .before .args in
+    let a = c .before .before .before .before .before .before .before .before .before .args in
     let R = recorderOf (a .r .now) in
     let l = c .before .loop in
     let all : l .k ≡ R .devices .count = omega (arith, c .before .before .device-count .ensures) in

@@ -24,7 +24,7 @@ device-count-requires : tie.Need-device-count-requires Inv-loop μ-loop
 device-count-requires c κs = search needs
 
 loop-holds : tie.Need-loop-holds Inv-loop μ-loop
-loop-holds c = (omega arith, omega (arith, c .device-count .ensures, c .before .before .pre .0 .valid .few-devices), refl, omega arith)
+loop-holds c = (omega arith, omega (arith, c .device-count .ensures, c .before .before .before .pre .0 .valid .few-devices), refl, omega arith)
 
 mul-lead-with : tie.Need-mul-lead-with Inv-loop μ-loop
 mul-lead-with c = omega arith
@@ -35,7 +35,7 @@ element-copy-out-lead-with c = omega arith
 lead-with-requires : tie.Need-lead-with-requires Inv-loop μ-loop
 lead-with-requires c κs =
     let l = c .before .before in
-    let start = l .before .before .before in
+    let start = l .before .before .before .before in
     let few : l .loop .k < recorderOf (start .args .r .now) .devices .count = omega (arith, c .before .loop-test .taken, l .before .device-count .ensures) in
     (start .pre .0, (few, (start .pre .1 .0, (start .pre .1 .1 .ends (l .loop .k) few, start .pre .1 .1 .by))))
 
@@ -61,14 +61,14 @@ unfolding leadBy
 loop-again c =
     let at = c .before .before .before in
     let l = at .loop in
-    let a = at .before .before .before .args in
+    let a = at .before .before .before .before .args in
     let R = recorderOf (a .r .now) in
     let here : c .lead-with .result ≡ leadBy R (a .v .now) (a .j) (a .s) (l .k) = rw (at .before .before .is-round .ensures) at (c .lead-with .ensures .0) in
     (omega arith, l .inv .1, omega (arith, here, l .inv .2, sum-more (l .k) (leadBy R (a .v .now) (a .j) (a .s))), more c .0)
 
 returns : tie.Need-returns Inv-loop μ-loop
 returns c =
-    let a = c .before .before .before .before .args in
+    let a = c .before .before .before .before .before .args in
     let R = recorderOf (a .r .now) in
     let l = c .before .loop in
     let all : l .k ≡ R .devices .count = omega (arith, c .before .before .device-count .ensures) in

@@ -14,13 +14,16 @@ room : (s : tie.Start) → s .args .s - s .args .end ≤ recorderOf (s .args .r 
 room s = omega (arith, s .pre .1 .1 .1 .1)
 
 sub-extra-of : tie.Need-sub-extra-of
-sub-extra-of c = omega (arith, c .pre .1 .1 .1 .0)
+sub-extra-of c = omega (arith, c .before .pre .1 .1 .1 .0)
 
 extra-of-requires : tie.Need-extra-of-requires
-extra-of-requires c κs = (omega (arith, c .pre .1 .0, c .pre .0 .valid .few-devices), omega (arith, room c, c .pre .0 .valid .few-ticks))
+extra-of-requires c κs =
+    let s = c .before in
+    let r = room s in
+    (omega (arith, s .pre .1 .0, s .pre .0 .valid .few-devices), (omega (arith, r, s .pre .0 .valid .few-ticks), omega (arith, r, s .pre .0 .long)))
 
 is-used-requires : tie.Need-is-used-requires
-is-used-requires c κs = let s = c .before in (omega (arith, s .pre .1 .0, s .pre .0 .valid .few-devices), s .pre .1 .1 .0)
+is-used-requires c κs = let s = c .before .before in (omega (arith, s .pre .1 .0, s .pre .0 .valid .few-devices), s .pre .1 .1 .0)
 
 returns : tie.Need-returns
 returns c = (rw (← c .before .before .before .is-used .ensures, c .before .before .if1 .taken, ← c .before .is-unused .ensures, c .if2 .taken), omega arith)
@@ -28,7 +31,7 @@ returns c = (rw (← c .before .before .before .is-used .ensures, c .before .bef
 returns-2 : tie.Need-returns-2
 returns-2 c =
     let x = c .before .before .before .before in
-    let s = x .before in
+    let s = x .before .before in
     let a = s .args in
     let is : x .extra-of .result ≡ extra (device (recorderOf (a .r .now)) (a .k)) (a .s - a .end)
     = x .extra-of .ensures ∙ s .pre .0 .extras (a .k) (a .s - a .end) (s .pre .1 .0) (room s) in

@@ -27,7 +27,7 @@ device-count-requires : tie.Need-device-count-requires Inv-loop μ-loop
 device-count-requires c κs = search needs
 
 loop-holds : tie.Need-loop-holds Inv-loop μ-loop
-loop-holds c = (omega arith, omega (arith, c .device-count .ensures, c .before .before .before .pre .0 .valid .few-devices), refl, omega arith)
+loop-holds c = (omega arith, omega (arith, c .device-count .ensures, c .before .before .before .before .pre .0 .valid .few-devices), refl, omega arith)
 
 work-power-requires : tie.Need-work-power-requires Inv-loop μ-loop
 work-power-requires c κs = omega arith
@@ -35,7 +35,7 @@ work-power-requires c κs = omega arith
 deep-power-requires : tie.Need-deep-power-requires Inv-loop μ-loop
 deep-power-requires c κs =
     let at = c .before .before in
-    (omega arith, at .before .before .before .before .pre .0 .valid .sound (at .loop .k) (omega (arith, c .before .loop-test .taken, at .before .device-count .ensures)))
+    (omega arith, at .before .before .before .before .before .pre .0 .valid .sound (at .loop .k) (omega (arith, c .before .loop-test .taken, at .before .device-count .ensures)))
 
 add-floor-with : tie.Need-add-floor-with Inv-loop μ-loop
 add-floor-with c = omega arith
@@ -49,7 +49,7 @@ element-copy-out-floor-with c = omega arith
 floor-with-requires : tie.Need-floor-with-requires Inv-loop μ-loop
 floor-with-requires c κs =
     let at = c .before .before .before .before in
-    let s = at .before .before .before .before in
+    let s = at .before .before .before .before .before in
     let ahead = s .pre .1 (at .loop .k) (omega (arith, c .before .before .before .loop-test .taken, at .before .device-count .ensures)) in
     rw (at .before .before .wide .ensures .0, at .before .before .before .horizon-of .ensures) (ahead, s .pre .0 .valid .few-ticks)
 
@@ -75,7 +75,7 @@ unfolding idleFloor
 loop-again c =
     let at = c .before .before .before .before .before in
     let l = at .loop in
-    let a = at .before .before .before .before .args in
+    let a = at .before .before .before .before .before .args in
     let R = recorderOf (a .r .now) in
     let here : c .floor-with .result ≡ idleFloor R (a .v .now) (l .k)
     = rw (c .before .before .before .work-power .ensures, c .before .before .deep-power .ensures, at .before .before .wide .ensures .0, at .before .before .before .horizon-of .ensures) at (c .floor-with .ensures .0) in
@@ -83,7 +83,7 @@ loop-again c =
 
 returns : tie.Need-returns Inv-loop μ-loop
 returns c =
-    let a = c .before .before .before .before .before .args in
+    let a = c .before .before .before .before .before .before .args in
     let R = recorderOf (a .r .now) in
     let l = c .before .loop in
     let all : l .k ≡ R .devices .count = omega (arith, c .before .before .device-count .ensures) in

@@ -1,4 +1,4 @@
--- `least::leads::fall_of` meets its contract. A rise and a fall of eight devices just fit 32 bits.
+-- `least::leads::falls_of` meets its contract. A rise and a fall of eight devices just fit 32 bits.
 use mathlib.Core.Path.{_≡_, refl, ap, _∙_}
 use Prim.Native.Nat.{ℕ, _+_, _≤_, _<_, _-_, _*_}
 use native.Mathlib.Omega.{arith}
@@ -8,8 +8,8 @@ use Rattle.base.proofs.Additions.{sum-more}
 use Rattle.flat.specs.inside.Flat.{recorderOf}
 use Rattle.extras.specs.inside.Tabled.{riseAt, fallAt}
 use Rattle.least.specs.inside.Shown.{fallBy}
-use Rattle.least.proofs.leads.fall_of.Statement.{statement}
-use Rattle.least.proofs.leads.fall_of.Tie as tie
+use Rattle.least.proofs.leads.falls_of.Statement.{statement}
+use Rattle.least.proofs.leads.falls_of.Tie as tie
 
 abbrev Inv-loop : tie.InvT-loop
 Inv-loop r extras v j round m made₀ k₀ made k =
@@ -25,7 +25,7 @@ device-count-requires : tie.Need-device-count-requires Inv-loop μ-loop
 device-count-requires c κs = search needs
 
 loop-holds : tie.Need-loop-holds Inv-loop μ-loop
-loop-holds c = (omega arith, omega (arith, c .device-count .ensures, c .before .before .pre .0 .valid .few-devices), refl, omega arith)
+loop-holds c = (omega arith, omega (arith, c .device-count .ensures, c .before .before .before .pre .0 .valid .few-devices), refl, omega arith)
 
 mul-fall-with : tie.Need-mul-fall-with Inv-loop μ-loop
 mul-fall-with c = omega arith
@@ -36,7 +36,7 @@ element-copy-out-fall-with c = omega arith
 fall-with-requires : tie.Need-fall-with-requires Inv-loop μ-loop
 fall-with-requires c κs =
     let l = c .before .before in
-    let start = l .before .before .before in
+    let start = l .before .before .before .before in
     (start .pre .0, (omega (arith, c .before .loop-test .taken, l .before .device-count .ensures), start .pre .1))
 
 -- The sum with the device at hand.
@@ -64,7 +64,7 @@ unfolding fallBy
 loop-again c =
     let at = c .before .before .before in
     let l = at .loop in
-    let a = at .before .before .before .args in
+    let a = at .before .before .before .before .args in
     let R = recorderOf (a .r .now) in
     let x = a .extras .now in
     let here : c .fall-with .result ≡ fallBy R (riseAt x) (fallAt x) (a .v .now) (a .j) (l .k) = rw (at .before .before .is-round .ensures) at (c .fall-with .ensures .0) in
@@ -72,14 +72,14 @@ loop-again c =
 
 returns : tie.Need-returns Inv-loop μ-loop
 returns c =
-    let a = c .before .before .before .before .args in
+    let a = c .before .before .before .before .before .args in
     let R = recorderOf (a .r .now) in
     let x = a .extras .now in
     let all : c .before .loop .k ≡ R .devices .count = omega (arith, c .before .before .device-count .ensures) in
     c .before .loop .inv .2 ∙ ap (λ (n : ℕ). sum n (fallBy R (riseAt x) (fallAt x) (a .v .now) (a .j))) all
 
-pub fall-of-spec : {M : Type 1} → statement M
-fall-of-spec =
+pub falls-of-spec : {M : Type 1} → statement M
+falls-of-spec =
     tie.close
     (tie.spec
     Inv-loop
