@@ -2,7 +2,7 @@
 ghost use mathlib.Core.Path.{_≡_};
 ghost use mathlib.Core.Bool.{true, false};
 ghost use mathlib.Core.List.{map};
-ghost use Prim.Native.Nat.{_*_, _/_, _≤_, min};
+ghost use Prim.Native.Nat.{_*_, _/_, _≤_};
 ghost use lib.ListN.{length};
 ghost use Rattle.tables.specs.Records.{firstAt};
 ghost use Rattle.base.specs.Bytes.{pieces};
@@ -12,8 +12,10 @@ ghost use Rattle.catalogue.specs.Building.{devicesOf};
 ghost use Rattle.catalogue.specs.Faults.{First, unfitAt, repeatedAt, lackingAt};
 use crate::numbers::is_formed;
 use crate::numbers::is_same;
+use base::fewer;
 use tables::DeviceRecord;
 use tables::DeviceTable;
+use tables::blank_device;
 use tables::first_at;
 
 // The first part from a place on that has this number; the number of parts where there is none.
@@ -113,36 +115,18 @@ fn record_of(catalogue: &[u8], number: &[u8]) -> DeviceRecord
     first_at(catalogue, 15 * k + 8)
 }
 
-// A table has room for eight.
-fn held_of(n: usize) -> usize
-    ensures { λ r. ⌜ r ≡ min 8 n ⌝ }
-{
-    if n < 8 { n } else { 8 }
-}
-
 // The records of the wanted parts, in the order in which they are wanted.
 pub(crate) fn devices_of(catalogue: &[u8], wanted: &[u8]) -> DeviceTable
     requires { ⌜ (unfit (partsOf (now catalogue)) ≡ false) × (lacking (partsOf (now catalogue)) (pieces 8 (now wanted)) ≡ false) ⌝ }
     ensures { λ r. ⌜ r ≡ devicesOf (map (recordOf (partsOf (now (catalogue .entry)))) (pieces 8 (now (wanted .entry)))) ⌝ }
 {
-    let none = DeviceRecord {
-        wake: 0,
-        shut: 0,
-        pw: 0,
-        ps: 0,
-        pwake: 0,
-        pshut: 0,
-        levels: 1,
-        ps2: 0,
-        ps3: 0,
-        ps4: 0,
-    };
     let mut devices = DeviceTable {
         count: 0,
-        list: [none; 8],
+        list: [blank_device(); 8],
     };
     let n = wanted.len() / 8;
-    let held = held_of(n);
+    // A table has room for eight.
+    let held = fewer(8, n);
     let mut k = 0;
     while k < held {
         let at = 8 * k;

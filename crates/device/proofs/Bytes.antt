@@ -10,6 +10,7 @@ use lib.ListN.{length, length-map, length-drop, length-append, length-replicate,
 use lib.Seq.{take-nil, drop-nil, drop-at, drop-drop, length-take-le}
 use Rattle.base.proofs.Filling.{Filled, filled-tail}
 use Rattle.device.specs.declared.Device.{Device}
+use Rattle.device.specs.declared.Sleeps.{Sleeps}
 use Rattle.device.specs.declared.Uses.{Uses}
 use Rattle.device.specs.Row.{byteOf, trip, gapRow, rowOf, pattern}
 use Rattle.device.specs.Row as Row
@@ -19,14 +20,14 @@ use Rattle.device.proofs.Prefix.{map-replicate}
 use Rattle.device.proofs.Chosen.{length-gap, gap-none}
 use Rattle.device.proofs.Spacing.{row-use, last-front, row-whole}
 
-pub length-gap-bytes : (digits : Bool) (d : Device) (g : ℕ) → length (map (byteOf digits) (gapRow d g)) ≡ g
-length-gap-bytes digits d g = length-map (gapRow d g) (byteOf digits) ∙ length-gap d g
+pub length-gap-bytes : (sleeps : Sleeps) (d : Device) (g : ℕ) → length (map (byteOf sleeps) (gapRow d g)) ≡ g
+length-gap-bytes sleeps d g = length-map (gapRow d g) (byteOf sleeps) ∙ length-gap d g
 
 -- Down to level m, the stay there, and up.
-pub bytes-trip : (digits : Bool) (d : Device) (m g : ℕ)
-    → map (byteOf digits) (trip d m g) ≡ tripBytes (d .shut * m) (g - (d .shut * m + d .wake * m)) (d .wake * m) (byteOf digits (Row.at m))
+pub bytes-trip : (sleeps : Sleeps) (d : Device) (m g : ℕ)
+    → map (byteOf sleeps) (trip d m g) ≡ tripBytes (d .shut * m) (g - (d .shut * m + d .wake * m)) (d .wake * m) (byteOf sleeps (Row.at m))
 unfolding trip
-bytes-trip digits d m g = simp (map-append, map-replicate, append-assoc)
+bytes-trip sleeps d m g = simp (map-append, map-replicate, append-assoc)
 
 -- A writer that makes n bytes was lent the whole, and r says how many it took.
 pub written-first : {l m : List ℕ} {n r : ℕ} (made : List ℕ) → length made ≡ n → (r ≡ n) × (m ≡ made ++ drop n l) → Filled l r made m
@@ -51,16 +52,16 @@ filled-since {l₀} {head} {l} {front} {m} {b} {at} w v h =
     record { long = v .long; is = v .is ∙ ap (λ (r : List ℕ). front ++ r) (sym (on l) ∙ ap (drop (at - b)) same ∙ on l₀) }
 
 -- The bytes of the row from tick b on and before tick e.
-abbrev pub bytes : Bool → Uses → Device → ℕ → ℕ → List ℕ
-bytes digits u d b e = map (byteOf digits) (rowOf false d (pattern (usedIn u) b (e - b)))
+abbrev pub bytes : Sleeps → Uses → Device → ℕ → ℕ → List ℕ
+bytes sleeps u d b e = map (byteOf sleeps) (rowOf false d (pattern (usedIn u) b (e - b)))
 
-pub bytes-none : (digits : Bool) (u : Uses) (d : Device) (b : ℕ) → bytes digits u d b b ≡ []
-bytes-none digits u d b = rw (sub-self, gap-none d)
+pub bytes-none : (sleeps : Sleeps) (u : Uses) (d : Device) (b : ℕ) → bytes sleeps u d b b ≡ []
+bytes-none sleeps u d b = rw (sub-self, gap-none d)
 
 -- Use by use: the gap before it and the use.
-pub bytes-use : (digits : Bool) (u : Uses) (h : ℕ) → Spaced u h → (d : Device) (b : ℕ) → b ≤ begin u 0 → (i at : ℕ) → i < u .count → at ≡ afterFrom b u i
-    → bytes digits u d b (end u i) ≡ (bytes digits u d b at ++ map (byteOf digits) (gapRow d (begin u i - at))) ++ replicate (end u i - begin u i) 87
-bytes-use digits u h ok d b hb i at l e = ap (map (byteOf digits)) (row-use u h ok b hb d i at l e) ∙ simp (map-append, map-replicate, append-assoc)
+pub bytes-use : (sleeps : Sleeps) (u : Uses) (h : ℕ) → Spaced u h → (d : Device) (b : ℕ) → b ≤ begin u 0 → (i at : ℕ) → i < u .count → at ≡ afterFrom b u i
+    → bytes sleeps u d b (end u i) ≡ (bytes sleeps u d b at ++ map (byteOf sleeps) (gapRow d (begin u i - at))) ++ replicate (end u i - begin u i) 87
+bytes-use sleeps u h ok d b hb i at l e = ap (map (byteOf sleeps)) (row-use u h ok b hb d i at l e) ∙ simp (map-append, map-replicate, append-assoc)
 
 -- ---- a part of a list
 
@@ -142,8 +143,8 @@ shared-trip down stay up x n h =
     sym counts ∙ parts ∙ whole
 
 -- The bytes of the whole row.
-pub row-around : (digits : Bool) (u : Uses) (h : ℕ) (ok : Spaced u h) (d : Device) (round : Bool) → idle round u ≡ false
-    → map (byteOf digits) (rowOf round d (pattern (usedIn u) 0 h)) ≡ around digits d u (front round u) (h - afterFrom (front round u) u (u .count))
+pub row-around : (sleeps : Sleeps) (u : Uses) (h : ℕ) (ok : Spaced u h) (d : Device) (round : Bool) → idle round u ≡ false
+    → map (byteOf sleeps) (rowOf round d (pattern (usedIn u) 0 h)) ≡ around sleeps d u (front round u) (h - afterFrom (front round u) u (u .count))
 unfolding around
-row-around digits u h ok d round e =
-    ap (map (byteOf digits)) (row-whole u h ok d round e) ∙ rw (last-front u h ok round e) (simp (map-append, map-drop, map-take))
+row-around sleeps u h ok d round e =
+    ap (map (byteOf sleeps)) (row-whole u h ok d round e) ∙ rw (last-front u h ok round e) (simp (map-append, map-drop, map-take))

@@ -9,6 +9,8 @@ use lib.Dec.{leb, ltb}
 use lib.ListN.{replicate, length, take, drop, getD}
 use Rattle.base.specs.Sums.{total}
 use Rattle.device.specs.declared.Device.{Device}
+use Rattle.device.specs.declared.Sleeps.{Sleeps}
+use Rattle.device.specs.declared.Sleeps.the-variants.{Plain, Numbered}
 
 -- The power at a level: 0 is work, and from 1 on each is a deeper sleep.
 abbrev pub powerAt : Device → ℕ → ℕ
@@ -34,12 +36,13 @@ pub data Letter : Type 0 where
 abbrev pub W : Letter
 W = at 0
 
--- The byte that stands for a letter: its ASCII code. A sleep is S, or the digit of its level where `digits` says so (rule 82).
-abbrev pub byteOf : Bool → Letter → ℕ
-byteOf digits (at zero) = 87
-byteOf digits (at (suc k)) = cond digits (49 + k) 83
-byteOf digits D = 68
-byteOf digits U = 85
+-- The byte that stands for a letter: its ASCII code. A sleep is S, or the digit of its level where sleeps are numbered (rule 82).
+abbrev pub byteOf : Sleeps → Letter → ℕ
+byteOf sleeps (at zero) = 87
+byteOf Plain (at (suc k)) = 83
+byteOf Numbered (at (suc k)) = 49 + k
+byteOf sleeps D = 68
+byteOf sleeps U = 85
 
 -- Where a device is between two ticks: at a level, or on the way down or up to one, with the ticks left.
 pub data State : Type 0 where

@@ -18,6 +18,12 @@ pub struct Device {
     pub powers: [u16; 4],
 }
 
+// How rows write a sleep: as S whatever its level, or as the digit of its level (rules 30 and 82).
+pub enum Sleeps {
+    Plain,
+    Numbered,
+}
+
 // The uses of one device in running order: use i begins at tick begins[i] and ends before tick ends[i].
 pub struct Uses {
     pub count: usize,

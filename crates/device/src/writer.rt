@@ -8,6 +8,7 @@ ghost use Rattle.device.specs.Row.{Sound, at, byteOf, gapRow, rowOf, pat
 ghost use Rattle.device.specs.inside.Trips.{shared, tripBytes, around};
 ghost use Rattle.device.specs.inside.Uses.{begin, usedIn, after, afterFrom, Spaced};
 use crate::Device;
+use crate::Sleeps;
 use crate::Uses;
 use crate::energy::front_of;
 use crate::energy::gap_trip;
@@ -27,14 +28,17 @@ fn write_run(rest: &mut [u8], n: usize, letter: u8) -> usize
 }
 
 // The letter of a tick at a level (rules 30 and 82).
-fn letter_at(digits: bool, level: usize) -> u8
+fn letter_at(sleeps: Sleeps, level: usize) -> u8
     requires { ⌜ level ≤ 4 ⌝ }
-    ensures { λ r. ⌜ r ≡ byteOf digits (at level) ⌝ }
+    ensures { λ r. ⌜ r ≡ byteOf sleeps (at level) ⌝ }
 {
     if level == 0 {
         return b'W';
     }
-    if digits { b'0' + level as u8 } else { b'S' }
+    match sleeps {
+        Sleeps::Plain => b'S',
+        Sleeps::Numbered => b'0' + level as u8,
+    }
 }
 
 // How far x lies beyond c.
@@ -86,9 +90,9 @@ fn write_trip(
 }
 
 // Writes there, of a gap of g ticks, n from tick x on: of the trip that the device makes in it.
-fn write_gap(rest: &mut [u8], digits: bool, d: Device, g: usize, x: usize, n: usize) -> usize
+fn write_gap(rest: &mut [u8], sleeps: Sleeps, d: Device, g: usize, x: usize, n: usize) -> usize
     requires { ⌜ Sound d × ((g ≤ 65535) × ((x + n ≤ g) × (n ≤ length (now rest)))) ⌝ }
-    ensures { λ r. ⌜ (r ≡ n) × (now (rest .exit) ≡ take n (drop x (map (byteOf digits) (gapRow d g))) ++ drop n (now (rest .entry))) ⌝ }
+    ensures { λ r. ⌜ (r ≡ n) × (now (rest .exit) ≡ take n (drop x (map (byteOf sleeps) (gapRow d g))) ++ drop n (now (rest .entry))) ⌝ }
 {
     if n == 0 {
         return 0;
@@ -98,7 +102,7 @@ fn write_gap(rest: &mut [u8], digits: bool, d: Device, g: usize, x: usize, n: us
     let down = d.shut as usize * level;
     let up = d.wake as usize * level;
     let stay = g - (down + up);
-    write_trip(rest, down, stay, up, letter_at(digits, level), x, n)
+    write_trip(rest, down, stay, up, letter_at(sleeps, level), x, n)
 }
 
 // The end of the last use, 0 where there is none.
@@ -112,7 +116,7 @@ fn last_end(u: Uses) -> u16
 
 // Writes a row of h ticks. Its last `tail` ticks are the beginning of a gap of which its first `front` ticks are the end: the gap goes on over the seam.
 fn write_around(
-    digits: bool,
+    sleeps: Sleeps,
     d: Device,
     h: usize,
     u: Uses,
@@ -121,33 +125,33 @@ fn write_around(
     out: &mut [u8],
 )
     requires { ⌜ Sound d × (Spaced u h × ((front ≤ begin u 0) × ((afterFrom front u (u .count) ≤ h) × ((tail ≡ h - afterFrom front u (u .count)) × ((h ≤ 65535) × (h ≤ length (now out))))))) ⌝ }
-    ensures { λ r. ⌜ now (out .exit) ≡ around digits d u front tail ++ drop h (now (out .entry)) ⌝ }
+    ensures { λ r. ⌜ now (out .exit) ≡ around sleeps d u front tail ++ drop h (now (out .entry)) ⌝ }
 {
     let seam = tail + front;
-    let mut at = write_gap(out, digits, d, seam, tail, front);
+    let mut at = write_gap(out, sleeps, d, seam, tail, front);
     let mut i = 0;
     while i < u.count {
         let begin = u.begins[i] as usize;
         let end = u.ends[i] as usize;
         let gap = begin - at;
-        at += write_gap(&mut out[at..], digits, d, gap, 0, gap);
+        at += write_gap(&mut out[at..], sleeps, d, gap, 0, gap);
         at += write_run(&mut out[at..], end - begin, b'W');
         i += 1;
     }
-    write_gap(&mut out[at..], digits, d, seam, 0, tail);
+    write_gap(&mut out[at..], sleeps, d, seam, 0, tail);
 }
 
 // Writes the least row of a device over h ticks with these uses, and keeps what follows it.
-pub fn write_row(round: bool, digits: bool, d: Device, h: u16, u: Uses, out: &mut [u8])
+pub fn write_row(round: bool, sleeps: Sleeps, d: Device, h: u16, u: Uses, out: &mut [u8])
     requires { ⌜ Sound d × (Spaced u h × (h ≤ length (now out))) ⌝ }
-    ensures { λ r. ⌜ now (out .exit) ≡ map (byteOf digits) (rowOf round d (pattern (usedIn u) 0 h)) ++ drop h (now (out .entry)) ⌝ }
+    ensures { λ r. ⌜ now (out .exit) ≡ map (byteOf sleeps) (rowOf round d (pattern (usedIn u) 0 h)) ++ drop h (now (out .entry)) ⌝ }
 {
     let ticks = h as usize;
     if is_idle(round, u) {
-        write_run(out, ticks, letter_at(digits, d.levels as usize));
+        write_run(out, ticks, letter_at(sleeps, d.levels as usize));
         return;
     }
     let front = front_of(round, u) as usize;
     let tail = ticks - last_end(u) as usize;
-    write_around(digits, d, ticks, u, front, tail, out);
+    write_around(sleeps, d, ticks, u, front, tail, out);
 }

@@ -18,7 +18,7 @@ use Rattle.tables.specs.inside.Held.{held}
 use Rattle.tables.proofs.Appending.{held-front, held-long}
 use Rattle.request.specs.Format.{readOf}
 use Rattle.request.proofs.Accepted.{refused-number}
-use Rattle.request.proofs.Cutting.{accepted-whole}
+use Rattle.request.proofs.Limiting.{accepted-whole}
 use Rattle.planner.specs.declared.Answer.{Answer}
 use Rattle.planner.specs.declared.FileTables.{FileTables}
 use Rattle.planner.specs.Promises.{Reads, OfFile, TablesOf, TablesGiven}

@@ -6,12 +6,12 @@ ghost use lib.ListN.{length, getD};
 ghost use Rattle.planner.specs.Promises.{OfFile};
 ghost use Rattle.doorway.specs.Doors.{fours};
 ghost use Rattle.doors.specs.Promises.{complement, MarginsSpelled, MarginsDoor};
+use base::fewer;
 use calls::put;
 use calls::tell;
 use doorway::SHUT;
 use doorway::hand_starts;
 use doorway::is_open;
-use doorway::least;
 use planner::Answer;
 use planner::margins;
 
@@ -43,10 +43,10 @@ fn margin_bytes(file: &[u8], starts: &[u16], out: &mut [u8]) -> Answer
     ensures { λ a. ⌜ OfFile (now (file .entry)) (now (out .entry)) (MarginsSpelled (now (starts .entry)) (now (out .entry))) a (now (out .exit)) ⌝ }
 {
     let mut room = [0i32; 16];
-    let places = least(out.len() / 4, 16);
+    let places = fewer(out.len() / 4, 16);
     let answer = margins(file, starts, &mut room[..places]);
     if answer.number == 0 {
-        let jobs = least(starts.len(), places);
+        let jobs = fewer(starts.len(), places);
         put_margins(&room[..jobs], out);
     }
     answer

@@ -2,12 +2,12 @@
 ghost use Rattle.planner.specs.Promises.{OfFile};
 ghost use Rattle.mend.specs.Promises.{lending};
 ghost use Rattle.doors.specs.Promises.{MendSpelled, MendDoor};
+use base::fewer;
 use calls::put_starts;
 use calls::tell;
 use doorway::SHUT;
 use doorway::hand_starts;
 use doorway::is_open;
-use doorway::least;
 use mend::mend;
 use planner::Answer;
 
@@ -17,13 +17,13 @@ fn mend_bytes(file: &[u8], given: &[u16], out: &mut [u8], moved: &mut [u8]) -> A
 {
     let mut starts = [0u16; 16];
     let mut moves = [0u16; 48];
-    let places = least(out.len() / 2, 16);
-    let numbers = least(moved.len() / 2, 48);
+    let places = fewer(out.len() / 2, 16);
+    let numbers = fewer(moved.len() / 2, 48);
     let answer = mend(file, given, &mut starts[..places], &mut moves[..numbers]);
     if answer.number == 0 {
-        let jobs = least(given.len(), places);
+        let jobs = fewer(given.len(), places);
         put_starts(&starts[..jobs], out);
-        let listed = least(answer.count as usize * 3, numbers);
+        let listed = fewer(answer.count as usize * 3, numbers);
         put_starts(&moves[..listed], moved);
     }
     answer

@@ -1,11 +1,11 @@
 // The door to whether there is any plan.
 ghost use Rattle.planner.specs.Promises.{OfFile};
 ghost use Rattle.doors.specs.Promises.{PossibleSpelled, PossibleDoor};
+use base::fewer;
 use calls::RESULT;
 use calls::put_starts;
 use calls::tell;
 use doorway::SHUT;
-use doorway::least;
 use planner::Answer;
 use planner::refusal;
 use possible::first_schedule;
@@ -20,10 +20,10 @@ fn possible_bytes(file: &[u8], budget: u32, starts: &mut [u8]) -> Answer
         return refusal(request.number);
     }
     let mut own = [0u16; 16];
-    let places = least(starts.len() / 2, 16);
+    let places = fewer(starts.len() / 2, 16);
     let answer = first_schedule(request.recorder, budget, &mut own[..places]);
     if answer.number == 0 {
-        let jobs = least(request.recorder.jobs.count, places);
+        let jobs = fewer(request.recorder.jobs.count, places);
         put_starts(&own[..jobs], starts);
     }
     answer

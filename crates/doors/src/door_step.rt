@@ -5,12 +5,12 @@ ghost use lib.ListN.{length, getD};
 ghost use Rattle.planner.specs.Promises.{OfFile};
 ghost use Rattle.doorway.specs.Doors.{fours};
 ghost use Rattle.doors.specs.Promises.{StepsSpelled, StepDoor};
+use base::fewer;
 use calls::put;
 use calls::tell;
 use doorway::SHUT;
 use doorway::hand_starts;
 use doorway::is_open;
-use doorway::least;
 use planner::Answer;
 use planner::refusal;
 use request::read;
@@ -39,10 +39,10 @@ fn step_bytes(file: &[u8], starts: &[u16], out: &mut [u8]) -> Answer
     }
     let recorder = request.recorder;
     let mut room = [0u32; 8];
-    let places = least(out.len() / 4, 8);
+    let places = fewer(out.len() / 4, 8);
     let answer = steps_of(file, recorder, starts, &mut room[..places]);
     if answer.number == 0 {
-        let devices = least(recorder.devices.count, places);
+        let devices = fewer(recorder.devices.count, places);
         put_energies(&room[..devices], out);
     }
     answer

@@ -1,6 +1,7 @@
 // The table filled, device by device: each gap by what it costs, and with them the device's cap, rise, fall and foot.
 use crate::shape::Shape;
 use crate::shape::shape_with;
+use base::wide;
 use device::Device;
 use device::gap_energy;
 use flat::Flat;
@@ -8,7 +9,6 @@ use flat::deep_power;
 use flat::device_count;
 use flat::device_of;
 use flat::horizon_of;
-use flat::numbers::wide;
 ghost use mathlib.Core.Path.{_≡_};
 ghost use Prim.Native.Nat.{suc, _+_, _*_, _<_, _≤_};
 ghost use lib.ListN.{length};

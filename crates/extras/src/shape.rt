@@ -1,5 +1,5 @@
 // What is read off the extras of a device while they are laid, gap by gap.
-use flat::numbers::later;
+use base::larger;
 ghost use mathlib.Core.Path.{_≡_};
 ghost use Rattle.extras.specs.inside.Shapes.{shapeWith};
 
@@ -17,7 +17,7 @@ pub fn shape_with(s: Shape, g: u32, x: u32, y: u32) -> Shape
     ensures { λ z. ⌜ z ≡ shapeWith s g x y ⌝ }
 {
     if x < y {
-        let rise = later(s.rise, y - x);
+        let rise = larger(s.rise, y - x);
         return Shape {
             cap: g,
             rise,
@@ -26,7 +26,7 @@ pub fn shape_with(s: Shape, g: u32, x: u32, y: u32) -> Shape
         };
     }
     if y < x {
-        let fall = later(s.fall, x - y);
+        let fall = larger(s.fall, x - y);
         return Shape {
             cap: g,
             rise: s.rise,

@@ -1,4 +1,4 @@
 pub mod Walking
 pub mod Promised
-pub mod Cutting
+pub mod Limiting
 pub mod Only

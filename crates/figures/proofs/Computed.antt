@@ -147,7 +147,7 @@ module _ (starts lent : List ℕ) where
       let room = R .devices .count * R .horizon in
       cond (feasible R starts)
       (cond (ltb (length lent) room) (some (refusal 15, lent))
-      (some (success (R .horizon) (planEnergy R starts) 0, laid (R .digits) (planRow R starts) (R .devices .count) ++ drop room lent)))
+      (some (success (R .horizon) (planEnergy R starts) 0, laid (R .sleeps) (planRow R starts) (R .devices .count) ++ drop room lent)))
       none
 
   rowed-among : (R : Recorder) → Valid R → Among (RowsOf starts lent R) (rowed R)

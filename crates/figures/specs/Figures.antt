@@ -9,6 +9,7 @@ use Prim.Native.Nat.{ℕ}
 use lib.IntN.{ℤ, pos, negsuc}
 use lib.ListN.{replicate}
 use Rattle.base.specs.Lists.{upTo}
+use Rattle.device.specs.declared.Sleeps.the-variants.{Plain, Numbered}
 use Rattle.device.specs.Row.{Letter, at, W, D, U, byteOf}
 use Rattle.schedule.specs.Quantities.{jobs, release, deadline}
 use Rattle.schedule.specs.Listing.{Earlier}
@@ -160,11 +161,11 @@ abbrev S : Letter
 S = at 1
 
 abbrev letters : List Letter → List ℕ
-letters l = map (byteOf false) l
+letters l = map (byteOf Plain) l
 
 -- Where a sleep is written as the digit of its level.
 abbrev digits : List Letter → List ℕ
-digits l = map (byteOf true) l
+digits l = map (byteOf Numbered) l
 
 abbrev pub table : List Case
 table =

@@ -13,11 +13,13 @@ use borrow.Author.Tests.{lt-ltb, le-ltb, ne-eqb}
 use Rattle.base.specs.Lists.{upTo}
 use Rattle.base.proofs.Arrays.{getD-upTo, upTo-whole}
 use Rattle.device.specs.declared.Device.{Device}
+use Rattle.device.specs.declared.Sleeps.{Sleeps}
+use Rattle.device.specs.declared.Sleeps.the-variants.{Plain, Numbered}
 use Rattle.device.specs.Row.{Sound, deep, powerAt}
 use Rattle.schedule.specs.declared.Job.{Job}
 use Rattle.schedule.specs.declared.Recorder.{Recorder}
 use Rattle.schedule.specs.Quantities.{job, device, release, deadline, run, uses, noJob, noDevice}
-use Rattle.flat.specs.inside.Flat.{cell, jobColumn, deviceRow, recorderOf, jobNumber, deviceNumber, ownNumber, numberOf}
+use Rattle.flat.specs.inside.Flat.{cell, jobColumn, deviceRow, recorderOf, numbered, sleepsBy, jobNumber, deviceNumber, ownNumber, numberOf}
 use Rattle.flat.proofs.Shapes.{Shaped}
 
 -- ---- a flag as a number
@@ -25,6 +27,11 @@ use Rattle.flat.proofs.Shapes.{Shaped}
 pub flag-number : (b : Bool) → boolByte b ≡ cond b 1 0
 flag-number true = refl
 flag-number false = refl
+
+number-sleeps : (s : Sleeps) → sleepsBy (numbered s) ≡ s
+unfolding sleepsBy numbered
+number-sleeps Plain = refl
+number-sleeps Numbered = refl
 
 number-flag : (b : Bool) → eqb (cond b 1 0) 1 ≡ b
 number-flag true = refl
@@ -177,5 +184,6 @@ module _ (R : Recorder) (s : Shaped R) where
       let js : upTo (jobColumn (grid (numberOf R))) 16 ≡ R .jobs .list = upTo-whole _ (R .jobs .list) noJob 16 (s .jobs-long) job-kept in
       let ds : upTo (deviceRow (grid (numberOf R))) 8 ≡ R .devices .list = upTo-whole _ (R .devices .list) noDevice 8 (s .devices-long) device-kept in
       let r : eqb (held 19 3) 1 ≡ R .round = ap (λ (x : ℕ). eqb x 1) (cell-grid (numberOf R) 19 3 (omega arith) (omega arith)) ∙ number-flag (R .round) in
-      let g : eqb (held 19 4) 1 ≡ R .digits = ap (λ (x : ℕ). eqb x 1) (cell-grid (numberOf R) 19 4 (omega arith) (omega arith)) ∙ number-flag (R .digits) in
+      let g : sleepsBy (eqb (held 19 4) 1) ≡ R .sleeps
+      = ap (λ (x : ℕ). sleepsBy (eqb x 1)) (cell-grid (numberOf R) 19 4 (omega arith) (omega arith)) ∙ ap sleepsBy (number-flag (numbered (R .sleeps))) ∙ number-sleeps (R .sleeps) in
       rw (h, n, m, r, g, js, ds)

@@ -1,15 +1,14 @@
 // The recorder laid flat, twenty rows of sixteen numbers (specs/inside/Flat says which). A struct that goes by value is copied at every call; this is lent, so that
 // nothing of the recorder is copied at a vertex.
 use device::Device;
+use device::Sleeps;
 use schedule::Job;
 use schedule::Recorder;
 ghost use mathlib.Core.Path.{_≡_};
 ghost use Prim.Native.Nat.{_<_};
 ghost use Rattle.device.specs.Row.{Sound, deep};
 ghost use Rattle.schedule.specs.Quantities.{Valid, device, jobs, release, deadline, run, uses};
-ghost use Rattle.flat.specs.inside.Flat.{recorderOf, jobNumber, deviceNumber, ownNumber, numberOf};
-
-pub mod numbers; // numbers.rt: sums past sixteen bits
+ghost use Rattle.flat.specs.inside.Flat.{recorderOf, numbered, jobNumber, deviceNumber, ownNumber, numberOf};
 
 pub type Flat = [u16; 320];
 
@@ -145,7 +144,17 @@ fn device_number(device: Device, column: usize) -> u16
     device.powers[column - 6]
 }
 
-// What the recorder has in the last row: the horizon, the counts, 1 for a round, and 1 where rows have digits.
+// Whether sleeps are numbered.
+fn is_numbered(sleeps: Sleeps) -> bool
+    ensures { λ x. ⌜ x ≡ numbered sleeps ⌝ }
+{
+    match sleeps {
+        Sleeps::Plain => false,
+        Sleeps::Numbered => true,
+    }
+}
+
+// What the recorder has in the last row: the horizon, the counts, 1 for a round, and 1 where sleeps are numbered.
 fn own_number(r: Recorder, column: usize) -> u16
     requires { ⌜ Valid r ⌝ }
     ensures { λ x. ⌜ x ≡ ownNumber r column ⌝ }
@@ -162,7 +171,8 @@ fn own_number(r: Recorder, column: usize) -> u16
     if column == 3 {
         return r.round as u16;
     }
-    r.digits as u16
+    let sleeps = r.sleeps;
+    is_numbered(sleeps) as u16
 }
 
 // The number that stands in a row and a column of the recorder laid flat.

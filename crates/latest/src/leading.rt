@@ -1,9 +1,9 @@
 // The first run of all jobs, job by job: of those that can go first the one with the smallest number, at its earliest start. Nothing is ever taken back.
 use crate::Table;
 use crate::all_jobs;
-use crate::larger;
 use crate::offered;
 use crate::power;
+use base::later;
 use flat::Flat;
 use flat::job_count;
 use flat::release_of;
@@ -43,7 +43,7 @@ pub fn lay_starts(r: &Flat, table: &Table, starts: &mut [u16])
     let mut m = all_jobs(r);
     while 0 < m {
         let j = first_job(r, table, t, m);
-        let s = larger(t, release_of(r, j));
+        let s = later(t, release_of(r, j));
         starts[j] = s;
         t = s + run_of(r, j);
         m = m - power(j);

@@ -1,5 +1,6 @@
 // For each set of jobs the latest time from which all of them can still be run, which decides whether a recorder has any schedule. A set is a number: bit j is set
 // where job j is one of it.
+use base::later;
 use flat::Flat;
 use flat::deadline_of;
 use flat::horizon_of;
@@ -7,7 +8,7 @@ use flat::job_count;
 use flat::release_of;
 use flat::run_of;
 ghost use mathlib.Core.Path.{_≡_};
-ghost use Prim.Native.Nat.{suc, _-_, _/_, _^_, _<_, _≤_, max, min};
+ghost use Prim.Native.Nat.{suc, _-_, _/_, _^_, _<_, _≤_, min};
 ghost use lib.ListN.{getD, length};
 ghost use Rattle.schedule.specs.Quantities.{Valid, jobs};
 ghost use Rattle.flat.specs.inside.Flat.{recorderOf};
@@ -23,12 +24,6 @@ fn capped(d: u16, x: u16) -> u16
     ensures { λ e. ⌜ e ≡ min x (suc d) ⌝ }
 {
     if d < x { d + 1 } else { x }
-}
-
-pub(crate) fn larger(x: u16, y: u16) -> u16
-    ensures { λ z. ⌜ z ≡ max x y ⌝ }
-{
-    if x < y { y } else { x }
 }
 
 // The latest start of a job that is over by x and by its deadline.
@@ -82,7 +77,7 @@ pub(crate) fn offered(
     }
     let x = table[m - p];
     let s = slot_of(release_of(r, j), deadline_of(r, j), run_of(r, j), x);
-    larger(s, best)
+    later(s, best)
 }
 
 // The latest of the set m, from those of the smaller sets.

@@ -19,7 +19,7 @@ use Rattle.value.specs.inside.Options.{lesser, leastIn, Answers}
 use Rattle.value.specs.inside.Leasts.{viaChild, startsTo}
 use Rattle.value.proofs.Waits.{leastTo}
 use Rattle.value.proofs.Tries.{ChosenTo, choosing-start, choosing-placed, choosing-tried, choosing-done}
-use Rattle.least.specs.inside.Shown.{Shows, Held}
+use Rattle.least.specs.inside.Shown.{Shows, ShownAt}
 use Rattle.least.specs.Effort.{mostOf}
 use Rattle.least.specs.inside.Outcome.{Came, told, stopped}
 use Rattle.vertex.proofs.Showing.{set-some, job-in, in-job}
@@ -32,7 +32,7 @@ pub record Open (R : Recorder) (l : List ℕ) (a t : ℕ) : Type 0 where
   pub shows : Shows R l a (suc left) vertex
   pub time : vertex .time ≡ t
 
-pub held-open : (R : Recorder) → Valid R → (l : List ℕ) (a t : ℕ) → Held R l a t → 0 < a → Open R l a t
+pub held-open : (R : Recorder) → Valid R → (l : List ℕ) (a t : ℕ) → ShownAt R l a t → 0 < a → Open R l a t
 held-open R valid l a t h q =
     let n = set-some R valid l a (h .left) (h .vertex) (h .shows) q in
     record {
@@ -89,7 +89,7 @@ module _ (R : Recorder) (valid : Valid R) (l : List ℕ) (a time until limit bud
           came-from start (j * ((until - time) * mostOf R m 0)) (p .0)
           (turn m u (leastIn (λ i. cond (has a i) (before R m u until i) none) (upFrom 0 j)) h t (p .1))
 
-      pub chosen-tried : Held R l a time → has a j ≡ true → (x ≡ 4294967295 → ⊥) → Chosen R l a time until limit budget start (j + 1) f x
+      pub chosen-tried : ShownAt R l a time → has a j ≡ true → (x ≡ 4294967295 → ⊥) → Chosen R l a time until limit budget start (j + 1) f x
       chosen-tried held q z =
           let o = held-open R valid l a time held (has-some a j q) in
           rw (add-one j)

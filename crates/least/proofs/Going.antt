@@ -29,7 +29,7 @@ use Rattle.value.proofs.Steps.{wait-over, latest-gone}
 use Rattle.extras.specs.inside.Tabled.{Tabled, capAt}
 use Rattle.stored.specs.declared.Key.{Key}
 use Rattle.least.specs.declared.memory.Spot.{Spot}
-use Rattle.least.specs.inside.Shown.{closesBy, keyBy, Ordered, Placed, Shows, Held}
+use Rattle.least.specs.inside.Shown.{closesBy, keyBy, Ordered, Placed, Shows, ShownAt}
 use Rattle.least.specs.inside.Entries.{Looked, kept, knownOf}
 use Rattle.least.specs.Effort.{mostOf}
 use Rattle.least.specs.inside.Outcome.{Named, Recalls, Lent, Offers, Came, Tried, entered}
@@ -44,7 +44,7 @@ use Rattle.least.proofs.Trials.{slot-late}
 
 -- ---- a vertex that is held
 
-module _ (R : Recorder) (valid : Valid R) (l : List ℕ) (a t : ℕ) (h : Held R l a t) where
+module _ (R : Recorder) (valid : Valid R) (l : List ℕ) (a t : ℕ) (h : ShownAt R l a t) where
   pub held-by : t ≤ R .horizon
   held-by = omega (arith, h .time, h .shows .reached .time)
 
@@ -54,7 +54,7 @@ module _ (R : Recorder) (valid : Valid R) (l : List ℕ) (a t : ℕ) (h : Held R
   pub held-few : (a < 2 ^ jobs R) × (a < 65536)
   held-few = set-few R valid l a (h .left) (h .vertex) (h .shows)
 
-  pub held-later : (u : ℕ) → t ≤ u → u ≤ R .horizon → Held R l a u
+  pub held-later : (u : ℕ) → t ≤ u → u ≤ R .horizon → ShownAt R l a u
   held-later u q b =
       record {
         left = h .left;
@@ -108,7 +108,7 @@ module _ (R : Recorder) (valid : Valid R) (l : List ℕ) (a j s : ℕ) (o : Offe
         subst (λ (n : ℕ). Shows R w (a - n) m (child R u j s)) (sym p-is)
         (child-shown R valid l a m u h j s (job-in R valid l a (suc m) u h j (offers-known .0) one) (omega (arith, o .early)) (o .late) w placed)
 
-    pub child-held : Held R w (a - p) end
+    pub child-held : ShownAt R w (a - p) end
     child-held =
         record {
           left = o .left;

@@ -21,7 +21,7 @@ use Rattle.value.proofs.Lesser.{most-some}
 use Rattle.value.proofs.Reading.{settles-root, settles-child, settles-end, root-nothing}
 use Rattle.value.proofs.Steps.{child-goal, least-most}
 use Rattle.extras.specs.inside.Tabled.{Tabled}
-use Rattle.least.specs.inside.Shown.{leadsBy, Placed, Shows, Held}
+use Rattle.least.specs.inside.Shown.{leadsBy, Placed, Shows, ShownAt}
 use Rattle.least.specs.Effort.{mostOf, mostVertices}
 use Rattle.least.specs.inside.Outcome.{Offers, Came, told, stopped, ReadOff, read}
 use Rattle.least.specs.inside.Readings.{Reads}
@@ -51,7 +51,7 @@ take-same (suc n) (suc k) l = ap (λ (r : List ℕ). 0 ∷ r) (take-same n k (om
 -- ---- one step
 
 module _ (R : Recorder) (l s : List ℕ) (a time goal e : ℕ) (h : Reads R l s a time goal e) where
-  pub reads-held : Held R l a time
+  pub reads-held : ShownAt R l a time
   reads-held = record { left = h .left; vertex = h .vertex; shows = h .shows; time = h .time-is }
 
   pub reads-small : (ex : List ℕ) → Tabled R ex → goal ≤ 2147450880

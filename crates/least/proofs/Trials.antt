@@ -26,7 +26,7 @@ use Rattle.value.proofs.Ticks.{one-tick}
 use Rattle.value.proofs.Steps.{least-span, latest-gone}
 use Rattle.value.proofs.Tries.{Trying, Falling, trying-start, trying-pass, trying-enter}
 use Rattle.extras.specs.inside.Tabled.{Tabled, riseAt, fallAt}
-use Rattle.least.specs.inside.Shown.{leadsBy, fallsBy, Shows, Held}
+use Rattle.least.specs.inside.Shown.{leadsBy, fallsBy, Shows, ShownAt}
 use Rattle.least.specs.Effort.{mostOf}
 use Rattle.least.specs.inside.Outcome.{Came, told, stopped, Tried, passed, entered}
 use Rattle.vertex.proofs.Showing.{leads-shown, job-in, in-job}
@@ -151,7 +151,7 @@ module _ (R : Recorder) (valid : Valid R) (l : List ℕ) (a j time limit given b
         let r : suc (s - from) * mostOf R m 0 ≤ n * mostOf R m 0 = mul-le-mul-right (mostOf R m 0) (omega (arith, c .low)) in
         came-stop Q (n * mostOf R m 0) (omega arith) (on m u o h t p) z
 
-    module _ (ex : List ℕ) (tabled : Tabled R ex) (held : Held R l a time) (known : j < jobs R) (one : has a j ≡ true) (early : earliest R time j ≤ from)
+    module _ (ex : List ℕ) (tabled : Tabled R ex) (held : ShownAt R l a time) (known : j < jobs R) (one : has a j ≡ true) (early : earliest R time j ≤ from)
         (late : (y : ℕ) → y < to → y + run R j ≤ deadline R j) (drop-is : drop ≡ fallsBy R (riseAt ex) (fallAt ex) l j) (lead-is : lead ≡ leadsBy R l j s)
         (z : x ≡ 4294967295 → ⊥) where
       falling : (m : ℕ) (u : Vertex) (o : Option ℕ) → Shows R l a (suc m) u → u .time ≡ time → Falling R m u j from to limit drop o

@@ -1,4 +1,6 @@
 // By how much the rest may fall from one start of a job to the next; how long a vertex waits.
+use base::smaller;
+use base::wide;
 use extras::cap_of;
 use extras::fall_of;
 use extras::rise_of;
@@ -7,8 +9,6 @@ use flat::device_count;
 use flat::horizon_of;
 use flat::is_round;
 use flat::is_used;
-use flat::numbers::sooner;
-use flat::numbers::wide;
 use vertex::cells::Cells;
 use vertex::gaps::is_unused;
 ghost use mathlib.Core.Path.{_≡_};
@@ -64,7 +64,7 @@ fn wait_with(cap: u32, unused: bool, end: u32, ahead: u32, time: u32, until: u32
     if end + cap <= time {
         return until;
     }
-    sooner(until, end + cap)
+    smaller(until, end + cap)
 }
 
 // Up to which time a vertex looks at starts itself; from there on it is the same vertex at that time. It is when one more device has reached its cap; with all there,
@@ -91,5 +91,5 @@ pub fn wait_of(r: &Flat, extras: &[u32], v: &Cells, time: u32) -> u32
     if until == 8192 {
         until = (time / 32 + 1) * 32;
     }
-    sooner(until, wide(horizon_of(r)))
+    smaller(until, wide(horizon_of(r)))
 }

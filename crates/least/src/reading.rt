@@ -4,11 +4,11 @@ use crate::search::STOP;
 use crate::search::enter;
 use crate::search::last_of;
 use crate::search::least;
+use base::larger;
+use base::wide;
 use extras::rise_of;
 use flat::Flat;
 use flat::job_count;
-use flat::numbers::later;
-use flat::numbers::wide;
 use flat::release_of;
 use flat::run_of;
 use latest::Table;
@@ -28,7 +28,7 @@ ghost use Rattle.flat.specs.inside.Flat.{recorderOf};
 ghost use Rattle.latest.specs.inside.Sets.{has};
 ghost use Rattle.latest.specs.inside.Latest.{latestOf};
 ghost use Rattle.value.specs.inside.Leasts.{leadOf, leastOf, viaChild, FirstChild};
-ghost use Rattle.least.specs.inside.Shown.{Shows, Held};
+ghost use Rattle.least.specs.inside.Shown.{Shows, ShownAt};
 ghost use Rattle.least.specs.Effort.{mostOf};
 ghost use Rattle.least.specs.inside.Outcome.{Lent, Offers, Came, ReadOff};
 ghost use Rattle.least.specs.inside.Readings.{Hit, FirstStart, Reads};
@@ -100,12 +100,12 @@ fn first_start(
     time: u32,
     goal: u32,
 ) -> u32
-    requires { ⌜ Lent (recorderOf (now r)) (now extras) (now latest) (now memory) × ((now entered ≤ budget) × (Held (recorderOf (now r)) (now v) set time × ((goal ≤ 2147450880) × ((j < jobs (recorderOf (now r))) × ((has set j ≡ true) × (p ≡ 2 ^ j)))))) ⌝ }
+    requires { ⌜ Lent (recorderOf (now r)) (now extras) (now latest) (now memory) × ((now entered ≤ budget) × (ShownAt (recorderOf (now r)) (now v) set time × ((goal ≤ 2147450880) × ((j < jobs (recorderOf (now r))) × ((has set j ≡ true) × (p ≡ 2 ^ j)))))) ⌝ }
     ensures lent { λ _. ⌜ Lent (recorderOf (now (r .entry))) (now (extras .entry)) (now (latest .entry)) (now (memory .exit)) × (now (entered .exit) ≤ budget) ⌝ }
     ensures answer { λ x. ⌜ ((m : ℕ) (u : Vertex) → Shows (recorderOf (now (r .entry))) (now (v .entry)) set (suc m) u → u .time ≡ time → Came budget (now (entered .entry)) (now (entered .exit)) (recorderOf (now (r .entry)) .horizon * mostOf (recorderOf (now (r .entry))) m 0) x (FirstStart (recorderOf (now (r .entry))) m u j goal x)) ⌝ }
 {
     let to = last_of(r, latest, set - p, j);
-    let mut s = later(time, wide(release_of(r, j)));
+    let mut s = larger(time, wide(release_of(r, j)));
     while s < to {
         let lead = lead_of(r, extras, v, j, s);
         let x = hits(
@@ -149,7 +149,7 @@ fn first_child(
     time: u32,
     goal: u32,
 ) -> Child
-    requires { ⌜ Lent (recorderOf (now r)) (now extras) (now latest) (now memory) × ((now entered ≤ budget) × (Held (recorderOf (now r)) (now v) set time × (goal ≤ 2147450880))) ⌝ }
+    requires { ⌜ Lent (recorderOf (now r)) (now extras) (now latest) (now memory) × ((now entered ≤ budget) × (ShownAt (recorderOf (now r)) (now v) set time × (goal ≤ 2147450880))) ⌝ }
     ensures lent { λ _. ⌜ Lent (recorderOf (now (r .entry))) (now (extras .entry)) (now (latest .entry)) (now (memory .exit)) × (now (entered .exit) ≤ budget) ⌝ }
     ensures answer { λ x. ⌜ ((m : ℕ) (u : Vertex) → Shows (recorderOf (now (r .entry))) (now (v .entry)) set (suc m) u → u .time ≡ time → leastOf (recorderOf (now (r .entry))) (suc m) u ≡ some goal → Came budget (now (entered .entry)) (now (entered .exit)) (jobs (recorderOf (now (r .entry))) * (recorderOf (now (r .entry)) .horizon * mostOf (recorderOf (now (r .entry))) m 0)) (x .start) (FirstChild (recorderOf (now (r .entry))) m u (x .job) (x .start))) ⌝ }
 {
@@ -244,7 +244,7 @@ fn lift_of(extras: &[u32]) -> u32
     let mut most: u32 = 0;
     let mut k: usize = 0;
     while k < 8 {
-        most = later(most, rise_of(extras, k));
+        most = larger(most, rise_of(extras, k));
         k += 1;
     }
     most % 268435456 * 8

@@ -5,12 +5,13 @@ use crate::leads::wait_of;
 use crate::memory::Spot;
 use crate::memory::look;
 use crate::memory::remember;
+use base::larger;
+use base::lessened;
+use base::smaller;
+use base::wide;
 use flat::Flat;
 use flat::deadline_of;
 use flat::job_count;
-use flat::numbers::later;
-use flat::numbers::sooner;
-use flat::numbers::wide;
 use flat::release_of;
 use flat::run_of;
 use latest::Table;
@@ -36,7 +37,7 @@ ghost use Rattle.value.specs.inside.Options.{lesser, leastIn, Answers};
 ghost use Rattle.value.specs.inside.Leasts.{leastOf, viaChild, startsTo};
 ghost use Rattle.value.proofs.Waits.{leastTo};
 ghost use Rattle.extras.specs.inside.Tabled.{capAt};
-ghost use Rattle.least.specs.inside.Shown.{keyBy, Shows, Held};
+ghost use Rattle.least.specs.inside.Shown.{keyBy, Shows, ShownAt};
 ghost use Rattle.least.specs.inside.Entries.{Looked};
 ghost use Rattle.least.specs.Effort.{mostOf};
 ghost use Rattle.least.specs.inside.Outcome.{Lent, Offers, Came, Tried};
@@ -56,13 +57,6 @@ fn raised(slack: u32, lift: u32) -> u32
     } else {
         NEVER
     }
-}
-
-// What is left of x after y is taken off.
-fn lessened(x: u32, y: u32) -> u32
-    ensures { λ z. ⌜ z ≡ x - y ⌝ }
-{
-    if y < x { x - y } else { 0 }
 }
 
 // Whether what is known answers for what is asked: it is the least itself, or no less than that.
@@ -137,7 +131,7 @@ pub fn least(
     time: u32,
     slack: u32,
 ) -> u32
-    requires { ⌜ Lent (recorderOf (now r)) (now extras) (now latest) (now memory) × ((now entered ≤ budget) × (Held (recorderOf (now r)) (now v) set time × (slack ≤ 2147483647))) ⌝ }
+    requires { ⌜ Lent (recorderOf (now r)) (now extras) (now latest) (now memory) × ((now entered ≤ budget) × (ShownAt (recorderOf (now r)) (now v) set time × (slack ≤ 2147483647))) ⌝ }
     ensures lent { λ _. ⌜ Lent (recorderOf (now (r .entry))) (now (extras .entry)) (now (latest .entry)) (now (memory .exit)) × (now (entered .exit) ≤ budget) ⌝ }
     ensures answer { λ x. ⌜ ((m : ℕ) (u : Vertex) → Shows (recorderOf (now (r .entry))) (now (v .entry)) set m u → u .time ≡ time → Came budget (now (entered .entry)) (now (entered .exit)) (mostOf (recorderOf (now (r .entry))) m time) x (Answers slack (leastOf (recorderOf (now (r .entry))) m u) x)) ⌝ }
 {
@@ -182,7 +176,7 @@ fn learn(
     key: Key,
     spot: Spot,
 ) -> u32
-    requires { ⌜ Lent (recorderOf (now r)) (now extras) (now latest) (now memory) × ((now entered ≤ budget) × (Held (recorderOf (now r)) (now v) set time × ((slack ≤ 2147483647) × ((0 < set) × ((key ≡ keyBy (recorderOf (now r)) (capAt (now extras)) (now v) set time) × Looked (now memory) key spot))))) ⌝ }
+    requires { ⌜ Lent (recorderOf (now r)) (now extras) (now latest) (now memory) × ((now entered ≤ budget) × (ShownAt (recorderOf (now r)) (now v) set time × ((slack ≤ 2147483647) × ((0 < set) × ((key ≡ keyBy (recorderOf (now r)) (capAt (now extras)) (now v) set time) × Looked (now memory) key spot))))) ⌝ }
     ensures lent { λ _. ⌜ Lent (recorderOf (now (r .entry))) (now (extras .entry)) (now (latest .entry)) (now (memory .exit)) × (now (entered .exit) ≤ budget) ⌝ }
     ensures answer { λ x. ⌜ ((m : ℕ) (u : Vertex) → Shows (recorderOf (now (r .entry))) (now (v .entry)) set (suc m) u → u .time ≡ time → Came budget (now (entered .entry)) (now (entered .exit)) (mostOf (recorderOf (now (r .entry))) (suc m) time) x (Answers slack (leastOf (recorderOf (now (r .entry))) (suc m) u) x)) ⌝ }
 {
@@ -208,7 +202,7 @@ fn learn(
     if found == STOP {
         return STOP;
     }
-    let best = later(found, spot.known / 2);
+    let best = larger(found, spot.known / 2);
     let work = lessened(*entered, before);
     remember(memory, spot.slot, key, work, best, limit);
     best
@@ -228,7 +222,7 @@ fn examine(
     time: u32,
     limit: u32,
 ) -> u32
-    requires { ⌜ Lent (recorderOf (now r)) (now extras) (now latest) (now memory) × ((now entered ≤ budget) × (Held (recorderOf (now r)) (now v) set time × ((limit ≤ 2147483647) × (0 < set)))) ⌝ }
+    requires { ⌜ Lent (recorderOf (now r)) (now extras) (now latest) (now memory) × ((now entered ≤ budget) × (ShownAt (recorderOf (now r)) (now v) set time × ((limit ≤ 2147483647) × (0 < set)))) ⌝ }
     ensures lent { λ _. ⌜ Lent (recorderOf (now (r .entry))) (now (extras .entry)) (now (latest .entry)) (now (memory .exit)) × (now (entered .exit) ≤ budget) ⌝ }
     ensures answer { λ x. ⌜ ((m : ℕ) (u : Vertex) → Shows (recorderOf (now (r .entry))) (now (v .entry)) set (suc m) u → u .time ≡ time → Came budget (now (entered .entry)) (now (entered .exit)) ((recorderOf (now (r .entry)) .horizon - time) * suc (jobs (recorderOf (now (r .entry))) * mostOf (recorderOf (now (r .entry))) m 0)) x (Answers limit (leastOf (recorderOf (now (r .entry))) (suc m) u) x)) ⌝ }
 {
@@ -265,12 +259,12 @@ fn examine(
         v,
         set,
         until,
-        sooner(near, limit),
+        smaller(near, limit),
     );
     if far == STOP {
         return STOP;
     }
-    sooner(near, far)
+    smaller(near, far)
 }
 
 // Each unplaced job in turn, at its starts before `until`.
@@ -288,7 +282,7 @@ fn choices(
     until: u32,
     limit: u32,
 ) -> u32
-    requires { ⌜ Lent (recorderOf (now r)) (now extras) (now latest) (now memory) × ((now entered ≤ budget) × (Held (recorderOf (now r)) (now v) set time × ((limit ≤ 2147483647) × (0 < set)))) ⌝ }
+    requires { ⌜ Lent (recorderOf (now r)) (now extras) (now latest) (now memory) × ((now entered ≤ budget) × (ShownAt (recorderOf (now r)) (now v) set time × ((limit ≤ 2147483647) × (0 < set)))) ⌝ }
     ensures lent { λ _. ⌜ Lent (recorderOf (now (r .entry))) (now (extras .entry)) (now (latest .entry)) (now (memory .exit)) × (now (entered .exit) ≤ budget) ⌝ }
     ensures answer { λ x. ⌜ ((m : ℕ) (u : Vertex) → Shows (recorderOf (now (r .entry))) (now (v .entry)) set (suc m) u → u .time ≡ time → Came budget (now (entered .entry)) (now (entered .exit)) (jobs (recorderOf (now (r .entry))) * ((until - time) * mostOf (recorderOf (now (r .entry))) m 0)) x (Answers limit (leastTo (recorderOf (now (r .entry))) m u until) x)) ⌝ }
 {
@@ -346,18 +340,18 @@ fn tries(
     limit: u32,
     given: u32,
 ) -> u32
-    requires { ⌜ Lent (recorderOf (now r)) (now extras) (now latest) (now memory) × ((now entered ≤ budget) × (Held (recorderOf (now r)) (now v) set time × ((limit ≤ 2147483647) × ((given ≤ 2147483647) × ((j < jobs (recorderOf (now r))) × ((has set j ≡ true) × (p ≡ 2 ^ j))))))) ⌝ }
+    requires { ⌜ Lent (recorderOf (now r)) (now extras) (now latest) (now memory) × ((now entered ≤ budget) × (ShownAt (recorderOf (now r)) (now v) set time × ((limit ≤ 2147483647) × ((given ≤ 2147483647) × ((j < jobs (recorderOf (now r))) × ((has set j ≡ true) × (p ≡ 2 ^ j))))))) ⌝ }
     ensures lent { λ _. ⌜ Lent (recorderOf (now (r .entry))) (now (extras .entry)) (now (latest .entry)) (now (memory .exit)) × (now (entered .exit) ≤ budget) ⌝ }
     ensures answer { λ x. ⌜ ((m : ℕ) (u : Vertex) (o : Option ℕ) → Shows (recorderOf (now (r .entry))) (now (v .entry)) set (suc m) u → u .time ≡ time → Answers limit o given → Came budget (now (entered .entry)) (now (entered .exit)) ((until - time) * mostOf (recorderOf (now (r .entry))) m 0) x (Answers limit (lesser o (leastIn (viaChild (recorderOf (now (r .entry))) m u j) (startsTo (recorderOf (now (r .entry))) (u .time) until j))) x)) ⌝ }
 {
-    let to = sooner(until, last_of(r, latest, set - p, j));
+    let to = smaller(until, last_of(r, latest, set - p, j));
     let fall = falls_of(r, extras, v, j);
     let mut best = given;
     let mut ahead: u32 = 0;
-    let mut s = later(time, wide(release_of(r, j)));
+    let mut s = larger(time, wide(release_of(r, j)));
     while s < to {
         let lead = lead_of(r, extras, v, j, s);
-        let most = sooner(limit, best);
+        let most = smaller(limit, best);
         let x = attempt(
             r,
             extras,
@@ -378,7 +372,7 @@ fn tries(
         if x == STOP {
             return STOP;
         }
-        best = sooner(best, lead + x);
+        best = smaller(best, lead + x);
         ahead = lessened(x, fall);
         s += 1;
     }
@@ -428,5 +422,5 @@ fn attempt(
     if x == STOP {
         return STOP;
     }
-    later(x, ahead)
+    larger(x, ahead)
 }

@@ -6,6 +6,7 @@ ghost use lib.ListN.{length};
 ghost use Rattle.schedule.specs.Quantities.{jobs, Valid};
 ghost use Rattle.mend.specs.inside.Settling.{Settles};
 use base::JobNumber;
+use base::later;
 use schedule::Recorder;
 use schedule::running_order;
 
@@ -14,15 +15,6 @@ pub struct Settled {
     pub late: bool,
     pub job: JobNumber,
     pub starts: [u16; 16],
-}
-
-fn later(a: u16, b: u16) -> u16
-    ensures { λ r. ⌜ r ≡ max a b ⌝ }
-{
-    if a < b {
-        return b;
-    }
-    a
 }
 
 // The latest of a job's given start, its release and the end of the job before it.

@@ -81,7 +81,7 @@ pub data RowsCases (starts lent : List ℕ) (R : Recorder) : Answer → List ℕ
   faulty : {n j : ℕ} → length starts ≡ jobs R → R .devices .count * R .horizon ≤ length lent → Fault R starts n j → RowsCases starts lent R (refusalAt n j) lent
   given : {rows : ℕ → List Letter} → R .devices .count * R .horizon ≤ length lent → Feasible R starts → Rows R starts rows
       → RowsCases starts lent R (success (R .horizon) (sum (R .devices .count) (λ k. energy (device R k) (rows k))) 0)
-      (laid (R .digits) rows (R .devices .count) ++ drop (R .devices .count * R .horizon) lent)
+      (laid (R .sleeps) rows (R .devices .count) ++ drop (R .devices .count * R .horizon) lent)
 
 module _ (starts lent : List ℕ) (R : Recorder) where
   pub rows-cases : {a : Answer} {l : List ℕ} → RowsOf starts lent R a l → RowsCases starts lent R a l

@@ -1,7 +1,6 @@
 -- No second outcome satisfies a promise: for every input each of the eight relations has one answer, and one state of the lent memory. `only-of-file` says it
 -- of every promise over a file that has one outcome for each valid recorder; so each operation shows it of a recorder only, by the laws of the order of refusals.
 use mathlib.Core.Path.{_≡_, refl, sym, ap, subst, _∙_}
-use mathlib.Core.Bool.{Bool}
 use mathlib.Core.List.{List, _++_}
 use Prim.Native.Nat.{ℕ, zero, suc, _*_, _<_}
 use native.Mathlib.Omega.{arith}
@@ -9,6 +8,7 @@ use lib.IntN.{ℤ}
 use lib.ListN.{drop}
 use Rattle.base.specs.Sums.{sum}
 use Rattle.base.proofs.Additions.{sum-same}
+use Rattle.device.specs.declared.Sleeps.{Sleeps}
 use Rattle.device.specs.Row.{Letter, energy}
 use Rattle.schedule.specs.declared.Recorder.{Recorder}
 use Rattle.schedule.specs.Quantities.{device, Valid}
@@ -75,11 +75,11 @@ only-judged file starts =
 -- ---- `rows`
 
 -- Rows that are the same device by device are laid out the same,
-laid-same : (digits : Bool) (n : ℕ) (rows rows′ : ℕ → List Letter) → ((k : ℕ) → k < n → rows k ≡ rows′ k) → laid digits rows n ≡ laid digits rows′ n
+laid-same : (sleeps : Sleeps) (n : ℕ) (rows rows′ : ℕ → List Letter) → ((k : ℕ) → k < n → rows k ≡ rows′ k) → laid sleeps rows n ≡ laid sleeps rows′ n
 unfolding laid
-laid-same digits zero rows rows′ h = refl
-laid-same digits (suc n) rows rows′ h =
-    let e = laid-same digits n rows rows′ (λ k l. h k (omega arith)) in
+laid-same sleeps zero rows rows′ h = refl
+laid-same sleeps (suc n) rows rows′ h =
+    let e = laid-same sleeps n rows rows′ (λ k l. h k (omega arith)) in
     let f = h n (omega arith) in
     cc
 
@@ -87,11 +87,11 @@ laid-same digits (suc n) rows rows′ h =
 given-one : (lent : List ℕ) (R : Recorder) → Valid R → {starts : List ℕ} {rows rows′ : ℕ → List Letter} → Rows R starts rows → Rows R starts rows′
     → (success (R .horizon) (sum (R .devices .count) (λ k. energy (device R k) (rows k))) 0
     ≡ success (R .horizon) (sum (R .devices .count) (λ k. energy (device R k) (rows′ k))) 0)
-    × (laid (R .digits) rows (R .devices .count) ++ drop (R .devices .count * R .horizon) lent ≡ laid (R .digits) rows′ (R .devices .count) ++ drop (R .devices .count * R .horizon) lent)
+    × (laid (R .sleeps) rows (R .devices .count) ++ drop (R .devices .count * R .horizon) lent ≡ laid (R .sleeps) rows′ (R .devices .count) ++ drop (R .devices .count * R .horizon) lent)
 given-one lent R v {starts} {rows} {rows′} p p′ =
     let same : (k : ℕ) → k < R .devices .count → rows k ≡ rows′ k = λ k l. rows-only R v p k l ∙ sym (rows-only R v p′ k l) in
     let e = sum-same (R .devices .count) (λ k. energy (device R k) (rows k)) (λ k. energy (device R k) (rows′ k)) (λ k l. ap (energy (device R k)) (same k l)) in
-    let f = laid-same (R .digits) (R .devices .count) rows rows′ same in
+    let f = laid-same (R .sleeps) (R .devices .count) rows rows′ same in
     (cc, cc)
 
 pub one-rows : (starts lent : List ℕ) (R : Recorder) → Valid R → One (RowsOf starts lent R)

@@ -10,7 +10,7 @@ use Rattle.tables.specs.Layout.{kindOf, bodyOf}
 use Rattle.tables.specs.inside.Held.{Whole}
 use Rattle.request.specs.Format.{readOf}
 use Rattle.request.proofs.Accepted.{accepted-valid}
-use Rattle.request.proofs.Cutting.{accepted-whole}
+use Rattle.request.proofs.Limiting.{accepted-whole}
 use Rattle.planner.specs.declared.Answer.{Answer}
 use Rattle.planner.specs.Promises.{refusal, Refused, Reads, OfFile, refused, read}
 

@@ -13,7 +13,7 @@ use Rattle.tables.specs.Layout.{kindOf, bodyOf, layoutOf, bytesOf, tablesAs, ta
 use Rattle.tables.proofs.Back.{kind-back, body-back, tables-back, write-back, bytes-back, body-bytes, kind-counted, layout-counted}
 use Rattle.request.specs.Format.{readAs, readOf, accepted}
 use Rattle.request.proofs.Accepted.{refused-number, number-as}
-use Rattle.request.proofs.Cutting.{accepted-whole}
+use Rattle.request.proofs.Limiting.{accepted-whole}
 use Rattle.request.proofs.Marks.{first-plain, read-marked}
 use Rattle.planner.specs.declared.Answer.{Answer}
 use Rattle.planner.specs.declared.FileTables.{FileTables}

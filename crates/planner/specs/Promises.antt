@@ -122,7 +122,7 @@ RowsOf starts lent R =
     (Unless (length lent < R .devices .count * R .horizon) (refusal 15) lent
     (UnlessFaulty R starts lent
     (GivesSuch (Rows R starts) (λ rows. success (R .horizon) (sum (R .devices .count) (λ k. energy (device R k) (rows k))) 0)
-    (λ rows. laid (R .digits) rows (R .devices .count) ++ drop (R .devices .count * R .horizon) lent))))
+    (λ rows. laid (R .sleeps) rows (R .devices .count) ++ drop (R .devices .count * R .horizon) lent))))
 
 abbrev pub Rowed : List ℕ → List ℕ → List ℕ → Answer → List ℕ → Type 0
 Rowed file starts lent a after = OfFile file lent (RowsOf starts lent) a after

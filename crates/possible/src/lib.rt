@@ -28,6 +28,7 @@ fn without_devices(r: Recorder) -> Recorder
     requires { ⌜ Valid r ⌝ }
     ensures { λ q. ⌜ Bare r q ⌝ }
 {
+    let sleeps = r.sleeps;
     let mut devices = r.devices;
     devices.count = 0;
     let mut jobs = r.jobs;
@@ -39,7 +40,7 @@ fn without_devices(r: Recorder) -> Recorder
     Recorder {
         horizon: r.horizon,
         round: r.round,
-        digits: r.digits,
+        sleeps,
         devices,
         jobs,
     }

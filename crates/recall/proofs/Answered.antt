@@ -9,7 +9,7 @@ use Rattle.schedule.specs.declared.Recorder.{Recorder}
 use Rattle.schedule.specs.Visiting.{Vertex, Visited, planEnergy, choices, floor, visit}
 use Rattle.extras.specs.inside.Tabled.{Tabled, capAt}
 use Rattle.stored.specs.declared.Key.{Key}
-use Rattle.vertex.specs.inside.Shown.{Shows, Held}
+use Rattle.vertex.specs.inside.Shown.{Shows, ShownAt}
 use Rattle.stored.specs.inside.Naming.{keyBy}
 use Rattle.stored.specs.inside.Naming.{Named}
 use Rattle.stored.proofs.Keyed.{key-named}
@@ -28,7 +28,7 @@ module _ (R : Recorder) (ex l : List ℕ) (tabled : Tabled R ex) (a time : ℕ) 
       subst (λ (n : ℕ). Named R (capAt ex) (keyBy R (capAt ex) l a n) u) t (key-named R (tabled .valid) (capAt ex) (tabled .caps) (tabled .cap-most) l a m u h)
 
   -- The head of the key leaves room for the slack.
-  pub held-head : Held R l a time → keyBy R (capAt ex) l a time .head < 536870912
+  pub held-head : ShownAt R l a time → keyBy R (capAt ex) l a time .head < 536870912
   held-head h =
       named-head R (tabled .valid) (capAt ex) (h .left) (h .vertex) (h .shows .reached) (keyBy R (capAt ex) l a time)
       (shown-named (h .left) (h .vertex) (h .shows) (h .time))

@@ -9,7 +9,7 @@ use vertex::cells::Cells;
 ghost use Prim.Native.Nat.{_<_};
 ghost use Rattle.flat.specs.inside.Flat.{recorderOf};
 ghost use Rattle.extras.specs.inside.Tabled.{Tabled, capAt};
-ghost use Rattle.vertex.specs.inside.Shown.{Held};
+ghost use Rattle.vertex.specs.inside.Shown.{ShownAt};
 ghost use Rattle.recall.specs.inside.Entries.{Right};
 ghost use Rattle.recall.specs.inside.Counts.{Counts};
 ghost use Rattle.recall.specs.inside.Asks.{Asks};
@@ -30,7 +30,7 @@ pub fn ask(
     time: u32,
     slack: u32,
 ) -> Asked
-    requires { ⌜ Tabled (recorderOf (now r)) (now extras) × (Held (recorderOf (now r)) (now v) set time × Right (Counts (recorderOf (now r)) (capAt (now extras))) (now memory)) ⌝ }
+    requires { ⌜ Tabled (recorderOf (now r)) (now extras) × (ShownAt (recorderOf (now r)) (now v) set time × Right (Counts (recorderOf (now r)) (capAt (now extras))) (now memory)) ⌝ }
     ensures { λ x. ⌜ Asks (recorderOf (now (r .entry))) (capAt (now (extras .entry))) (now (v .entry)) set time slack x ⌝ }
 {
     let key = slacked(key_of(r, extras, v, set, time), slack);

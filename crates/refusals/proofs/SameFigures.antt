@@ -17,7 +17,7 @@ use Rattle.tables.specs.declared.Kind.{Kind}
 use Rattle.tables.specs.Records.{deviceAt, deviceSize, taskAt, jobAt}
 use Rattle.tables.specs.Layout.{kindOf, bodyOf, devicePlace, tasksPlace, taskCount, jobsPlace}
 use Rattle.request.specs.declared.Section.the-variants.{DeviceRecords, TaskRecords, JobRecords}
-use Rattle.request.specs.Format.{deviceTable, headOf, recordTable, recordFault, horizonOf, countOf, jobRecords, jobSection, taskSection, faultAs, digitsIn, recorderAs, readOf, refused}
+use Rattle.request.specs.Format.{deviceTable, headOf, recordTable, recordFault, horizonOf, countOf, jobRecords, jobSection, taskSection, faultAs, sleepsIn, recorderAs, readOf, refused}
 use Rattle.request.proofs.Beyond.{SameTasks, horizon-same, unfolded-same}
 use Rattle.request.proofs.Faultless.{read-faultless, read-fault}
 use Rattle.request.proofs.Accepted.{accepted-as, number-as}
@@ -214,12 +214,12 @@ module _ (f f′ : List ℕ) (e : Same (kindOf f) (bodyOf f) (kindOf f′) (body
   unfolding readOf
   accepted-same {R} r = read-faultless k₂ (bodyOf f′) (accepted-as k₁ (bodyOf f) R r .0 ∙ equal-refusals k₁ (bodyOf f) k₂ (bodyOf f′) e)
 
-  recorder-same : {R : Recorder} → P.Reads f R → digitsIn k₁ ≡ digitsIn k₂ → R ≡ recorderAs k₂ (bodyOf f′)
+  recorder-same : {R : Recorder} → P.Reads f R → sleepsIn k₁ ≡ sleepsIn k₂ → R ≡ recorderAs k₂ (bodyOf f′)
   unfolding readOf
   recorder-same {R} r d = sym (accepted-as k₁ (bodyOf f) R r .1) ∙ one-recorder k₁ (bodyOf f) k₂ (bodyOf f′) (same-equal k₁ (bodyOf f) k₂ (bodyOf f′) e) d
 
   -- So whatever is promised of the one is promised of the other, in kinds that write a sleep alike, whether they are accepted or not.
-  pub equal-answers : {L : Type 0} (lent : L) (Then : Recorder → Answer → L → Type 0) → digitsIn k₁ ≡ digitsIn k₂
+  pub equal-answers : {L : Type 0} (lent : L) (Then : Recorder → Answer → L → Type 0) → sleepsIn k₁ ≡ sleepsIn k₂
       → {a : Answer} {l : L} → OfFile f lent Then a l → OfFile f′ lent Then a l
   equal-answers lent Then d (P.OfFile.refused q) = P.OfFile.refused (refused-same q)
   equal-answers lent Then d (P.OfFile.read {a = a} {after = l} q t) = P.OfFile.read (accepted-same q) (subst (λ (Y : Recorder). Then Y a l) (recorder-same q d) t)

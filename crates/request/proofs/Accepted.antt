@@ -191,14 +191,3 @@ module _ (s : List ℕ) (r : Request) (e : r ≡ handedOn (readOf s)) where
 
   pub read-refused : (r .number ≡ 0 → ⊥) → readOf s ≡ refused (r .number)
   read-refused h = handed-other (readOf s) r e h
-
--- Whatever the number, the recorder that is handed on is within the sizes of its arrays.
-within : (w : Reading) (r : Request) → ((R : Recorder) → w ≡ accepted R → Valid R) → r ≡ handedOn w
-    → (r .recorder .jobs .count ≤ 16) × (r .recorder .devices .count ≤ 8) × (r .recorder .horizon ≤ 4096)
-unfolding handedOn
-within (refused n) r valid e = rw e (omega arith)
-within (accepted R) r valid e = rw e (omega (arith, valid R refl))
-
-pub handed-within : (s : List ℕ) (r : Request) → r ≡ handedOn (readOf s)
-    → (r .recorder .jobs .count ≤ 16) × (r .recorder .devices .count ≤ 8) × (r .recorder .horizon ≤ 4096)
-handed-within s r e = within (readOf s) r (accepted-valid s) e

@@ -11,4 +11,4 @@ pub mod Accepted
 pub mod Alike
 pub mod Beyond
 pub mod Marks
-pub mod Cutting
+pub mod Limiting

@@ -23,7 +23,7 @@ use Rattle.tables.specs.declared.Kind.the-variants.{First, Second}
 use Rattle.tables.specs.Records.{averaged, firstAt, secondAt, deviceAt, jobAt}
 use Rattle.tables.specs.Layout.{kindOf, bodyOf, devicePlace, tasksPlace, taskCount, jobsPlace}
 use Rattle.request.specs.declared.Section.the-variants.{DeviceRecords}
-use Rattle.request.specs.Format.{accepted, deviceOf, listedJob, noLower, powersTable, deviceTable, recordTable, recordFault, digitsIn, horizonOf, horizonIn, devicesIn, unfolded, jobsOf, jobsIn, listed, recorderAs, readAs, readOf, roundIn}
+use Rattle.request.specs.Format.{accepted, deviceOf, listedJob, noLower, powersTable, deviceTable, recordTable, recordFault, sleepsIn, horizonOf, horizonIn, devicesIn, unfolded, jobsOf, jobsIn, listed, recorderAs, readAs, readOf, roundIn}
 use Rattle.request.proofs.Faultless.{faultless, tasks-alone}
 use Rattle.request.proofs.Accepted.{accepted-as}
 use Rattle.request.proofs.Beyond.{SameTasks, horizon-same, unfolded-same}
@@ -130,11 +130,11 @@ module _ (k : Kind) (s : List ℕ) (k′ : Kind) (s′ : List ℕ) (e : Equal k 
   unfolding jobsOf
   one-jobs = rw (one-listed, one-unfolded, e .tasks)
 
-  pub but-for-letters : recorderAs k s ≡ lettered (digitsIn k) (recorderAs k′ s′)
+  pub but-for-letters : recorderAs k s ≡ lettered (sleepsIn k) (recorderAs k′ s′)
   unfolding recorderAs
   but-for-letters = rw (one-horizon, one-round, one-list, one-jobs)
 
   -- So in kinds that write it alike they make one recorder, and one plan.
-  pub one-recorder : digitsIn k ≡ digitsIn k′ → recorderAs k s ≡ recorderAs k′ s′
+  pub one-recorder : sleepsIn k ≡ sleepsIn k′ → recorderAs k s ≡ recorderAs k′ s′
   unfolding recorderAs
   one-recorder e = but-for-letters ∙ rw e

@@ -9,6 +9,8 @@ use Rattle.base.specs.Bytes.{byteAt, pairAt}
 use Rattle.base.specs.Lists.{upTo, padded}
 use Rattle.base.specs.Refusals.{Refusal, _⇒_, firstThat, orElse, firstOf}
 use Rattle.device.specs.declared.Device.{Device}
+use Rattle.device.specs.declared.Sleeps.{Sleeps}
+use Rattle.device.specs.declared.Sleeps.the-variants.{Plain, Numbered}
 use Rattle.schedule.specs.declared.Job.{Job}
 use Rattle.schedule.specs.declared.Jobs.{Jobs}
 use Rattle.schedule.specs.declared.Devices.{Devices}
@@ -218,11 +220,11 @@ horizonIn k s = horizonOf s (taskCount k s) (tasksPlace k s + 1)
 abbrev pub roundIn : Kind → List ℕ → Bool
 roundIn k s = ltb 0 (taskCount k s)
 
--- In rows a sleep is written as the digit of its level where the file is of the third kind (rule 82).
-abbrev pub digitsIn : Kind → Bool
-digitsIn First = false
-digitsIn Second = false
-digitsIn Third = true
+-- Rows write a sleep as the digit of its level where the file is of the third kind (rule 82).
+abbrev pub sleepsIn : Kind → Sleeps
+sleepsIn First = Plain
+sleepsIn Second = Plain
+sleepsIn Third = Numbered
 
 abbrev pub devicesIn : Kind → List ℕ → List Device
 devicesIn k s = upTo (λ i. deviceOf (deviceAt k s (devicePlace k s i))) (byteAt s 2)
@@ -244,7 +246,7 @@ abbrev pub jobsHeld : List Job → Jobs
 jobsHeld l = record { count = length l; list = padded 16 vacantJob l }
 
 unfoldable pub recorderAs : Kind → List ℕ → Recorder
-recorderAs k s = record { horizon = horizonIn k s; round = roundIn k s; digits = digitsIn k; devices = devicesHeld (devicesIn k s); jobs = jobsHeld (jobsIn k s) }
+recorderAs k s = record { horizon = horizonIn k s; round = roundIn k s; sleeps = sleepsIn k; devices = devicesHeld (devicesIn k s); jobs = jobsHeld (jobsIn k s) }
 
 -- The reading of a kind, and that of a file: by its own kind (rule 75).
 unfoldable pub readAs : Kind → List ℕ → Reading
@@ -258,7 +260,7 @@ readOf s = readAs (kindOf s) (bodyOf s)
 
 -- What the code hands on of a reading: its number, with the recorder or an empty one.
 abbrev pub noRecorder : Recorder
-noRecorder = record { horizon = 0; round = false; digits = false; devices = devicesHeld []; jobs = jobsHeld [] }
+noRecorder = record { horizon = 0; round = false; sleeps = Plain; devices = devicesHeld []; jobs = jobsHeld [] }
 
 unfoldable pub handedOn : Reading → Request
 handedOn (refused n) = record { number = n; recorder = noRecorder }

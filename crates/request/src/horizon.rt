@@ -4,12 +4,7 @@ ghost use Prim.Native.Nat.{ℕ, _+_, _*_, _≤_, _<_, min};
 ghost use Rattle.request.specs.Format.{lcmFrom, horizonOf};
 ghost use Rattle.request.specs.inside.Held.{SoundTasks};
 use super::euclid;
-
-fn capped(h: u32) -> u32
-    ensures { λ r. ⌜ r ≡ min h 4097 ⌝ }
-{
-    if 4096 < h { 4097 } else { h }
-}
+use base::smaller;
 
 // The least common multiple of the periods of the tasks whose records begin at a place.
 fn task_horizon(s: &[u8], tasks: usize, from: usize) -> u32
@@ -38,7 +33,7 @@ pub fn horizon_of(s: &[u8], tasks: usize, from: usize) -> u32
 {
     if tasks == 0 {
         let given = base::pair_at(s, 0);
-        capped(given as u32)
+        smaller(given as u32, 4097)
     } else {
         task_horizon(s, tasks, from)
     }

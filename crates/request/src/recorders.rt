@@ -6,11 +6,12 @@ ghost use lib.ListN.{length};
 ghost use Rattle.base.specs.Lists.{upTo};
 ghost use Rattle.tables.specs.Records.{deviceAt};
 ghost use Rattle.tables.specs.Layout.{devicePlace};
-ghost use Rattle.request.specs.Format.{deviceOf, devicesHeld, digitsIn, faultAs, recorderAs, noRecorder};
+ghost use Rattle.request.specs.Format.{deviceOf, devicesHeld, sleepsIn, faultAs, recorderAs, noRecorder};
 use super::horizon;
 use super::jobs;
 use super::records;
 use device::Device;
+use device::Sleeps;
 use schedule::Devices;
 use schedule::Recorder;
 use tables::Kind;
@@ -50,14 +51,14 @@ fn devices_of(s: &[u8], kind: Kind, n: usize) -> Devices
     devices
 }
 
-// In rows a sleep is written as the digit of its level in files of the third kind.
-fn has_digits(kind: Kind) -> bool
-    ensures { λ r. ⌜ r ≡ digitsIn kind ⌝ }
+// How rows write a sleep: numbered in files of the third kind.
+fn sleeps_in(kind: Kind) -> Sleeps
+    ensures { λ r. ⌜ r ≡ sleepsIn kind ⌝ }
 {
     match kind {
-        Kind::First => false,
-        Kind::Second => false,
-        Kind::Third => true,
+        Kind::First => Sleeps::Plain,
+        Kind::Second => Sleeps::Plain,
+        Kind::Third => Sleeps::Numbered,
     }
 }
 
@@ -75,7 +76,7 @@ pub(crate) fn recorder_in(s: &[u8], kind: Kind) -> Recorder
     Recorder {
         horizon: h as u16,
         round: 0 < tasks,
-        digits: has_digits(kind),
+        sleeps: sleeps_in(kind),
         devices,
         jobs,
     }
@@ -90,7 +91,7 @@ pub(crate) fn no_recorder() -> Recorder
     Recorder {
         horizon: 0,
         round: false,
-        digits: false,
+        sleeps: Sleeps::Plain,
         devices,
         jobs,
     }

@@ -10,6 +10,7 @@ use lib.Dec.{ltb, eqb}
 use lib.ListN.{length}
 use borrow.Author.Tests.{ltb-true, ltb-false, eqb-true, eqb-false}
 use Rattle.base.proofs.Cases.{cond-cases}
+use Rattle.device.specs.declared.Sleeps.the-variants.{Plain}
 use Rattle.schedule.specs.declared.Jobs.{Jobs}
 use Rattle.schedule.specs.declared.Recorder.{Recorder}
 use Rattle.schedule.specs.declared.judging.Verdict.{Verdict}
@@ -19,7 +20,7 @@ use Rattle.schedule.specs.inside.Judging.{Judgement, faulty, feasible, W
 
 -- A recorder of these jobs: what a loop over them says of it, it says of every recorder that holds them.
 abbrev pub holding : Jobs → Recorder
-holding J = record { horizon = 0; round = false; digits = false; devices = record { count = 0; list = [] }; jobs = J }
+holding J = record { horizon = 0; round = false; sleeps = Plain; devices = record { count = 0; list = [] }; jobs = J }
 
 -- What a deciding test says.
 pub decided : {P : Type 0} {b : Bool} → Decides P b → b ≡ true → P

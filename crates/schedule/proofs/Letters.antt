@@ -6,6 +6,7 @@ use mathlib.Core.List.{List, [], _∷_}
 use Prim.Native.Nat.{ℕ, zero, suc, _+_, _-_}
 use Rattle.base.specs.Loops.{through}
 use Rattle.base.proofs.Additions.{sum-same}
+use Rattle.device.specs.declared.Sleeps.{Sleeps}
 use Rattle.device.specs.Row.{Letter, LeastRow, energyOf}
 use Rattle.device.proofs.Pattern.{pattern-alike}
 use Rattle.schedule.specs.declared.Recorder.{Recorder}
@@ -13,37 +14,37 @@ use Rattle.schedule.specs.Quantities.{device, jobs, run, uses}
 use Rattle.schedule.specs.Listing.{Feasible, Place, used, places, usesOf, Rows, Costs, FirstLeast}
 use Rattle.schedule.specs.Visiting.{Vertex, Visited, counted, root, child, startsOf, starts, choices, late, cutA, planEnergy, better, lastEnd, firstStart, since, deviceFloor, floor, cutB, complete, examine, visit, visited, vertices}
 
-abbrev pub lettered : Bool → Recorder → Recorder
-lettered digits R = record { horizon = R .horizon; round = R .round; digits = digits; devices = R .devices; jobs = R .jobs }
+abbrev pub lettered : Sleeps → Recorder → Recorder
+lettered sleeps R = record { horizon = R .horizon; round = R .round; sleeps = sleeps; devices = R .devices; jobs = R .jobs }
 
-module _ (digits : Bool) (R : Recorder) where
-  pub feasible-lettered : {s : List ℕ} → Feasible R s → Feasible (lettered digits R) s
+module _ (sleeps : Sleeps) (R : Recorder) where
+  pub feasible-lettered : {s : List ℕ} → Feasible R s → Feasible (lettered sleeps R) s
   feasible-lettered f = record { one-each = f .one-each; released = f .released; in-time = f .in-time; apart = f .apart }
 
-  pub feasible-plain : {s : List ℕ} → Feasible (lettered digits R) s → Feasible R s
+  pub feasible-plain : {s : List ℕ} → Feasible (lettered sleeps R) s → Feasible R s
   feasible-plain f = record { one-each = f .one-each; released = f .released; in-time = f .in-time; apart = f .apart }
 
-  used-lettered : (k : ℕ) (ps : List Place) (t : ℕ) → used (lettered digits R) k ps t ≡ used R k ps t
+  used-lettered : (k : ℕ) (ps : List Place) (t : ℕ) → used (lettered sleeps R) k ps t ≡ used R k ps t
   unfolding used
   used-lettered k [] t = refl
   used-lettered k (p ∷ ps) t = rw (used-lettered k ps t)
 
-  uses-lettered : (s : List ℕ) (k : ℕ) → usesOf (lettered digits R) s k ≡ usesOf R s k
-  uses-lettered s k = pattern-alike (used (lettered digits R) k (places R s)) (used R k (places R s)) 0 (R .horizon) (λ t a b. used-lettered k (places R s) t)
+  uses-lettered : (s : List ℕ) (k : ℕ) → usesOf (lettered sleeps R) s k ≡ usesOf R s k
+  uses-lettered s k = pattern-alike (used (lettered sleeps R) k (places R s)) (used R k (places R s)) 0 (R .horizon) (λ t a b. used-lettered k (places R s) t)
 
-  pub rows-lettered : {s : List ℕ} {rows : ℕ → List Letter} → Rows R s rows → Rows (lettered digits R) s rows
+  pub rows-lettered : {s : List ℕ} {rows : ℕ → List Letter} → Rows R s rows → Rows (lettered sleeps R) s rows
   rows-lettered {s} {rows} r = record { least = λ k l. subst (λ (u : List Bool). LeastRow (R .round) (device R k) u (rows k)) (sym (uses-lettered s k)) (r .least k l) }
 
-  pub rows-plain : {s : List ℕ} {rows : ℕ → List Letter} → Rows (lettered digits R) s rows → Rows R s rows
+  pub rows-plain : {s : List ℕ} {rows : ℕ → List Letter} → Rows (lettered sleeps R) s rows → Rows R s rows
   rows-plain {s} {rows} r = record { least = λ k l. subst (λ (u : List Bool). LeastRow (R .round) (device R k) u (rows k)) (uses-lettered s k) (r .least k l) }
 
-  pub costs-lettered : {s : List ℕ} {e : ℕ} → Costs R s e → Costs (lettered digits R) s e
+  pub costs-lettered : {s : List ℕ} {e : ℕ} → Costs R s e → Costs (lettered sleeps R) s e
   costs-lettered c = record { rows = c .rows; least = rows-lettered (c .least); sums = c .sums }
 
-  pub costs-plain : {s : List ℕ} {e : ℕ} → Costs (lettered digits R) s e → Costs R s e
+  pub costs-plain : {s : List ℕ} {e : ℕ} → Costs (lettered sleeps R) s e → Costs R s e
   costs-plain c = record { rows = c .rows; least = rows-plain (c .least); sums = c .sums }
 
-  pub plan-lettered : {s : List ℕ} {e : ℕ} → FirstLeast R s e → FirstLeast (lettered digits R) s e
+  pub plan-lettered : {s : List ℕ} {e : ℕ} → FirstLeast R s e → FirstLeast (lettered sleeps R) s e
   plan-lettered p = record {
     feasible = feasible-lettered (p .feasible);
     costs = costs-lettered (p .costs);
@@ -57,9 +58,9 @@ through-same : {A : Type 0} (f g : ℕ → A → A) (l : List ℕ) (a : A) → (
 through-same f g [] a h = refl
 through-same f g (k ∷ l) a h = ap (through f l) (h k a) ∙ through-same f g l (g k a) h
 
-module _ (digits : Bool) (R : Recorder) where
+module _ (sleeps : Sleeps) (R : Recorder) where
   abbrev Q : Recorder
-  Q = lettered digits R
+  Q = lettered sleeps R
 
   late-lettered : (t : ℕ) (l : List ℕ) → late Q t l ≡ late R t l
   unfolding late
@@ -73,7 +74,7 @@ module _ (digits : Bool) (R : Recorder) where
   energy-lettered : (s : List ℕ) → planEnergy Q s ≡ planEnergy R s
   unfolding planEnergy
   energy-lettered s =
-      sum-same (R .devices .count) _ (λ k. energyOf (R .round) (device R k) (usesOf R s k)) (λ k l. ap (energyOf (R .round) (device R k)) (uses-lettered digits R s k))
+      sum-same (R .devices .count) _ (λ k. energyOf (R .round) (device R k) (usesOf R s k)) (λ k l. ap (energyOf (R .round) (device R k)) (uses-lettered sleeps R s k))
 
   better-lettered : (b : Option (List ℕ)) (s : List ℕ) → better Q b s ≡ better R b s
   unfolding better
@@ -102,7 +103,7 @@ module _ (digits : Bool) (R : Recorder) where
       rw (
         since-lettered k (v .placed),
         last-lettered k 0 (v .placed),
-        pattern-alike (used Q k (v .placed)) (used R k (v .placed)) a (e - a) (λ t x y. used-lettered digits R k (v .placed) t),
+        pattern-alike (used Q k (v .placed)) (used R k (v .placed)) a (e - a) (λ t x y. used-lettered sleeps R k (v .placed) t),
       )
 
   floor-lettered : (v : Vertex) → floor Q v ≡ floor R v

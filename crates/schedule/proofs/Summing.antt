@@ -11,7 +11,7 @@ use Rattle.device.specs.inside.Uses.{usedIn}
 use Rattle.schedule.specs.declared.Recorder.{Recorder}
 use Rattle.schedule.specs.Quantities.{device, Valid}
 use Rattle.schedule.specs.Listing.{usesOf}
-use Rattle.schedule.specs.inside.Using.{UsesOf}
+use Rattle.schedule.specs.inside.Using.{UsesGathered}
 use Rattle.schedule.specs.Visiting.{planEnergy}
 use Rattle.schedule.proofs.Bounds.{device-most, devices-more}
 use Rattle.schedule.proofs.Usage.{pattern-uses}
@@ -26,7 +26,7 @@ module _ (R : Recorder) (s : List ℕ) where
   summed-none = record { is = refl; most = omega arith }
 
   -- One device more, with its uses: the sum fits in 32 bits.
-  pub summed-more : Valid R → (k made e : ℕ) (u : Uses) → Summed k made → k < R .devices .count → UsesOf R s k u
+  pub summed-more : Valid R → (k made e : ℕ) (u : Uses) → Summed k made → k < R .devices .count → UsesGathered R s k u
       → (e ≡ energyOf (R .round) (device R k) (pattern (usedIn u) 0 (R .horizon))) × (e ≤ 65535 * R .horizon)
       → (made + e ≤ 2147450880) × Summed (k + 1) (made + e)
   summed-more valid k made e u so l o least =

@@ -11,6 +11,7 @@ use lib.IntN.{ℤ, subℕ}
 use lib.ListN.{length, getD}
 use Rattle.base.specs.Lists.{upTo, upFrom, remove}
 use Rattle.base.specs.Sums.{sum}
+use Rattle.device.specs.declared.Sleeps.{Sleeps}
 use Rattle.device.specs.Row.{Letter, byteOf, LeastRow, energy, pattern}
 use Rattle.schedule.specs.declared.Recorder.{Recorder}
 use Rattle.schedule.specs.Quantities.{device, jobs, release, deadline, run, uses}
@@ -96,9 +97,9 @@ pub record Costs (R : Recorder) (s : List ℕ) (e : ℕ) : Type 0 where
   pub sums : e ≡ sum (R .devices .count) (λ k. energy (device R k) (rows k))
 
 -- The bytes of the first n rows, one after the other (rule 39). Each has H letters, so that device k's begin at place k × H.
-unfoldable pub laid : Bool → (ℕ → List Letter) → ℕ → List ℕ
-laid digits rows zero = []
-laid digits rows (suc k) = laid digits rows k ++ map (byteOf digits) (rows k)
+unfoldable pub laid : Sleeps → (ℕ → List Letter) → ℕ → List ℕ
+laid sleeps rows zero = []
+laid sleeps rows (suc k) = laid sleeps rows k ++ map (byteOf sleeps) (rows k)
 
 -- ---- the first of the least
 

@@ -1,5 +1,6 @@
 // Jobs on one processor: start times judged, their margins, and the rows and the energy of the plan that they make. The search is in crate visit.
 use device::Device;
+use device::Sleeps;
 
 mod judging; // judging.rt: the first fault of start times
 mod margins; // margins.rt: the margins of start times
@@ -34,12 +35,12 @@ pub struct Devices {
     pub list: [Device; 8],
 }
 
-// What a request asks to be planned: one round of the clock for these devices and jobs. `round` says that it is repeated for ever (rule 85), `digits`
-// that in its rows a sleep is written as the digit of its level (rule 82).
+// What a request asks to be planned: one round of the clock for these devices and jobs. `round` says that it is repeated for ever (rule 85), `sleeps`
+// how its rows write a sleep (rule 82).
 pub struct Recorder {
     pub horizon: u16,
     pub round: bool,
-    pub digits: bool,
+    pub sleeps: Sleeps,
     pub devices: Devices,
     pub jobs: Jobs,
 }

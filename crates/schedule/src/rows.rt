@@ -33,9 +33,10 @@ pub fn plan_energy(r: Recorder, starts: &[u16]) -> u32
 // running order is found once for all devices.
 pub fn write_rows(r: Recorder, starts: &[u16], out: &mut [u8]) -> u32
     requires { ⌜ Valid r × Feasible r (now starts) × (r .devices .count * r .horizon ≤ length (now out)) ⌝ }
-    ensures { λ e. ⌜ (e ≡ planEnergy r (now (starts .entry))) × (now (out .exit) ≡ laid (r .digits) (planRow r (now (starts .entry))) (r .devices .count) ++ drop (r .devices .count * r .horizon) (now (out .entry))) ⌝ }
+    ensures { λ e. ⌜ (e ≡ planEnergy r (now (starts .entry))) × (now (out .exit) ≡ laid (r .sleeps) (planRow r (now (starts .entry))) (r .devices .count) ++ drop (r .devices .count * r .horizon) (now (out .entry))) ⌝ }
 {
     let devices = r.devices;
+    let sleeps = r.sleeps;
     let h = r.horizon as usize;
     let order = running_order(starts);
     let mut sum: u32 = 0;
@@ -46,7 +47,7 @@ pub fn write_rows(r: Recorder, starts: &[u16], out: &mut [u8]) -> u32
         let at = k * h;
         write_row(
             r.round,
-            r.digits,
+            sleeps,
             devices.list[k],
             r.horizon,
             uses,

@@ -1,12 +1,12 @@
 // The key of a vertex: all that what is still to pay depends on (value/specs/inside/Stored).
 use crate::Key;
+use base::smaller;
+use base::wide;
 use extras::cap_of;
 use flat::Flat;
 use flat::device_count;
 use flat::horizon_of;
 use flat::is_round;
-use flat::numbers::sooner;
-use flat::numbers::wide;
 use vertex::cells::Cells;
 use vertex::gaps::is_unused;
 ghost use mathlib.Core.Path.{_≡_};
@@ -27,9 +27,9 @@ fn idle_with(cap: u32, unused: bool, h: u32, end: u32, first: u32, ahead: u32, t
         if unused {
             return 0;
         }
-        return sooner(time - end, cap);
+        return smaller(time - end, cap);
     }
-    sooner(first + (h - end), cap)
+    smaller(first + (h - end), cap)
 }
 
 fn idle_of(r: &Flat, extras: &[u32], v: &Cells, k: usize, time: u32) -> u64
@@ -59,7 +59,7 @@ fn first_of(r: &Flat, extras: &[u32], v: &Cells, k: usize) -> u64
 {
     if k < device_count(r) {
         if 0 < v[16 + k] {
-            return sooner(v[8 + k], cap_of(extras, k)) as u64;
+            return smaller(v[8 + k], cap_of(extras, k)) as u64;
         }
     }
     0

@@ -8,6 +8,7 @@ ghost use Rattle.base.specs.Refusals.{after};
 ghost use Rattle.tables.specs.Records.{deviceSize};
 ghost use Rattle.tables.specs.inside.Held.{held};
 ghost use Rattle.table_bytes.specs.TableBytes.{kindNamed, tasksFrom, jobsFrom, AreTables, devicesIn, tasksIn, jobsIn, tablesFrom, kindByte, headOf, tableBytes, Few};
+use base::fewer;
 use base::pair_at;
 use tables::DeviceTable;
 use tables::File;
@@ -26,12 +27,6 @@ use tables::push_records;
 use tables::tasks_at;
 
 const HEAD: usize = 9;
-
-fn least(a: usize, b: usize) -> usize
-    ensures { λ r. ⌜ r ≡ min a b ⌝ }
-{
-    if a < b { a } else { b }
-}
 
 fn count_at(s: &[u8], at: usize) -> usize
     requires { ⌜ at + 1 < length (now s) ⌝ }
@@ -69,14 +64,14 @@ fn tasks_from(s: &[u8]) -> usize
     requires { ⌜ 9 ≤ length (now s) ⌝ }
     ensures { λ r. ⌜ (r ≡ tasksFrom (now (s .entry))) × (r ≤ 121) ⌝ }
 {
-    devices_end(s, kind_named(s[0]), least(count_at(s, 3), 8))
+    devices_end(s, kind_named(s[0]), fewer(count_at(s, 3), 8))
 }
 
 fn jobs_from(s: &[u8]) -> usize
     requires { ⌜ 9 ≤ length (now s) ⌝ }
     ensures { λ r. ⌜ (r ≡ jobsFrom (now (s .entry))) × (r ≤ 161) ⌝ }
 {
-    tasks_from(s) + least(count_at(s, 5), 8) * 5
+    tasks_from(s) + fewer(count_at(s, 5), 8) * 5
 }
 
 // Whether these are tables: of some kind, and as long as their counts say.
@@ -92,7 +87,7 @@ pub fn is_tables(s: &[u8]) -> bool
     if 3 < s[0] {
         return false;
     }
-    jobs_from(s) + least(count_at(s, 7), 16) * 7 == s.len()
+    jobs_from(s) + fewer(count_at(s, 7), 16) * 7 == s.len()
 }
 
 // The count as it stands, and the records that are there.
@@ -101,7 +96,7 @@ fn devices_in(s: &[u8], kind: Kind) -> DeviceTable
     ensures { λ r. ⌜ r ≡ devicesIn kind (now (s .entry)) ⌝ }
 {
     let count = count_at(s, 3);
-    let held = devices_at(s, kind, least(count, 8), HEAD);
+    let held = devices_at(s, kind, fewer(count, 8), HEAD);
     let list = held.list;
     DeviceTable { count, list }
 }
@@ -111,7 +106,7 @@ fn tasks_in(s: &[u8], from: usize) -> TaskTable
     ensures { λ r. ⌜ r ≡ tasksIn (now (s .entry)) from ⌝ }
 {
     let count = count_at(s, 5);
-    let held = tasks_at(s, least(count, 8), from);
+    let held = tasks_at(s, fewer(count, 8), from);
     let list = held.list;
     TaskTable { count, list }
 }
@@ -121,7 +116,7 @@ fn jobs_in(s: &[u8], from: usize) -> JobTable
     ensures { λ r. ⌜ r ≡ jobsIn (now (s .entry)) from ⌝ }
 {
     let count = count_at(s, 7);
-    let held = jobs_at(s, least(count, 16), from);
+    let held = jobs_at(s, fewer(count, 16), from);
     let list = held.list;
     JobTable { count, list }
 }

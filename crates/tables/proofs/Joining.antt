@@ -15,7 +15,7 @@ use Rattle.tables.specs.declared.TableName.{TableName}
 use Rattle.tables.specs.declared.TableName.the-variants.{Devices, Tasks, Jobs}
 use Rattle.tables.specs.Records.{deviceBytes}
 use Rattle.tables.specs.Layout.{marker, deviceIn, joined, countIn, recordIn, sectionOf, layoutOf, bytesOf}
-use Rattle.tables.specs.inside.Held.{cut}
+use Rattle.tables.specs.inside.Held.{limited}
 use Rattle.tables.proofs.Levels.{length-third}
 
 pub joined-more : (g : ℕ → List ℕ) (n : ℕ) → joined g (n + 1) ≡ joined g n ++ g n
@@ -73,34 +73,34 @@ module _ (T : Tables) where
   length-layout = omega (arith, length-append (sectionOf T Devices) (sectionOf T Tasks ++ sectionOf T Jobs), length-append (sectionOf T Tasks) (sectionOf T Jobs))
 
 -- Tables whose counts are cut have the same records, and fewer than 18 of each.
-pub record-cut : (T : Tables) (p : TableName) → recordIn (cut T) p ≡ recordIn T p
-unfolding cut
-record-cut T Devices = refl
-record-cut T Tasks = refl
-record-cut T Jobs = refl
+pub record-limited : (T : Tables) (p : TableName) → recordIn (limited T) p ≡ recordIn T p
+unfolding limited
+record-limited T Devices = refl
+record-limited T Tasks = refl
+record-limited T Jobs = refl
 
-pub count-cut : (T : Tables) (p : TableName) → countIn (cut T) p ≤ 17
-unfolding cut
-count-cut T Devices = omega arith
-count-cut T Tasks = omega arith
-count-cut T Jobs = omega arith
+pub count-limited : (T : Tables) (p : TableName) → countIn (limited T) p ≤ 17
+unfolding limited
+count-limited T Devices = omega arith
+count-limited T Tasks = omega arith
+count-limited T Jobs = omega arith
 
 -- So each table of them is short,
-pub devices-short : (T : Tables) → length (sectionOf (cut T) Devices) ≤ 127
-unfolding cut
-devices-short T = omega (arith, length-section (cut T) Devices, length-devices (cut T) (min (T .devices .count) 9))
+pub devices-short : (T : Tables) → length (sectionOf (limited T) Devices) ≤ 127
+unfolding limited
+devices-short T = omega (arith, length-section (limited T) Devices, length-devices (limited T) (min (T .devices .count) 9))
 
-pub tasks-short : (T : Tables) → length (sectionOf (cut T) Tasks) ≤ 46
-unfolding cut
-tasks-short T = omega (arith, length-section (cut T) Tasks, length-tasks (cut T) (min (T .tasks .count) 9))
+pub tasks-short : (T : Tables) → length (sectionOf (limited T) Tasks) ≤ 46
+unfolding limited
+tasks-short T = omega (arith, length-section (limited T) Tasks, length-tasks (limited T) (min (T .tasks .count) 9))
 
-pub jobs-short : (T : Tables) → length (sectionOf (cut T) Jobs) ≤ 120
-unfolding cut
-jobs-short T = omega (arith, length-section (cut T) Jobs, length-jobs (cut T) (min (T .jobs .count) 17))
+pub jobs-short : (T : Tables) → length (sectionOf (limited T) Jobs) ≤ 120
+unfolding limited
+jobs-short T = omega (arith, length-section (limited T) Jobs, length-jobs (limited T) (min (T .jobs .count) 17))
 
 -- and their bytes fit the array.
-pub cut-fits : (T : Tables) → length (bytesOf (cut T)) ≤ 297
+pub limited-fits : (T : Tables) → length (bytesOf (limited T)) ≤ 297
 unfolding bytesOf
-cut-fits T =
+limited-fits T =
     rw length-append
-    (omega (arith, length-marker (cut T .kind), length-layout (cut T), devices-short T, tasks-short T, jobs-short T))
+    (omega (arith, length-marker (limited T .kind), length-layout (limited T), devices-short T, tasks-short T, jobs-short T))

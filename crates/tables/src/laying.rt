@@ -1,12 +1,12 @@
 // The bytes of tables, from the first to the last, in an array.
 ghost use mathlib.Core.Path.{_≡_};
 ghost use mathlib.Core.List.{[], _∷_};
-ghost use Prim.Native.Nat.{_+_, _≤_, _<_, min};
+ghost use Prim.Native.Nat.{_+_, _≤_, _<_};
 ghost use lib.ListN.{length, getD};
 ghost use Rattle.base.specs.Bytes.{pairBytes};
 ghost use Rattle.tables.specs.Records.{firstBytes, secondBytes, powerBytes, powersBytes, thirdBytes, deviceBytes, taskBytes, jobBytes, blankDevice, blankTask, blankJob};
 ghost use Rattle.tables.specs.Layout.{marker, countIn, recordIn, joined, sectionOf, bytesOf};
-ghost use Rattle.tables.specs.inside.Held.{cut, held, appended};
+ghost use Rattle.tables.specs.inside.Held.{limited, held, appended};
 use crate::DeviceRecord;
 use crate::DeviceTable;
 use crate::File;
@@ -17,9 +17,10 @@ use crate::TableName;
 use crate::Tables;
 use crate::TaskRecord;
 use crate::TaskTable;
-use crate::listing::blank_device;
-use crate::listing::blank_job;
-use crate::listing::blank_task;
+use crate::records::blank_device;
+use crate::records::blank_job;
+use crate::records::blank_task;
+use base::fewer;
 
 pub fn empty() -> File
     ensures { λ r. ⌜ r ≡ held [] ⌝ }
@@ -188,20 +189,14 @@ fn push_record(f: File, t: Tables, part: TableName, k: usize) -> File
     }
 }
 
-fn at_most(n: usize, limit: usize) -> usize
-    ensures { λ r. ⌜ r ≡ min n limit ⌝ }
-{
-    if limit < n { limit } else { n }
-}
-
 // The count of a table, as far as it matters: one above the limit stands for all above it.
 fn count_of(t: Tables, part: TableName) -> usize
-    ensures { λ r. ⌜ r ≡ countIn (cut t) part ⌝ }
+    ensures { λ r. ⌜ r ≡ countIn (limited t) part ⌝ }
 {
     match part {
-        TableName::Devices => at_most(t.devices.count, 9),
-        TableName::Tasks => at_most(t.tasks.count, 9),
-        TableName::Jobs => at_most(t.jobs.count, 17),
+        TableName::Devices => fewer(t.devices.count, 9),
+        TableName::Tasks => fewer(t.tasks.count, 9),
+        TableName::Jobs => fewer(t.jobs.count, 17),
     }
 }
 
@@ -221,8 +216,8 @@ pub fn push_records(f: File, t: Tables, part: TableName, n: usize) -> File
 
 // A table after its count.
 fn push_section(f: File, t: Tables, part: TableName) -> File
-    requires { ⌜ f .count + length (sectionOf (cut t) part) ≤ 297 ⌝ }
-    ensures { λ r. ⌜ r ≡ appended f (sectionOf (cut t) part) ⌝ }
+    requires { ⌜ f .count + length (sectionOf (limited t) part) ≤ 297 ⌝ }
+    ensures { λ r. ⌜ r ≡ appended f (sectionOf (limited t) part) ⌝ }
 {
     let n = count_of(t, part);
     let counted = push(f, n as u8);
@@ -231,7 +226,7 @@ fn push_section(f: File, t: Tables, part: TableName) -> File
 
 // The file that the tables make.
 pub fn file_of(t: Tables) -> File
-    ensures { λ r. ⌜ r ≡ held (bytesOf (cut t)) ⌝ }
+    ensures { λ r. ⌜ r ≡ held (bytesOf (limited t)) ⌝ }
 {
     let kind = t.kind;
     let marked = push_marker(empty(), kind);

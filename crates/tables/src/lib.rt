@@ -2,7 +2,7 @@
 // crate request to judge, from the bytes.
 mod kinds; // kinds.rt: the kinds of files, and where their device records stand
 mod laying; // laying.rt: the bytes of tables, from the first to the last
-mod listing; // listing.rt: the tables of a file
+mod records; // records.rt: the tables of a file
 
 pub use crate::kinds::device_place;
 pub use crate::kinds::device_size;
@@ -13,17 +13,18 @@ pub use crate::laying::file_of;
 pub use crate::laying::push;
 pub use crate::laying::push_pair;
 pub use crate::laying::push_records;
-pub use crate::listing::averaged;
-pub use crate::listing::device_at;
-pub use crate::listing::devices_at;
-pub use crate::listing::first_at;
-pub use crate::listing::job_at;
-pub use crate::listing::jobs_at;
-pub use crate::listing::leveled;
-pub use crate::listing::no_tables;
-pub use crate::listing::tables_in;
-pub use crate::listing::task_at;
-pub use crate::listing::tasks_at;
+pub use crate::records::averaged;
+pub use crate::records::blank_device;
+pub use crate::records::device_at;
+pub use crate::records::devices_at;
+pub use crate::records::first_at;
+pub use crate::records::job_at;
+pub use crate::records::jobs_at;
+pub use crate::records::leveled;
+pub use crate::records::no_tables;
+pub use crate::records::tables_in;
+pub use crate::records::task_at;
+pub use crate::records::tasks_at;
 
 // The kind of a file: what its first bytes say of the device records in it (rules 75 and 80).
 pub enum Kind {

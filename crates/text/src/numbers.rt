@@ -1,16 +1,10 @@
 // A number in digits.
 ghost use mathlib.Core.Path.{_≡_};
-ghost use Prim.Native.Nat.{_≤_, min};
 ghost use Rattle.text.specs.inside.Cursors.{numberOf};
+use base::smaller;
 
 // What a field that is no number of 16 bits counts as.
 const NONE: u32 = 65536;
-
-fn at_most(n: u32, limit: u32) -> u32
-    ensures { λ r. ⌜ r ≡ min n limit ⌝ }
-{
-    if limit < n { limit } else { n }
-}
 
 // The value never passes `NONE`, however many digits there are.
 pub fn number_of(field: &[u8]) -> u32
@@ -30,7 +24,7 @@ pub fn number_of(field: &[u8]) -> u32
         if b'9' < b {
             return NONE;
         }
-        value = at_most(value * 10 + (b - b'0') as u32, NONE);
+        value = smaller(value * 10 + (b - b'0') as u32, NONE);
         i += 1;
     }
     value

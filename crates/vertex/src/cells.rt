@@ -1,11 +1,11 @@
 // A vertex as lent numbers (specs/inside/Shown): what of it decides how much is still to pay, and both sums over its unplaced jobs. The root, and a job placed.
 use crate::gaps::is_unused;
+use base::wide;
 use flat::Flat;
 use flat::device_count;
 use flat::is_round;
 use flat::is_used;
 use flat::job_count;
-use flat::numbers::wide;
 use flat::run_of;
 ghost use mathlib.Core.Path.{_≡_};
 ghost use mathlib.Core.Bool.{cond};

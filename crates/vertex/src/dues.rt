@@ -1,10 +1,10 @@
 // Cut A (rule 43) as one comparison: the latest time at which a child passes it depends on its parent and its job alone. No device plays a part here.
 use base::JobNumber;
+use base::smaller;
+use base::wide;
 use flat::Flat;
 use flat::deadline_of;
 use flat::job_count;
-use flat::numbers::sooner;
-use flat::numbers::wide;
 use flat::run_of;
 ghost use mathlib.Core.Path.{_≡_};
 ghost use Prim.Native.Nat.{_≤_};
@@ -32,7 +32,7 @@ fn due_with(d: Dues, j: JobNumber, x: u32) -> Dues
         };
     }
     let at = d.at;
-    let second = sooner(d.second, x);
+    let second = smaller(d.second, x);
     Dues {
         at,
         first: d.first,
@@ -71,8 +71,8 @@ pub fn limit_of(d: Dues, h: u32, rest: u32, j: JobNumber) -> u32
 {
     let at = d.at;
     if at.0 == j.0 {
-        sooner(h - rest, d.second)
+        smaller(h - rest, d.second)
     } else {
-        sooner(h - rest, d.first)
+        smaller(h - rest, d.first)
     }
 }

@@ -1,5 +1,6 @@
 // The extras that a job adds before it starts, and those that the end adds; from where on no later start adds less; and the floor with nothing added.
 use crate::cells::Cells;
+use base::wide;
 use extras::extra_of;
 use extras::foot_of;
 use flat::Flat;
@@ -8,7 +9,6 @@ use flat::device_count;
 use flat::horizon_of;
 use flat::is_round;
 use flat::is_used;
-use flat::numbers::wide;
 use flat::run_of;
 use flat::work_power;
 ghost use mathlib.Core.Path.{_≡_};

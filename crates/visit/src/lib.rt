@@ -1,15 +1,16 @@
 // The search for the cheapest schedule, and for the first one whatever it costs: depth first, under a budget of vertices (rules 40 to 48, 60 to 63). The parent is
 // lent for reading, and a child is made only where no cut drops it and jobs are left to place.
 use base::JobNumber;
+use base::larger;
+use base::lessened;
+use base::smaller;
+use base::wide;
 use extras::laying::lay_extras;
 use flat::Flat;
 use flat::deadline_of;
 use flat::flat_of;
 use flat::horizon_of;
 use flat::job_count;
-use flat::numbers::later;
-use flat::numbers::sooner;
-use flat::numbers::wide;
 use flat::release_of;
 use flat::run_of;
 use latest::all_jobs;
@@ -66,20 +67,13 @@ use crate::tally::offer;
 use crate::tally::stops;
 
 // So many vertices are visited without a memory.
-const FEW: u32 = 1024;
+const FEW: u32 = 256;
 
 // The answer of the search: 0 or the number of its refusal, and what goes with it.
 pub struct Found {
     pub number: u8,
     pub energy: u32,
     pub count: u32,
-}
-
-// What is left of x after y is taken off.
-fn lessened(x: u32, y: u32) -> u32
-    ensures { λ z. ⌜ z ≡ x - y ⌝ }
-{
-    if y < x { x - y } else { 0 }
 }
 
 // Up to which start of job j, it not included, children need be looked at one by one: from there on cut A drops them, or the job misses its deadline.
@@ -89,7 +83,7 @@ fn first_cut(r: &Flat, v: &Cells, dues: Dues, j: JobNumber) -> u32
 {
     let c = wide(run_of(r, j.0));
     let limit = limit_of(dues, wide(horizon_of(r)), v[LOAD] - c, j);
-    lessened(sooner(limit, wide(deadline_of(r, j.0))) + 1, c)
+    lessened(smaller(limit, wide(deadline_of(r, j.0))) + 1, c)
 }
 
 // The same, once the child that places job j at s has the floor `floor`: where cut B drops it and no later start adds less, it drops all from here on.
@@ -114,8 +108,11 @@ fn cut_at(
     cut
 }
 
-// Whether a set has two jobs or more. Below a vertex with one the work is less than looking for it.
-fn is_many(set: usize) -> bool {
+// Whether a set has two jobs or more, and a memory of so many words an entry. Below a vertex with one job the work is less than looking for it.
+fn is_many(set: usize, words: usize) -> bool {
+    if words < 6 {
+        return false;
+    }
     let mut rest = set;
     let mut i: usize = 0;
     while i < 16 {
@@ -224,7 +221,7 @@ fn below(
     ensures kept { λ _. ⌜ Leaves (recorderOf (now (r .entry))) (now (extras .entry)) (now (memory .exit)) (now (tally .entry)) (now (tally .exit)) ⌝ }
     ensures came { λ x. ⌜ ChoicesCame (recorderOf (now (r .entry))) budget (now (v .entry)) (now (tally .entry)) (now (tally .exit)) x set from time ⌝ }
 {
-    if !is_many(set) {
+    if !is_many(set, memory.len()) {
         return choices(r, extras, memory, v, tally, budget, set, from, time);
     }
     let slack = slack_of(tally[ENERGY], from);
@@ -328,7 +325,7 @@ fn tries(
     ensures came { λ x. ⌜ StartsCame (recorderOf (now (r .entry))) budget (now (v .entry)) (now (tally .entry)) (now (tally .exit)) x set from time (j .0) ⌝ }
 {
     let mut cut = first_cut(r, v, dues, j);
-    let mut s = later(time, wide(release_of(r, j.0)));
+    let mut s = larger(time, wide(release_of(r, j.0)));
     while s < cut {
         let floor = from + lead_of(r, extras, v, j.0, s);
         cut = cut_at(r, extras, v, tally[ENERGY], floor, cut, j.0, s);
@@ -466,10 +463,10 @@ fn own_visit(r: &Flat, extras: &[u32], tally: &mut Tally, stop: bool, budget: u3
 // The same without one, under a budget of few vertices.
 fn few_visit(r: &Flat, extras: &[u32], tally: &mut Tally, stop: bool, budget: u32) -> bool
     requires { ⌜ Tabled (recorderOf (now r)) (now extras) × (length (now tally) ≡ 35) ⌝ }
-    ensures { λ x. ⌜ (length (now (tally .exit)) ≡ 35) × Ran (recorderOf (now (r .entry))) stop (min budget 1024) (now (tally .exit)) x ⌝ }
+    ensures { λ x. ⌜ (length (now (tally .exit)) ≡ 35) × Ran (recorderOf (now (r .entry))) stop (min budget 256) (now (tally .exit)) x ⌝ }
 {
     let mut none = [0u64; 1];
-    whole_visit(r, extras, &mut none, tally, stop, sooner(budget, FEW))
+    whole_visit(r, extras, &mut none, tally, stop, smaller(budget, FEW))
 }
 
 // The same: without a memory first, since to forget one takes longer than a few vertices; with one where these do not suffice and the budget has more, its own or the

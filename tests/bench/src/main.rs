@@ -1,6 +1,6 @@
 //! Plans requests of some million vertices with four plain searches in Rust and with the proved search,
-//! and prints vertices per second of each and the proved one's ratio to each plain one. Then how long it
-//! takes to say whether there is any plan, by a visit and by sets of jobs, beside the search for the
+//! and prints vertices per second of each and the proved one's ratio to each plain one. Then what a call
+//! takes on requests of few vertices; how long it takes to say whether there is any plan, by a visit and by sets of jobs, beside the search for the
 //! cheapest; and of both by the number of jobs.
 //!
 //! `./bench` at the top builds the proved library and runs all; `./bench COMMIT` races that commit's
@@ -19,6 +19,9 @@ const ROUNDS: usize = 3;
 
 /// What takes a few milliseconds may be held up in each of three rounds.
 const QUICK_ROUNDS: usize = 20;
+
+/// What takes microseconds is called so often in a round.
+const CALLS: u32 = 500;
 
 /// Every request is planned to its end.
 const BUDGET: u32 = u32::MAX;
@@ -144,6 +147,34 @@ fn bench() -> Result<(), String> {
     Ok(())
 }
 
+/// Requests of few vertices: what one call takes, in the best of some rounds in which the proved
+/// searches take turns.
+fn small() {
+    for request in requests::small() {
+        let mut line = format!("{:30}", request.name);
+        let proved: Vec<_> = racers()
+            .into_iter()
+            .filter(|racer| ["before", "proved"].contains(&racer.name))
+            .collect();
+        let mut best = vec![Duration::MAX; proved.len()];
+        let mut count = 0;
+        for _ in 0..QUICK_ROUNDS {
+            for (racer, best) in proved.iter().zip(&mut best) {
+                let begin = Instant::now();
+                for _ in 0..CALLS {
+                    count = (racer.search)(&request.file, BUDGET).count;
+                }
+                *best = (*best).min(begin.elapsed() / CALLS);
+            }
+        }
+        line += &format!(" {count:>11} vertices");
+        for (racer, best) in proved.iter().zip(best) {
+            line += &format!("  {} {best:.1?}", racer.name);
+        }
+        println!("{line}");
+    }
+}
+
 /// The best time of some rounds, and what came out.
 fn timed(answer: fn(&[u8], u32) -> Outcome, file: &[u8], rounds: usize) -> (Outcome, Duration) {
     let round = |_| {
@@ -203,6 +234,7 @@ fn main() -> ExitCode {
     }
     match bench() {
         Ok(()) => {
+            small();
             answers();
             answers_by_jobs();
             ExitCode::SUCCESS

@@ -135,6 +135,39 @@ pub fn all() -> Vec<Named> {
     ]
 }
 
+/// Of few vertices, so that a search's time is mostly what it takes to begin: the least of figures
+/// (P3), eight devices over the longest round, and two requests of some hundred vertices.
+pub fn small() -> Vec<Named> {
+    let named = |name, tables: Tables| Named {
+        name,
+        file: tables.bytes(),
+    };
+    let few = |horizon, count| Tables {
+        horizon,
+        devices: vec![device_a(), device(2, 9, 1, 4), device(3, 12, 2, 5)],
+        tasks: Vec::new(),
+        jobs: (0..count)
+            .map(|n| job(6 * n, 6 * n + 9, 2, 1 << (n % 3)))
+            .collect(),
+    };
+    let mut wide = eight_devices(4096);
+    wide.jobs = vec![job(0, 3, 1, 0x81), job(4000, 4003, 1, 0x42)];
+    vec![
+        named(
+            "P3",
+            Tables {
+                horizon: 5,
+                devices: vec![device_a()],
+                tasks: Vec::new(),
+                jobs: vec![job(0, 5, 2, 1)],
+            },
+        ),
+        named("3 jobs, 3 devices, 24 ticks", few(24, 3)),
+        named("5 jobs, 3 devices, 40 ticks", few(40, 5)),
+        named("2 jobs, 8 devices, 4,096 ticks", wide),
+    ]
+}
+
 #[cfg(test)]
 mod tests {
     use super::*;

@@ -1,10 +1,11 @@
 -- What the code keeps of a gap: the trip that is best so far, and its bytes.
 use mathlib.Core.Path.{_≡_}
-use mathlib.Core.Bool.{Bool, false}
+use mathlib.Core.Bool.{false}
 use mathlib.Core.List.{List, _++_, map}
 use Prim.Native.Nat.{ℕ, _+_, _-_}
 use lib.ListN.{replicate, take, drop}
 use Rattle.device.specs.declared.Device.{Device}
+use Rattle.device.specs.declared.Sleeps.{Sleeps}
 use Rattle.device.specs.declared.Uses.{Uses}
 use Rattle.device.specs.declared.energy.Trip.{Trip}
 use Rattle.device.specs.Row.{byteOf, depth, tripCost, gapRow, rowOf, pattern}
@@ -25,8 +26,8 @@ shared c x y = (c - x) - (c - y)
 
 -- The bytes of a row from the tick b on, up to which there is no use, to the end of the last use; and before and after them those of one gap, of which n ticks lie at
 -- the end of the row and b at its front.
-unfoldable pub around : Bool → Device → Uses → ℕ → ℕ → List ℕ
-around digits d u b n =
-    let gap = map (byteOf digits) (gapRow d (n + b)) in
-    let row = map (byteOf digits) (rowOf false d (pattern (usedIn u) b (afterFrom b u (u .count) - b))) in
+unfoldable pub around : Sleeps → Device → Uses → ℕ → ℕ → List ℕ
+around sleeps d u b n =
+    let gap = map (byteOf sleeps) (gapRow d (n + b)) in
+    let row = map (byteOf sleeps) (rowOf false d (pattern (usedIn u) b (afterFrom b u (u .count) - b))) in
     drop n gap ++ (row ++ take n gap)

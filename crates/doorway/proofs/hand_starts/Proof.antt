@@ -8,17 +8,17 @@ use Rattle.doorway.proofs.hand_starts.Statement.{statement}
 use Rattle.doorway.proofs.hand_starts.Tie as tie
 
 slice-aggregate-get-starts : tie.Need-slice-aggregate-get-starts
-slice-aggregate-get-starts c = sym (length-take-le _ _ (omega (arith, c .before .least .ensures, c .before .before .before .before .pre)))
+slice-aggregate-get-starts c = sym (length-take-le _ _ (omega (arith, c .before .fewer .ensures, c .before .before .before .before .pre)))
 
 get-starts-requires : tie.Need-get-starts-requires
 get-starts-requires c κs =
     let s = c .before .before .before .before in
-    rw (length-take-le (c .before .least .result) (s .args .own .now) (omega (arith, c .before .least .ensures, s .pre))) (omega (arith, c .before .least .ensures))
+    rw (length-take-le (c .before .fewer .result) (s .args .own .now) (omega (arith, c .before .fewer .ensures, s .pre))) (omega (arith, c .before .fewer .ensures))
 
 returns : tie.Need-returns
 returns c =
     let s = c .before .before .before .before .before .before .before in
-    let n = c .before .before .before .before .least in
+    let n = c .before .before .before .before .fewer in
     (omega (arith, n .ensures), handed-own (s .args .bytes .now) (s .args .own .now) _ (n .result) (omega (arith, n .ensures, s .pre)) (n .ensures) (c .before .before .get-starts .ensures))
 
 pub hand-starts-spec : {M : Type 1} → statement M

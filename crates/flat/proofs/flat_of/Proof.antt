@@ -23,18 +23,6 @@ loop-holds c = (omega arith, refl)
 number-of-requires : tie.Need-number-of-requires Inv-loop μ-loop
 number-of-requires c κs = (c .before .before .pre, (omega arith, omega arith))
 
-mul-flat : tie.Need-mul-flat Inv-loop μ-loop
-mul-flat c = omega arith
-
-array-write-flat : tie.Need-array-write-flat Inv-loop μ-loop
-array-write-flat c = omega arith
-
-add-i : tie.Need-add-i Inv-loop μ-loop
-add-i c = omega arith
-
-loop-less : tie.Need-loop-less Inv-loop μ-loop
-loop-less c = omega arith
-
 loop-again : tie.Need-loop-again Inv-loop μ-loop
 loop-again c =
     let R = c .before .before .before .args .r in
@@ -57,9 +45,9 @@ flat-of-spec =
     μ-loop
     loop-holds
     number-of-requires
-    mul-flat
-    array-write-flat
-    add-i
-    loop-less
+    (λ c. omega arith)
+    (λ c. omega arith)
+    (λ c. omega arith)
+    (λ c. omega arith)
     loop-again
     returns)

@@ -25,17 +25,8 @@ loop-holds c =
 latest-of-requires : tie.Need-latest-of-requires Inv-loop μ-loop
 latest-of-requires c κs = (c .before .before .before .before .pre .0, omega (arith, c .before .before .loop .inv .1, c .before .loop-test .taken))
 
-mul-table : tie.Need-mul-table Inv-loop μ-loop
-mul-table c = search needs
-
 element-write-table : tie.Need-element-write-table Inv-loop μ-loop
 element-write-table c = omega (arith, c .before .before .before .loop .inv .1, c .before .before .before .loop .inv .2 .long)
-
-add-m : tie.Need-add-m Inv-loop μ-loop
-add-m c = search needs
-
-loop-less : tie.Need-loop-less Inv-loop μ-loop
-loop-less c = search needs
 
 loop-again : tie.Need-loop-again Inv-loop μ-loop
 loop-again c =
@@ -55,9 +46,9 @@ lay-latest-spec =
     all-jobs-requires
     loop-holds
     latest-of-requires
-    mul-table
+    (λ c. search needs)
     element-write-table
-    add-m
-    loop-less
+    (λ c. search needs)
+    (λ c. search needs)
     loop-again
     returns)

@@ -5,7 +5,7 @@ use Prim.Native.Nat.{ℕ, _+_}
 use Rattle.base.specs.Sums.{sum}
 use Rattle.schedule.specs.declared.Recorder.{Recorder}
 use Rattle.schedule.specs.Quantities.{uses}
-pub use Rattle.vertex.specs.inside.Shown.{endAt, firstAt, aheadAt, loadAt, charged, fresh, leadBy, closeBy, leadsBy, closesBy, Ordered, Placed, Shows, Held}
+pub use Rattle.vertex.specs.inside.Shown.{endAt, firstAt, aheadAt, loadAt, charged, fresh, leadBy, closeBy, leadsBy, closesBy, Ordered, Placed, Shows, ShownAt}
 unfoldable pub use Rattle.stored.specs.inside.Naming.{idleBy, firstBy, keyBy}
 pub use Rattle.stored.specs.inside.Naming.{four}
 

@@ -10,53 +10,53 @@ use Rattle.schedule.specs.declared.Recorder.{Recorder}
 use Rattle.tables.specs.declared.Tables.{Tables}
 use Rattle.tables.specs.declared.File.{File}
 use Rattle.tables.specs.Layout.{marker, layoutOf, bytesOf}
-use Rattle.tables.specs.inside.Held.{cut, held}
+use Rattle.tables.specs.inside.Held.{limited, held}
 use Rattle.tables.proofs.Appending.{held-front, held-long}
 use Rattle.tables.proofs.Back.{unmarked}
-use Rattle.tables.proofs.Joining.{cut-fits}
+use Rattle.tables.proofs.Joining.{limited-fits}
 use Rattle.request.specs.Format.{readAs, accepted, handedOn}
 use Rattle.request.proofs.Accepted.{accepted-by, refused-by}
-use Rattle.request.proofs.Cutting.{read-cut, accepted-cut}
+use Rattle.request.proofs.Limiting.{read-limited, accepted-limited}
 use Rattle.planner.specs.Promises as P
 use Rattle.planner.proofs.Refusing.{unless-enough}
 use Rattle.planner.proofs.write.Statement.{statement}
 use Rattle.planner.proofs.write.Tie as tie
 
 -- the file that is laid out
-laid : (c : tie.After-file-of) → take (c .file-of .result .count) (c .file-of .result .bytes) ≡ bytesOf (cut (c .before .before .args .given))
-laid c = rw (c .file-of .ensures) (held-front (bytesOf (cut (c .before .before .args .given))))
+laid : (c : tie.After-file-of) → take (c .file-of .result .count) (c .file-of .result .bytes) ≡ bytesOf (limited (c .before .before .args .given))
+laid c = rw (c .file-of .ensures) (held-front (bytesOf (limited (c .before .before .args .given))))
 
 small : (c : tie.After-file-of) → c .file-of .result .count ≤ 297
 unfolding held
-small c = rw (c .file-of .ensures) (cut-fits (c .before .before .args .given))
+small c = rw (c .file-of .ensures) (limited-fits (c .before .before .args .given))
 
 fits : (c : tie.After-file-of) → c .file-of .result .count ≤ length (c .file-of .result .bytes)
-fits c = rw (c .file-of .ensures) (held-long (bytesOf (cut (c .before .before .args .given))) (cut-fits (c .before .before .args .given)))
+fits c = rw (c .file-of .ensures) (held-long (bytesOf (limited (c .before .before .args .given))) (limited-fits (c .before .before .args .given)))
 
 long : (c : tie.After-file-of) → c .file-of .result .count ≡ length (take (c .file-of .result .count) (c .file-of .result .bytes))
 long c = sym (length-take-le (c .file-of .result .count) (c .file-of .result .bytes) (fits c))
 
 -- The mark is that of the tables' kind, and what follows it reads as their layout does,
-cut-mark : (T : Tables) → (length (marker (T .kind)) ≤ length (bytesOf (cut T))) × (drop (length (marker (T .kind))) (bytesOf (cut T)) ≡ layoutOf (cut T))
-unfolding bytesOf cut
-cut-mark T = (omega (arith, length-append (marker (T .kind)) (layoutOf (cut T))), unmarked (T .kind) (layoutOf (cut T)))
+limited-mark : (T : Tables) → (length (marker (T .kind)) ≤ length (bytesOf (limited T))) × (drop (length (marker (T .kind))) (bytesOf (limited T)) ≡ layoutOf (limited T))
+unfolding bytesOf limited
+limited-mark T = (omega (arith, length-append (marker (T .kind)) (layoutOf (limited T))), unmarked (T .kind) (layoutOf (limited T)))
 
-read-as-cut : (T : Tables) → readAs (T .kind) (layoutOf (cut T)) ≡ readAs (T .kind) (layoutOf T)
-unfolding cut
-read-as-cut T = read-cut T
+read-as-limited : (T : Tables) → readAs (T .kind) (layoutOf (limited T)) ≡ readAs (T .kind) (layoutOf T)
+unfolding limited
+read-as-limited T = read-limited T
 
 reads : (c : tie.After-read-by) → (let T = c .before .before .before .before .before .args .given in c .read-by .result ≡ handedOn (readAs (T .kind) (layoutOf T)))
 reads c =
     let T = c .before .before .before .before .before .args .given in
     c .read-by .ensures ∙ ap (λ (s : List ℕ). handedOn (readAs (T .kind) (drop (length (marker (T .kind))) s))) (laid (c .before .before .before))
-    ∙ ap (λ (s : List ℕ). handedOn (readAs (T .kind) s)) (cut-mark T .1) ∙ ap handedOn (read-as-cut T)
+    ∙ ap (λ (s : List ℕ). handedOn (readAs (T .kind) s)) (limited-mark T .1) ∙ ap handedOn (read-as-limited T)
 
 recorded : (c : tie.Else1) → (let T = c .before .before .before .before .before .before .args .given in readAs (T .kind) (layoutOf T) ≡ accepted (c .before .read-by .result .recorder))
 recorded c = accepted-by _ _ _ (reads (c .before)) (c .if1 .left)
 
 -- and it is that file where it is accepted.
-whole : (c : tie.Else1) → bytesOf (cut (c .before .before .before .before .before .before .args .given)) ≡ bytesOf (c .before .before .before .before .before .before .args .given)
-whole c = ap bytesOf (accepted-cut _ _ (recorded c))
+whole : (c : tie.Else1) → bytesOf (limited (c .before .before .before .before .before .before .args .given)) ≡ bytesOf (c .before .before .before .before .before .before .args .given)
+whole c = ap bytesOf (accepted-limited _ _ (recorded c))
 
 size : (c : tie.Else1) → c .before .before .before .before .file-of .result .count ≡ length (bytesOf (c .before .before .before .before .before .before .args .given))
 unfolding held
@@ -75,7 +75,7 @@ slice-aggregate-read-by : tie.Need-slice-aggregate-read-by
 slice-aggregate-read-by c = long (c .before .before)
 
 read-by-requires : tie.Need-read-by-requires
-read-by-requires c κs = rw (laid (c .before .before)) (cut-mark (c .before .before .before .before .args .given) .0)
+read-by-requires c κs = rw (laid (c .before .before)) (limited-mark (c .before .before .before .before .args .given) .0)
 
 returns : tie.Need-returns
 returns c = rw (c .refusal .ensures) (P.Written.refused (refused-by _ _ _ (reads (c .before .before)) (c .before .if1 .taken)))

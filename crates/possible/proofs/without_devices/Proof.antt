@@ -8,31 +8,13 @@ use Rattle.possible.proofs.without_devices.Statement.{statement}
 use Rattle.possible.proofs.without_devices.Tie as tie
 
 abbrev Inv-loop : tie.InvT-loop
-Inv-loop r devices jobs₀ j₀ jobs j = (j ≤ 16) × (jobs .count ≡ r .jobs .count) × Idled j (r .jobs .list) (jobs .list)
+Inv-loop r sleeps devices jobs₀ j₀ jobs j = (j ≤ 16) × (jobs .count ≡ r .jobs .count) × Idled j (r .jobs .list) (jobs .list)
 
 abbrev μ-loop : tie.MeasureT-loop
-μ-loop r devices jobs₀ j₀ jobs j = 16 - j
+μ-loop r sleeps devices jobs₀ j₀ jobs j = 16 - j
 
 loop-holds : tie.Need-loop-holds Inv-loop μ-loop
 loop-holds c = (omega arith, refl, idled-none _)
-
-mul-idle-job : tie.Need-mul-idle-job Inv-loop μ-loop
-mul-idle-job c = omega arith
-
-element-copy-out-idle-job : tie.Need-element-copy-out-idle-job Inv-loop μ-loop
-element-copy-out-idle-job c = omega arith
-
-mul-t11 : tie.Need-mul-t11 Inv-loop μ-loop
-mul-t11 c = omega arith
-
-element-set-from-jobs : tie.Need-element-set-from-jobs Inv-loop μ-loop
-element-set-from-jobs c = omega arith
-
-add-j : tie.Need-add-j Inv-loop μ-loop
-add-j c = omega arith
-
-loop-less : tie.Need-loop-less Inv-loop μ-loop
-loop-less c = omega arith
 
 loop-again : tie.Need-loop-again Inv-loop μ-loop
 loop-again c =
@@ -60,12 +42,12 @@ without-devices-spec =
     Inv-loop
     μ-loop
     loop-holds
-    mul-idle-job
-    element-copy-out-idle-job
+    (λ c. omega arith)
+    (λ c. omega arith)
     (λ c κs. search needs)
-    mul-t11
-    element-set-from-jobs
-    add-j
-    loop-less
+    (λ c. omega arith)
+    (λ c. omega arith)
+    (λ c. omega arith)
+    (λ c. omega arith)
     loop-again
     returns)

@@ -27,18 +27,6 @@ abbrev μ-loop : tie.MeasureT-loop
 loop-holds : tie.Need-loop-holds Inv-loop μ-loop
 loop-holds c = (refl, omega arith, λ k h. absurd (omega arith))
 
-mul-memory : tie.Need-mul-memory Inv-loop μ-loop
-mul-memory c = omega arith
-
-slice-write-memory : tie.Need-slice-write-memory Inv-loop μ-loop
-slice-write-memory c = omega arith
-
-add-i : tie.Need-add-i Inv-loop μ-loop
-add-i c = omega arith
-
-loop-less : tie.Need-loop-less Inv-loop μ-loop
-loop-less c = omega arith
-
 loop-again : tie.Need-loop-again Inv-loop μ-loop
 loop-again c = (simp length-set (c .before .loop .inv .0), omega arith, clear-more (c .before .loop .memory) (c .before .loop .i) (omega arith) (c .before .loop .inv .2))
 
@@ -55,10 +43,10 @@ clear-spec =
     Inv-loop
     μ-loop
     loop-holds
-    mul-memory
-    slice-write-memory
-    add-i
-    loop-less
+    (λ c. omega arith)
+    (λ c. omega arith)
+    (λ c. omega arith)
+    (λ c. omega arith)
     loop-again
     same-length
     returns)

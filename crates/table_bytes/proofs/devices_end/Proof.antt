@@ -20,20 +20,11 @@ abbrev μ-loop : tie.MeasureT-loop
 loop-holds : tie.Need-loop-holds Inv-loop μ-loop
 loop-holds c = (omega arith, refl)
 
-device-size-requires : tie.Need-device-size-requires Inv-loop μ-loop
-device-size-requires c κs = search needs
-
 add-at : tie.Need-add-at Inv-loop μ-loop
 add-at c =
     let l = c .before .before .loop in
     let a = c .before .before .before .before .args in
     omega (arith, l .inv .0, l .inv .1, c .before .before .before .before .pre, c .device-size .ensures, device-most (a .kind) (a .s .now) (l .at), devices-most (a .kind) (a .s .now) (l .k))
-
-add-k : tie.Need-add-k Inv-loop μ-loop
-add-k c = search needs
-
-loop-less : tie.Need-loop-less Inv-loop μ-loop
-loop-less c = search needs
 
 loop-again : tie.Need-loop-again Inv-loop μ-loop
 loop-again c =
@@ -51,4 +42,4 @@ returns c =
 pub devices-end-spec : {M : Type 1} → statement M
 devices-end-spec =
     tie.close
-    (tie.spec Inv-loop μ-loop loop-holds device-size-requires add-at add-k loop-less loop-again returns)
+    (tie.spec Inv-loop μ-loop loop-holds (λ c κs. search needs) add-at (λ c. search needs) (λ c. search needs) loop-again returns)

@@ -24,8 +24,8 @@ returns-3 c = (λ e. absurd (true≢false (sym e)), λ e t. omega (arith, c .if3
 returns-4 : tie.Need-returns-4
 returns-4 c =
     let s = c .before .before .before .before .before .before .before .before .before .args .s .now in
-    let n = c .before .before .jobs-from .result + c .least .result * 7 in
-    let same : n ≡ jobsFrom s + min (pairAt s 7) 16 * 7 = omega (arith, c .before .before .jobs-from .ensures .0, c .least .ensures, c .before .count-at .ensures) in (
+    let n = c .before .before .jobs-from .result + c .fewer .result * 7 in
+    let same : n ≡ jobsFrom s + min (pairAt s 7) 16 * 7 = omega (arith, c .before .before .jobs-from .ensures .0, c .fewer .ensures, c .before .count-at .ensures) in (
       λ e. record { kind = (omega (arith, c .before .before .before .before .before .if2 .left), omega (arith, c .before .before .before .if3 .left)); ends = sym same ∙ eqb-true n (length s) e },
       λ e t. eqb-false n (length s) e (same ∙ t .ends),
     )

@@ -10,10 +10,10 @@ use Rattle.tables.specs.declared.Tables.{Tables}
 use Rattle.tables.specs.declared.File.{File}
 use Rattle.tables.specs.Layout.{taskCount, jobsPlace}
 
--- Tables whose counts are cut at one above the limits of a file, so that they fit an array. A count that is cut is refused all the same
--- (request/proofs/Cutting).
-unfoldable pub cut : Tables → Tables
-cut T =
+-- Tables whose counts are limited to one above the limits of a file, so that they fit an array. A count that is limited is refused all the same
+-- (request/proofs/Limiting).
+unfoldable pub limited : Tables → Tables
+limited T =
     record {
       kind = T .kind;
       horizon = T .horizon;

@@ -97,7 +97,7 @@ pub record Shows (R : Recorder) (l : List ℕ) (jobs m : ℕ) (v : Vertex) : Typ
   pub load : loadAt l ≡ total (run R) (v .unplaced)
 
 -- They show a vertex at the time t.
-pub record Held (R : Recorder) (l : List ℕ) (jobs t : ℕ) : Type 0 where
+pub record ShownAt (R : Recorder) (l : List ℕ) (jobs t : ℕ) : Type 0 where
   pub left : ℕ
   pub vertex : Vertex
   pub shows : Shows R l jobs left vertex

@@ -53,8 +53,8 @@ use Rattle.visit.proofs.visit.Kinds as visit-kinds
 use Rattle.visit.proofs.+below+choices+drops+enter+learn+tries+visit.Lts-visit as visit-lts
 use Rattle.flat.proofs.deadline_of.Reads as deadline-of-reads
 use Rattle.flat.proofs.job_count.Reads as job-count-reads
-use Rattle.flat.proofs.numbers.later.Reads as later-reads
-use Rattle.flat.proofs.numbers.wide.Reads as wide-reads
+use Rattle.base.proofs.larger.Reads as larger-reads
+use Rattle.base.proofs.wide.Reads as wide-reads
 use Rattle.flat.proofs.release_of.Reads as release-of-reads
 use Rattle.flat.proofs.run_of.Reads as run-of-reads
 use Rattle.recall.proofs.asking.ask.Reads as ask-reads
@@ -154,21 +154,15 @@ abbrev learn-calls : ℕ → learn-lts.Claims
 learn-calls t = (choices-below t, choices.Post, is-whole-reads.Asked, is-whole-reads.Learnt, keep-reads.Asked, keep-reads.Learnt)
 
 abbrev tries-calls : ℕ → tries-lts.Claims
-tries-calls t = (first-cut-reads.Asked, first-cut-reads.Learnt, release-of-reads.Asked, release-of-reads.Learnt, wide-reads.Asked, wide-reads.Learnt, later-reads.Asked, later-reads.Learnt, lead-of-reads.Asked, lead-of-reads.Learnt, cut-at-reads.Asked, cut-at-reads.Learnt, visit-below t, visit.Post, drops-below t, drops.Post)
+tries-calls t = (first-cut-reads.Asked, first-cut-reads.Learnt, release-of-reads.Asked, release-of-reads.Learnt, wide-reads.Asked, wide-reads.Learnt, larger-reads.Asked, larger-reads.Learnt, lead-of-reads.Asked, lead-of-reads.Learnt, cut-at-reads.Asked, cut-at-reads.Learnt, visit-below t, visit.Post, drops-below t, drops.Post)
 
 abbrev visit-calls : ℕ → visit-lts.Claims
 visit-calls t = (count-one-reads.Asked, count-one-reads.Learnt, enter-below t, enter.Post)
-
-below-is-many-requires : (t : ℕ) → below-lts.Need-is-many-requires (below-calls t) (below-at t) below.Post
-below-is-many-requires t c κs = search needs
 
 below-choices-requires : (t : ℕ) → below-lts.Need-choices-requires (below-calls t) (below-at t) below.Post
 below-choices-requires t c κs =
     let s = c .before .before .before .before .before .before in
     (omega arith, (s .pre .1 .0, s .pre .1 .1 .1))
-
-below-same-length : (t : ℕ) → below-lts.Need-same-length (below-calls t) (below-at t) below.Post
-below-same-length t c = omega arith
 
 below-returns : (t : ℕ) → below-lts.Need-returns (below-calls t) (below-at t) below.Post
 below-returns t c = c .before .before .choices .ensures
@@ -190,9 +184,6 @@ below-add-count-requires t c κs =
     let w = c .before .before .before .before .before .before .before .before .before .before .before .pre .1 .1 .1 .tells in
     (w .long, omega (arith, w .count, w .within))
 
-below-same-length-2 : (t : ℕ) → below-lts.Need-same-length-2 (below-calls t) (below-at t) below.Post
-below-same-length-2 t c = omega arith
-
 below-returns-2 : (t : ℕ) → below-lts.Need-returns-2 (below-calls t) (below-at t) below.Post
 below-returns-2 t c =
     let s = c .before .before .before .before .before .before .before .before .before .before .before .before in
@@ -211,9 +202,6 @@ below-learn-requires t c κs =
     let asks = subst (λ (x : ℕ). Asks R (capAt (s .args .extras .now)) (s .args .v .now) (s .args .set) (s .args .time) x (c .before .before .before .before .ask .result)) (c .before .before .before .before .before .before .slack-of .ensures) (c .before .before .before .before .ask .ensures) in
     (omega arith, (s .pre .1 .0, (s .pre .1 .1 .0, (asks, s .pre .1 .1 .1))))
 
-below-same-length-3 : (t : ℕ) → below-lts.Need-same-length-3 (below-calls t) (below-at t) below.Post
-below-same-length-3 t c = omega arith
-
 below-returns-3 : (t : ℕ) → below-lts.Need-returns-3 (below-calls t) (below-at t) below.Post
 below-returns-3 t c = c .before .before .learn .ensures
 
@@ -226,9 +214,6 @@ choices-Inv-loop r extras memory₀ v tally₀ budget set from time n dues rest�
 
 abbrev choices-μ-loop : choices-lts.MeasureT-loop
 choices-μ-loop r extras memory₀ v tally₀ budget set from time n dues rest₀ p₀ j₀ memory tally rest p j = n - j
-
-choices-job-count-requires : (t : ℕ) → choices-lts.Need-job-count-requires (choices-calls t) (choices-at t) choices.Post choices-Inv-loop choices-μ-loop
-choices-job-count-requires t c κs = search needs
 
 choices-dues-in-requires : (t : ℕ) → choices-lts.Need-dues-in-requires (choices-calls t) (choices-at t) choices.Post choices-Inv-loop choices-μ-loop
 choices-dues-in-requires t c κs = c .before .before .before .pre .1 .0 .tabled .valid
@@ -259,9 +244,6 @@ choices-tries-requires t c κs =
     let g = l .inv .5 (o .stop) (o .left) (o .vertex) (o .state) (o .holds .0) (o .holds .1) (o .tells) in
     (omega arith, (l .inv .6, (omega (arith, c .before .before .before .loop-test .taken, c .before .before .before .before .before .before .job-count .ensures), (bit-is _ _ _ (l .inv .2) (c .before .before .if1 .taken), (l .inv .1, (c .before .before .before .before .before .dues-in .ensures, record { stop = o .stop; left = o .left; vertex = o .vertex; state = g .state; holds = o .holds; tells = g .tells }))))))
 
-choices-same-length : (t : ℕ) → choices-lts.Need-same-length (choices-calls t) (choices-at t) choices.Post choices-Inv-loop choices-μ-loop
-choices-same-length t c = omega arith
-
 choices-returns : (t : ℕ) → choices-lts.Need-returns (choices-calls t) (choices-at t) choices.Post choices-Inv-loop choices-μ-loop
 choices-returns t c =
     let s = c .before .before .before .before .before .before .before .before .before .before .before .before .before in
@@ -281,12 +263,6 @@ choices-mul-p : (t : ℕ) → choices-lts.Need-mul-p (choices-calls t) (choices-
 choices-mul-p t c =
     let l = c .before .before .loop in
     omega (arith, l .inv .1, power-next (l .j) (omega (arith, c .before .loop-test .taken, c .before .before .before .before .job-count .ensures, c .before .before .before .before .before .before .before .pre .1 .0 .tabled .valid .few-jobs)))
-
-choices-add-j : (t : ℕ) → choices-lts.Need-add-j (choices-calls t) (choices-at t) choices.Post choices-Inv-loop choices-μ-loop
-choices-add-j t c = omega arith
-
-choices-loop-less : (t : ℕ) → choices-lts.Need-loop-less (choices-calls t) (choices-at t) choices.Post choices-Inv-loop choices-μ-loop
-choices-loop-less t c = omega arith
 
 choices-loop-again : (t : ℕ) → choices-lts.Need-loop-again (choices-calls t) (choices-at t) choices.Post choices-Inv-loop choices-μ-loop
 choices-loop-again t c =
@@ -417,9 +393,6 @@ enter-run-of-requires t c κs =
     let x = s .pre .1 .0 .tabled in
     starts-known (recorderOf (s .args .r .now)) (x .valid) (x .narrow) _ _ _ _ (o .holds .starts) (o .holds .shows .reached) .1
 
-enter-wide-requires : (t : ℕ) → enter-lts.Need-wide-requires (enter-calls t) (enter-at t) enter.Post
-enter-wide-requires t c κs = search needs
-
 enter-add-time : (t : ℕ) → enter-lts.Need-add-time (enter-calls t) (enter-at t) enter.Post
 enter-add-time t c =
     let s = c .before .before .before .before .before .before .before .before .before .before in
@@ -452,9 +425,6 @@ enter-below-requires t c κs =
       ),
     )
 
-enter-same-length : (t : ℕ) → enter-lts.Need-same-length (enter-calls t) (enter-at t) enter.Post
-enter-same-length t c = omega arith
-
 enter-returns-2 : (t : ℕ) → enter-lts.Need-returns-2 (enter-calls t) (enter-at t) enter.Post
 enter-returns-2 t c =
     let s = c .before .before .before .before .before .before .before .before .before .before .before .before .before .before .before .before in
@@ -486,9 +456,6 @@ learn-choices-requires t c κs =
 learn-element-copy-out-is-whole : (t : ℕ) → learn-lts.Need-element-copy-out-is-whole (learn-calls t) (learn-at t) learn.Post
 learn-element-copy-out-is-whole t c = omega (arith, c .before .before .choices .ensures .0 .1 .0)
 
-learn-is-whole-requires : (t : ℕ) → learn-lts.Need-is-whole-requires (learn-calls t) (learn-at t) learn.Post
-learn-is-whole-requires t c κs = search needs
-
 learn-element-copy-out-keep : (t : ℕ) → learn-lts.Need-element-copy-out-keep (learn-calls t) (learn-at t) learn.Post
 learn-element-copy-out-keep t c = omega (arith, c .before .before .before .before .before .before .choices .ensures .0 .1 .0)
 
@@ -509,12 +476,6 @@ learn-sub-keep t c =
     let w = s .pre .1 .1 .1 .1 in
     omega (arith, w .tells .count, learn-tells t (c .before .before) .count, choices-grow (recorderOf (s .args .r .now)) (w .stop) (w .left) (w .vertex) (w .state))
 
-learn-keep-requires : (t : ℕ) → learn-lts.Need-keep-requires (learn-calls t) (learn-at t) learn.Post
-learn-keep-requires t c κs = search needs
-
-learn-same-length : (t : ℕ) → learn-lts.Need-same-length (learn-calls t) (learn-at t) learn.Post
-learn-same-length t c = omega arith
-
 learn-returns : (t : ℕ) → learn-lts.Need-returns (learn-calls t) (learn-at t) learn.Post
 learn-returns t c =
     let k = c .before .before .before .before .before in
@@ -530,9 +491,6 @@ learn-returns t c =
       ),
       e .choices .ensures .1,
     )
-
-learn-same-length-2 : (t : ℕ) → learn-lts.Need-same-length-2 (learn-calls t) (learn-at t) learn.Post
-learn-same-length-2 t c = omega arith
 
 learn-returns-2 : (t : ℕ) → learn-lts.Need-returns-2 (learn-calls t) (learn-at t) learn.Post
 learn-returns-2 t c = c .before .before .before .before .before .choices .ensures
@@ -550,8 +508,8 @@ abbrev tries-μ-loop : tries-lts.MeasureT-loop
 tries-μ-loop r extras memory₀ v tally₀ budget set p from time j cut₀ s₀ memory tally cut s = 65536 - s
 
 -- From where on the starts are looked at.
-tries-from : (t : ℕ) (c : tries-lts.After-later (tries-calls t) (tries-at t) tries.Post tries-Inv-loop tries-μ-loop) → let a = c .before .before .before .before .before .before .args in c .later .result ≡ max (a .time) (release (recorderOf (a .r .now)) (a .j .0))
-tries-from t c = c .later .ensures ∙ ap (max _) (c .before .wide .ensures .0 ∙ c .before .before .release-of .ensures)
+tries-from : (t : ℕ) (c : tries-lts.After-larger (tries-calls t) (tries-at t) tries.Post tries-Inv-loop tries-μ-loop) → let a = c .before .before .before .before .before .before .args in c .larger .result ≡ max (a .time) (release (recorderOf (a .r .now)) (a .j .0))
+tries-from t c = c .larger .ensures ∙ ap (max _) (c .before .wide .ensures .0 ∙ c .before .before .release-of .ensures)
 
 -- The start at hand meets the deadline.
 tries-due : (t : ℕ) (c : tries-lts.In-loop (tries-calls t) (tries-at t) tries.Post tries-Inv-loop tries-μ-loop) → let a = c .before .before .before .before .before .before .before .before .args in let R = recorderOf (a .r .now) in
@@ -580,12 +538,6 @@ tries-first-cut-requires t c κs =
 tries-release-of-requires : (t : ℕ) → tries-lts.Need-release-of-requires (tries-calls t) (tries-at t) tries.Post tries-Inv-loop tries-μ-loop
 tries-release-of-requires t c κs = omega (arith, c .before .before .before .pre .1 .1 .0, c .before .before .before .pre .1 .0 .tabled .valid .few-jobs)
 
-tries-wide-requires : (t : ℕ) → tries-lts.Need-wide-requires (tries-calls t) (tries-at t) tries.Post tries-Inv-loop tries-μ-loop
-tries-wide-requires t c κs = search needs
-
-tries-later-requires : (t : ℕ) → tries-lts.Need-later-requires (tries-calls t) (tries-at t) tries.Post tries-Inv-loop tries-μ-loop
-tries-later-requires t c κs = search needs
-
 tries-loop-holds : (t : ℕ) → tries-lts.Need-loop-holds (tries-calls t) (tries-at t) tries.Post tries-Inv-loop tries-μ-loop
 unfolding starts
 tries-loop-holds t c =
@@ -602,7 +554,7 @@ tries-loop-holds t c =
           going-as R stop (s .args .budget) u (λ (x : ℕ). visitBy R stop m (child R u j x)) (s .args .tally .now) (starts R (u .time) j) _ _
           (rw (time, ← tries-from t c))
           (going-from R stop (s .args .budget) u (λ (x : ℕ). visitBy R stop m (child R u j x)) (s .args .tally .now) (starts R (u .time) j) st tells)),
-      omega (arith, c .later .ensures, c .before .wide .ensures .1, o .holds .1, o .holds .0 .shows .reached .time, s .pre .1 .0 .tabled .valid .few-ticks),
+      omega (arith, c .larger .ensures, c .before .wide .ensures .1, o .holds .1, o .holds .0 .shows .reached .time, s .pre .1 .0 .tabled .valid .few-ticks),
       s .pre .1 .0,
       refl,
     )
@@ -817,14 +769,8 @@ drops-tries t c m u stands early =
 drops-run-of-requires : (t : ℕ) → drops-lts.Need-run-of-requires (drops-calls t) (drops-at t) drops.Post drops-Inv-loop drops-μ-loop
 drops-run-of-requires t c κs = omega (arith, c .before .before .pre .1 .1 .0, c .before .before .pre .1 .0 .tabled .valid .few-jobs)
 
-drops-wide-requires : (t : ℕ) → drops-lts.Need-wide-requires (drops-calls t) (drops-at t) drops.Post drops-Inv-loop drops-μ-loop
-drops-wide-requires t c κs = search needs
-
 drops-deadline-of-requires : (t : ℕ) → drops-lts.Need-deadline-of-requires (drops-calls t) (drops-at t) drops.Post drops-Inv-loop drops-μ-loop
 drops-deadline-of-requires t c κs = omega (arith, c .before .before .before .before .pre .1 .1 .0, c .before .before .before .before .pre .1 .0 .tabled .valid .few-jobs)
-
-drops-wide-requires-2 : (t : ℕ) → drops-lts.Need-wide-requires-2 (drops-calls t) (drops-at t) drops.Post drops-Inv-loop drops-μ-loop
-drops-wide-requires-2 t c κs = search needs
 
 drops-loop-holds : (t : ℕ) → drops-lts.Need-loop-holds (drops-calls t) (drops-at t) drops.Post drops-Inv-loop drops-μ-loop
 drops-loop-holds t c =
@@ -916,14 +862,8 @@ drops-returns-2 t c =
           (going-as R stop (a .budget) u _ (l .loop .tally) _ _ _ (up-done (l .loop .s) _ _ (omega (arith, c .loop-test .left, run-is, due-is))) (l .loop .inv .3 stop m u st stands early tells)),
     )
 
-tries-same-length : (t : ℕ) → tries-lts.Need-same-length (tries-calls t) (tries-at t) tries.Post tries-Inv-loop tries-μ-loop
-tries-same-length t c = omega arith
-
 tries-same-length-2 : (t : ℕ) → tries-lts.Need-same-length-2 (tries-calls t) (tries-at t) tries.Post tries-Inv-loop tries-μ-loop
 tries-same-length-2 t c = omega (arith, c .before .before .before .before .before .before .loop .inv .8)
-
-drops-same-length : (t : ℕ) → drops-lts.Need-same-length (drops-calls t) (drops-at t) drops.Post drops-Inv-loop drops-μ-loop
-drops-same-length t c = omega arith
 
 drops-same-length-2 : (t : ℕ) → drops-lts.Need-same-length-2 (drops-calls t) (drops-at t) drops.Post drops-Inv-loop drops-μ-loop
 drops-same-length-2 t c = c .before .loop .inv .6
@@ -1008,9 +948,6 @@ visit-enter-requires t c κs =
       ),
     )
 
-visit-same-length : (t : ℕ) → visit-lts.Need-same-length (visit-calls t) (visit-at t) visit.Post
-visit-same-length t c = omega arith
-
 visit-returns-4 : (t : ℕ) → visit-lts.Need-returns-4 (visit-calls t) (visit-at t) visit.Post
 visit-returns-4 t c =
     let k = c .before .before .before .before .before .before .before .before in
@@ -1046,18 +983,18 @@ pub +below+choices+drops+enter+learn+tries+visit-spec : {M : Type 1} → stateme
     )
     (below-at t)
     below.Post
-    (below-is-many-requires t)
+    (λ c κs. search needs)
     (below-choices-requires t)
-    (below-same-length t)
+    (λ c. omega arith)
     (below-returns t)
     (below-element-copy-out-slack-of t)
     (below-slack-of-requires t)
     (below-ask-requires t)
     (below-add-count-requires t)
-    (below-same-length-2 t)
+    (λ c. omega arith)
     (below-returns-2 t)
     (below-learn-requires t)
-    (below-same-length-3 t)
+    (λ c. omega arith)
     (below-returns-3 t))
     (λ t. choices-lts.spec (
       job-count-reads.Asked,
@@ -1071,15 +1008,15 @@ pub +below+choices+drops+enter+learn+tries+visit-spec : {M : Type 1} → stateme
     choices.Post
     choices-Inv-loop
     choices-μ-loop
-    (choices-job-count-requires t)
+    (λ c κs. search needs)
     (choices-dues-in-requires t)
     (choices-loop-holds t)
     (choices-tries-requires t)
-    (choices-same-length t)
+    (λ c. omega arith)
     (choices-returns t)
     (choices-mul-p t)
-    (choices-add-j t)
-    (choices-loop-less t)
+    (λ c. omega arith)
+    (λ c. omega arith)
     (choices-loop-again t)
     (choices-same-length-2 t)
     (choices-returns-2 t))
@@ -1089,13 +1026,13 @@ pub +below+choices+drops+enter+learn+tries+visit-spec : {M : Type 1} → stateme
     drops-Inv-loop
     drops-μ-loop
     (drops-run-of-requires t)
-    (drops-wide-requires t)
+    (λ c κs. search needs)
     (drops-deadline-of-requires t)
-    (drops-wide-requires-2 t)
+    (λ c κs. search needs)
     (drops-loop-holds t)
     (drops-add-loop t)
     (drops-visit-requires t)
-    (drops-same-length t)
+    (λ c. omega arith)
     (drops-returns t)
     (drops-add-s t)
     (drops-loop-less t)
@@ -1130,10 +1067,10 @@ pub +below+choices+drops+enter+learn+tries+visit-spec : {M : Type 1} → stateme
     (enter-returns t)
     (enter-place-requires t)
     (enter-run-of-requires t)
-    (enter-wide-requires t)
+    (λ c κs. search needs)
     (enter-add-time t)
     (enter-below-requires t)
-    (enter-same-length t)
+    (λ c. omega arith)
     (enter-returns-2 t))
     (λ t. learn-lts.spec
     (choices-below t, choices.Post, is-whole-reads.Asked, is-whole-reads.Learnt, keep-reads.Asked, keep-reads.Learnt)
@@ -1143,13 +1080,13 @@ pub +below+choices+drops+enter+learn+tries+visit-spec : {M : Type 1} → stateme
     (learn-element-copy-out-best t)
     (learn-choices-requires t)
     (learn-element-copy-out-is-whole t)
-    (learn-is-whole-requires t)
+    (λ c κs. search needs)
     (learn-element-copy-out-keep t)
     (learn-sub-keep t)
-    (learn-keep-requires t)
-    (learn-same-length t)
+    (λ c κs. search needs)
+    (λ c. omega arith)
     (learn-returns t)
-    (learn-same-length-2 t)
+    (λ c. omega arith)
     (learn-returns-2 t))
     (λ t. tries-lts.spec (tries-calls t)
     (tries-at t)
@@ -1158,15 +1095,15 @@ pub +below+choices+drops+enter+learn+tries+visit-spec : {M : Type 1} → stateme
     tries-μ-loop
     (tries-first-cut-requires t)
     (tries-release-of-requires t)
-    (tries-wide-requires t)
-    (tries-later-requires t)
+    (λ c κs. search needs)
+    (λ c κs. search needs)
     (tries-loop-holds t)
     (tries-lead-of-requires t)
     (tries-add-floor t)
     (tries-element-copy-out-cut-at t)
     (tries-cut-at-requires t)
     (tries-visit-requires t)
-    (tries-same-length t)
+    (λ c. omega arith)
     (tries-returns t)
     (tries-add-s t)
     (tries-loop-less t)
@@ -1186,5 +1123,5 @@ pub +below+choices+drops+enter+learn+tries+visit-spec : {M : Type 1} → stateme
     (visit-returns-3 t)
     (visit-sub-enter t)
     (visit-enter-requires t)
-    (visit-same-length t)
+    (λ c. omega arith)
     (visit-returns-4 t)

@@ -10,7 +10,7 @@ whole-visit-requires c κs = let s = c .before .before .before .before in (lends
 returns : tie.Need-returns
 returns c =
     let v = c .before .whole-visit .ensures in
-    (v .0, ran-as _ _ _ _ (c .before .before .sooner .ensures) _ _ (v .1))
+    (v .0, ran-as _ _ _ _ (c .before .before .smaller .ensures) _ _ (v .1))
 
 pub few-visit-spec : {M : Type 1} → statement M
 few-visit-spec =

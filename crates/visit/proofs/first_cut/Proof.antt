@@ -22,13 +22,13 @@ deadline-of-requires : tie.Need-deadline-of-requires
 deadline-of-requires c κs = c .before .before .before .before .before .before .pre .1 .0
 
 add-lessened : tie.Need-add-lessened
-add-lessened c = omega (arith, c .sooner .ensures, c .before .wide3 .ensures .1)
+add-lessened c = omega (arith, c .smaller .ensures, c .before .wide3 .ensures .1)
 
 returns : tie.Need-returns
 returns c =
     let l = c .before .before .before .before in
     let h = l .before .before in
-    rw (← h .before .before .before .run-of .ensures, ← h .before .before .wide .ensures .0, ← h .before .horizon-of .ensures, ← h .wide2 .ensures .0, ← l .limit-of .ensures, ← c .before .before .before .deadline-of .ensures, ← c .before .before .wide3 .ensures .0, ← c .before .sooner .ensures)
+    rw (← h .before .before .before .run-of .ensures, ← h .before .before .wide .ensures .0, ← h .before .horizon-of .ensures, ← h .wide2 .ensures .0, ← l .limit-of .ensures, ← c .before .before .before .deadline-of .ensures, ← c .before .before .wide3 .ensures .0, ← c .before .smaller .ensures)
     (c .lessened .ensures)
 
 pub first-cut-spec : {M : Type 1} → statement M

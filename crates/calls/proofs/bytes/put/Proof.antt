@@ -19,18 +19,6 @@ abbrev μ-loop : tie.MeasureT-loop
 loop-holds : tie.Need-loop-holds Inv-loop μ-loop
 loop-holds c = (omega arith, refl, put-none (length (c .args .part .now)) (c .args .x) (c .args .part .now) refl)
 
-sub-i : tie.Need-sub-i Inv-loop μ-loop
-sub-i c = search needs
-
-cast-part : tie.Need-cast-part Inv-loop μ-loop
-cast-part c = search needs
-
-slice-write-part : tie.Need-slice-write-part Inv-loop μ-loop
-slice-write-part c = search needs
-
-loop-less : tie.Need-loop-less Inv-loop μ-loop
-loop-less c = search needs
-
 loop-again : tie.Need-loop-again Inv-loop μ-loop
 loop-again c =
     let l = c .before .loop in
@@ -38,9 +26,6 @@ loop-again c =
     let one : l .i - 1 + 1 ≡ l .i = omega arith in
     let so-far : whole ≡ big (l .i - 1 + 1) (l .left) ++ drop (l .i - 1 + 1) (l .part) = rw one (l .inv .2) in
     (omega arith, search needs, put-turn whole (l .i - 1) (l .left) (l .part) (omega arith) so-far)
-
-same-length : tie.Need-same-length Inv-loop μ-loop
-same-length c = search needs
 
 returns : tie.Need-returns Inv-loop μ-loop
 returns c = put-done _ _ _ _ (omega arith) (c .before .loop .inv .2)
@@ -52,10 +37,10 @@ put-spec =
     Inv-loop
     μ-loop
     loop-holds
-    sub-i
-    cast-part
-    slice-write-part
-    loop-less
+    (λ c. search needs)
+    (λ c. search needs)
+    (λ c. search needs)
+    (λ c. search needs)
     loop-again
-    same-length
+    (λ c. search needs)
     returns)

@@ -27,26 +27,11 @@ roomy c =
 loop-holds : tie.Need-loop-holds Inv-loop μ-loop
 loop-holds c = (omega arith, spread-none (c .args .starts .now) (c .args .bytes .now))
 
-mul-at : tie.Need-mul-at Inv-loop μ-loop
-mul-at c = search needs
-
-mul-bytes : tie.Need-mul-bytes Inv-loop μ-loop
-mul-bytes c = search needs
-
-shared-slice-read-bytes : tie.Need-shared-slice-read-bytes Inv-loop μ-loop
-shared-slice-read-bytes c = search needs
-
 cast-bytes : tie.Need-cast-bytes Inv-loop μ-loop
 cast-bytes c = record { fits = omega (arith, c .shared-slice-known .given (c .before .before .loop .j)) }
 
 slice-write-bytes : tie.Need-slice-write-bytes Inv-loop μ-loop
 slice-write-bytes c = omega (arith, roomy (c .before))
-
-mul-bytes-2 : tie.Need-mul-bytes-2 Inv-loop μ-loop
-mul-bytes-2 c = search needs
-
-shared-slice-read-bytes-2 : tie.Need-shared-slice-read-bytes-2 Inv-loop μ-loop
-shared-slice-read-bytes-2 c = search needs
 
 cast-bytes-2 : tie.Need-cast-bytes-2 Inv-loop μ-loop
 cast-bytes-2 c = record { fits = omega (arith, c .shared-slice-known2 .given (c .before .before .before .loop .j)) }
@@ -56,12 +41,6 @@ add-bytes c = omega (arith, roomy (c .before .before))
 
 slice-write-bytes-2 : tie.Need-slice-write-bytes-2 Inv-loop μ-loop
 slice-write-bytes-2 c = simp length-set (omega (arith, roomy (c .before .before)))
-
-add-j : tie.Need-add-j Inv-loop μ-loop
-add-j c = search needs
-
-loop-less : tie.Need-loop-less Inv-loop μ-loop
-loop-less c = search needs
 
 loop-again : tie.Need-loop-again Inv-loop μ-loop
 loop-again c = (omega arith, spread-next (c .before .before .before .before .args .starts .now) (c .before .before .before .before .args .bytes .now) (c .before .before .before .loop .bytes) (c .before .before .before .loop .j) (omega arith) (roomy (c .before .before) .1) (c .before .before .before .loop .inv .1))
@@ -82,18 +61,18 @@ put-starts-spec =
     Inv-loop
     μ-loop
     loop-holds
-    mul-at
-    mul-bytes
-    shared-slice-read-bytes
+    (λ c. search needs)
+    (λ c. search needs)
+    (λ c. search needs)
     cast-bytes
     slice-write-bytes
-    mul-bytes-2
-    shared-slice-read-bytes-2
+    (λ c. search needs)
+    (λ c. search needs)
     cast-bytes-2
     add-bytes
     slice-write-bytes-2
-    add-j
-    loop-less
+    (λ c. search needs)
+    (λ c. search needs)
     loop-again
     same-length
     returns)

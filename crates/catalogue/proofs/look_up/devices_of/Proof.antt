@@ -19,65 +19,59 @@ Inv-loop catalogue wanted devices₀ n held k₀ devices k =
 abbrev μ-loop : tie.MeasureT-loop
 μ-loop catalogue wanted devices₀ n held k₀ devices k = held - k
 
-held-of-requires : tie.Need-held-of-requires Inv-loop μ-loop
-held-of-requires c κs = search needs
-
 loop-holds : tie.Need-loop-holds Inv-loop μ-loop
 unfolding upTo padded
-loop-holds c = (omega arith, refl)
+loop-holds c = (omega arith, rw (c .before .blank-device .ensures))
 
 mul-at : tie.Need-mul-at Inv-loop μ-loop
-mul-at c = omega (arith, c .before .before .held-of .ensures)
+mul-at c = omega (arith, c .before .before .fewer .ensures)
 
 add-end : tie.Need-add-end Inv-loop μ-loop
-add-end c = omega (arith, c .before .before .held-of .ensures)
+add-end c = omega (arith, c .before .before .fewer .ensures)
 
 sub-record-of : tie.Need-sub-record-of Inv-loop μ-loop
-sub-record-of c = omega (arith, c .before .before .held-of .ensures)
+sub-record-of c = omega (arith, c .before .before .fewer .ensures)
 
 part-record-of-start : tie.Need-part-record-of-start Inv-loop μ-loop
-part-record-of-start c = omega (arith, c .before .before .held-of .ensures)
+part-record-of-start c = omega (arith, c .before .before .fewer .ensures)
 
 part-record-of-end : tie.Need-part-record-of-end Inv-loop μ-loop
-part-record-of-end c = omega (arith, c .before .before .held-of .ensures)
+part-record-of-end c = omega (arith, c .before .before .fewer .ensures)
 
 record-of-requires : tie.Need-record-of-requires Inv-loop μ-loop
 record-of-requires c κs =
-    let start = c .before .before .before .before .before .before in
+    let start = c .before .before .before .before .before .before .before in
     let s = start .args .catalogue .now in
     let w = start .args .wanted .now in
     let k = c .before .before .loop .k in
-    (start .pre .0, rw (slice-is w 8 (8 * k)) (wanted-has s w (start .pre .0) (start .pre .1) k (omega (arith, c .before .before .before .held-of .ensures))))
+    (start .pre .0, rw (slice-is w 8 (8 * k)) (wanted-has s w (start .pre .0) (start .pre .1) k (omega (arith, c .before .before .before .fewer .ensures))))
 
 mul-t18 : tie.Need-mul-t18 Inv-loop μ-loop
-mul-t18 c = omega (arith, c .before .before .before .before .held-of .ensures)
+mul-t18 c = omega (arith, c .before .before .before .before .fewer .ensures)
 
 element-set-from-devices : tie.Need-element-set-from-devices Inv-loop μ-loop
-element-set-from-devices c = omega (arith, c .before .before .before .before .held-of .ensures)
+element-set-from-devices c = omega (arith, c .before .before .before .before .fewer .ensures)
 
 add-k : tie.Need-add-k Inv-loop μ-loop
-add-k c = omega (arith, c .before .before .before .before .held-of .ensures)
-
-loop-less : tie.Need-loop-less Inv-loop μ-loop
-loop-less c = search needs
+add-k c = omega (arith, c .before .before .before .before .fewer .ensures)
 
 loop-again : tie.Need-loop-again Inv-loop μ-loop
 loop-again c =
     let l = c .before .before .before .loop in
-    let start = c .before .before .before .before .before .before .before in
+    let start = c .before .before .before .before .before .before .before .before in
     let s = start .args .catalogue .now in
     let w = start .args .wanted .now in
-    let few : l .k ≤ 7 = omega (arith, c .before .before .before .before .held-of .ensures) in
+    let few : l .k ≤ 7 = omega (arith, c .before .before .before .before .fewer .ensures) in
     (omega arith, rw (c .record-of .ensures, l .inv .1, slice-is w 8 (8 * l .k), upTo-fill 8 blankDevice (recordFor s w) (l .k) (omega arith)))
 
 returns : tie.Need-returns Inv-loop μ-loop
 returns c =
     let l = c .before .loop in
-    let start = c .before .before .before .before .before in
+    let start = c .before .before .before .before .before .before in
     let s = start .args .catalogue .now in
     let w = start .args .wanted .now in
-    let all : l .k ≡ c .before .before .held-of .result = omega arith in
-    rw (l .inv .1, all, c .before .before .held-of .ensures) (sym (wanted-devices s w (start .pre .0) (start .pre .1)))
+    let all : l .k ≡ c .before .before .fewer .result = omega arith in
+    rw (l .inv .1, all, c .before .before .fewer .ensures) (sym (wanted-devices s w (start .pre .0) (start .pre .1)))
 
 pub devices-of-spec : {M : Type 1} → statement M
 devices-of-spec =
@@ -85,7 +79,8 @@ devices-of-spec =
     (tie.spec
     Inv-loop
     μ-loop
-    held-of-requires
+    (λ c κs. search needs)
+    (λ c κs. search needs)
     loop-holds
     mul-at
     add-end
@@ -96,6 +91,6 @@ devices-of-spec =
     mul-t18
     element-set-from-devices
     add-k
-    loop-less
+    (λ c. search needs)
     loop-again
     returns)

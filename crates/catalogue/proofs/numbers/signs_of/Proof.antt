@@ -20,23 +20,11 @@ abbrev μ-loop : tie.MeasureT-loop
 loop-holds : tie.Need-loop-holds Inv-loop μ-loop
 loop-holds c = (omega arith, omega arith)
 
-shared-slice-read-is-sign : tie.Need-shared-slice-read-is-sign Inv-loop μ-loop
-shared-slice-read-is-sign c = search needs
-
-is-sign-requires : tie.Need-is-sign-requires Inv-loop μ-loop
-is-sign-requires c κs = search needs
-
 returns : tie.Need-returns Inv-loop μ-loop
 returns c =
     let l = c .before .before .before .before .loop in
     let no-sign = sym (c .before .is-sign .ensures) ∙ not-true _ (c .if1 .taken) in
     sym (l .inv .1 ∙ front-stop _ (l .i) (omega arith) no-sign)
-
-add-i : tie.Need-add-i Inv-loop μ-loop
-add-i c = search needs
-
-loop-less : tie.Need-loop-less Inv-loop μ-loop
-loop-less c = search needs
 
 loop-again : tie.Need-loop-again Inv-loop μ-loop
 loop-again c =
@@ -58,10 +46,10 @@ signs-of-spec =
     Inv-loop
     μ-loop
     loop-holds
-    shared-slice-read-is-sign
-    is-sign-requires
+    (λ c. search needs)
+    (λ c κs. search needs)
     returns
-    add-i
-    loop-less
+    (λ c. search needs)
+    (λ c. search needs)
     loop-again
     returns-2)

@@ -59,18 +59,6 @@ turn c =
     let e = energy-use (s .args .t3) (s .args .h) (s .pre .1 .0) (s .args .front) (s .pre .1 .1 .0) (s .args .d) (l .before .loop .i) (l .before .loop .at) (l .loop-test .taken) (l .before .loop .inv .1) in
     (omega (arith, e, l .before .loop .inv .2, c .gap-energy .ensures .0), small s (end (s .args .t3) (l .before .loop .i)) (fits l .2))
 
-mul-begin : tie.Need-mul-begin Inv-loop μ-loop
-mul-begin c = search needs
-
-element-copy-out-begin : tie.Need-element-copy-out-begin Inv-loop μ-loop
-element-copy-out-begin c = search needs
-
-mul-end : tie.Need-mul-end Inv-loop μ-loop
-mul-end c = search needs
-
-element-copy-out-end : tie.Need-element-copy-out-end Inv-loop μ-loop
-element-copy-out-end c = search needs
-
 sub-gap-energy : tie.Need-sub-gap-energy Inv-loop μ-loop
 sub-gap-energy c = omega (arith, fits (c .before .before))
 
@@ -79,9 +67,6 @@ gap-energy-requires c κs = c .before .before .before .before .pre .0
 
 add-sum : tie.Need-add-sum Inv-loop μ-loop
 add-sum c = omega (arith, turn c)
-
-cast-sum : tie.Need-cast-sum Inv-loop μ-loop
-cast-sum c = search needs
 
 sub-sum : tie.Need-sub-sum Inv-loop μ-loop
 sub-sum c = omega (arith, fits (c .before .before .before .before))
@@ -94,12 +79,6 @@ mul-sum c = omega (arith, turn (c .before))
 
 add-sum-2 : tie.Need-add-sum-2 Inv-loop μ-loop
 add-sum-2 c = omega (arith, turn (c .before))
-
-add-i : tie.Need-add-i Inv-loop μ-loop
-add-i c = search needs
-
-loop-less : tie.Need-loop-less Inv-loop μ-loop
-loop-less c = search needs
 
 loop-again : tie.Need-loop-again Inv-loop μ-loop
 loop-again c =
@@ -151,20 +130,20 @@ energy-from-spec =
     Inv-loop
     μ-loop
     loop-holds
-    mul-begin
-    element-copy-out-begin
-    mul-end
-    element-copy-out-end
+    (λ c. search needs)
+    (λ c. search needs)
+    (λ c. search needs)
+    (λ c. search needs)
     sub-gap-energy
     gap-energy-requires
     add-sum
-    cast-sum
+    (λ c. search needs)
     sub-sum
     cast-sum-2
     mul-sum
     add-sum-2
-    add-i
-    loop-less
+    (λ c. search needs)
+    (λ c. search needs)
     loop-again
     sub-gap-energy-2
     add-gap-energy

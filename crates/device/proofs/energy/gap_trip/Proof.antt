@@ -14,9 +14,6 @@ Inv-loop d g best₀ n₀ best n = (n ≤ d .levels) × Chosen d n g best
 abbrev μ-loop : tie.MeasureT-loop
 μ-loop d g best₀ n₀ best n = d .levels - n
 
-cast-t5 : tie.Need-cast-t5 Inv-loop μ-loop
-cast-t5 c = search needs
-
 mul-t7 : tie.Need-mul-t7 Inv-loop μ-loop
 mul-t7 c =
     let power : c .before .args .d .pw ≤ 65535 = omega (arith, c .before .good .0) in
@@ -26,19 +23,10 @@ mul-t7 c =
 loop-holds : tie.Need-loop-holds Inv-loop μ-loop
 loop-holds c = (omega arith, record { level = refl; cost = simp (mul-zero, sub-zero, zero-add) })
 
-cast-if1 : tie.Need-cast-if1 Inv-loop μ-loop
-cast-if1 c = search needs
-
 better-trip-requires : tie.Need-better-trip-requires Inv-loop μ-loop
 better-trip-requires c κs =
     let l = c .before .before in
     (l .before .before .pre, (c .if1 .taken, l .loop .inv .1))
-
-add-n : tie.Need-add-n Inv-loop μ-loop
-add-n c = search needs
-
-loop-less : tie.Need-loop-less Inv-loop μ-loop
-loop-less c = search needs
 
 loop-again : tie.Need-loop-again Inv-loop μ-loop
 loop-again c = (omega arith, c .better-trip .ensures)
@@ -56,12 +44,12 @@ gap-trip-spec =
     (tie.spec
     Inv-loop
     μ-loop
-    cast-t5
+    (λ c. search needs)
     mul-t7
     loop-holds
-    cast-if1
+    (λ c. search needs)
     better-trip-requires
-    add-n
-    loop-less
+    (λ c. search needs)
+    (λ c. search needs)
     loop-again
     returns)

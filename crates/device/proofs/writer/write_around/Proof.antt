@@ -1,7 +1,6 @@
 -- `device::write_around` meets its contract. First the end of the gap over the seam is written. The loop's invariant: after it the row is written up to the end of
 -- the last use passed, and the rest of the buffer is as it was. Then comes the beginning of that gap.
 use mathlib.Core.Path.{_≡_, sym, ap, _∙_}
-use mathlib.Core.Bool.{Bool}
 use mathlib.Core.List.{List, _++_, append-assoc, append-nil, map}
 use Prim.Native.Nat.{ℕ, _+_, _-_, _≤_, _<_}
 use native.Mathlib.Omega.{arith}
@@ -11,6 +10,7 @@ use lib.ListN.{length, replicate, length-replicate, take, drop, length-drop}
 use lib.Seq.{take-all, length-take-le}
 use Rattle.base.proofs.Filling.{Filled, filled-length}
 use Rattle.device.specs.declared.Device.{Device}
+use Rattle.device.specs.declared.Sleeps.{Sleeps}
 use Rattle.device.specs.Row.{byteOf, gapRow}
 use Rattle.device.specs.inside.Uses.{begin, end, afterFrom}
 use Rattle.device.specs.inside.Trips.{around}
@@ -20,15 +20,15 @@ use Rattle.device.proofs.writer.write_around.Statement.{statement}
 use Rattle.device.proofs.writer.write_around.Tie as tie
 
 -- The gap over the seam, of which n ticks lie at the row's end and b at its front.
-abbrev seamed : Bool → Device → ℕ → ℕ → List ℕ
-seamed digits d n b = map (byteOf digits) (gapRow d (n + b))
+abbrev seamed : Sleeps → Device → ℕ → ℕ → List ℕ
+seamed sleeps d n b = map (byteOf sleeps) (gapRow d (n + b))
 
 abbrev Inv-loop : tie.InvT-loop
-Inv-loop digits d h front tail out₀ u seam at₀ i₀ out at i =
-    (i ≤ u .count) × (at ≡ afterFrom front u i) × Filled out₀ at (drop tail (seamed digits d tail front) ++ bytes digits u d front at) out
+Inv-loop sleeps d h front tail out₀ u seam at₀ i₀ out at i =
+    (i ≤ u .count) × (at ≡ afterFrom front u i) × Filled out₀ at (drop tail (seamed sleeps d tail front) ++ bytes sleeps u d front at) out
 
 abbrev μ-loop : tie.MeasureT-loop
-μ-loop digits d h front tail out₀ u seam at₀ i₀ out at i = u .count - i
+μ-loop sleeps d h front tail out₀ u seam at₀ i₀ out at i = u .count - i
 
 -- The front and the tail lie within the row.
 room : (s : tie.Start Inv-loop μ-loop) → s .args .tail + s .args .front ≤ s .args .h
@@ -44,12 +44,12 @@ write-gap-requires c κs = let r = room (c .before .before) in (c .before .befor
 
 -- The end of the gap is written.
 head : (g : tie.After-write-gap Inv-loop μ-loop) → let a = g .before .before .before .args in
-    Filled (a .out .now) (a .front) (drop (a .tail) (seamed (a .digits) (a .d) (a .tail) (a .front))) (g .write-gap .last .0)
+    Filled (a .out .now) (a .front) (drop (a .tail) (seamed (a .sleeps) (a .d) (a .tail) (a .front))) (g .write-gap .last .0)
 head g =
     let s = g .before .before .before in
     let a = s .args in
-    let gap = seamed (a .digits) (a .d) (a .tail) (a .front) in
-    let long = length-gap-bytes (a .digits) (a .d) (a .tail + a .front) in
+    let gap = seamed (a .sleeps) (a .d) (a .tail) (a .front) in
+    let long = length-gap-bytes (a .sleeps) (a .d) (a .tail + a .front) in
     let all : take (a .front) (drop (a .tail) gap) ≡ drop (a .tail) gap = take-all (a .front) (drop (a .tail) gap) (omega (arith, length-drop (a .tail) gap)) in
     let first = written-first (take (a .front) (drop (a .tail) gap)) (length-take-le (a .front) (drop (a .tail) gap) (omega (arith, length-drop (a .tail) gap))) (g .write-gap .ensures) in
     rw (g .write-gap .ensures .0, all) at first
@@ -59,13 +59,13 @@ loop-holds c =
     let g = c .before .before in
     let a = g .before .before .before .args in
     let to : g .write-gap .result ≡ a .front = g .write-gap .ensures .0 in
-    let front = drop (a .tail) (seamed (a .digits) (a .d) (a .tail) (a .front)) in
-    let none : front ++ bytes (a .digits) (a .t4) (a .d) (a .front) (a .front) ≡ front = ap (λ (l : List ℕ). front ++ l) (bytes-none (a .digits) (a .t4) (a .d) (a .front)) ∙ append-nil front in
+    let front = drop (a .tail) (seamed (a .sleeps) (a .d) (a .tail) (a .front)) in
+    let none : front ++ bytes (a .sleeps) (a .t4) (a .d) (a .front) (a .front) ≡ front = ap (λ (l : List ℕ). front ++ l) (bytes-none (a .sleeps) (a .t4) (a .d) (a .front)) ∙ append-nil front in
     (omega arith, to, rw (to, none) (filled-begun (head g)))
 
 -- From the start on, and not only from where the loop begins.
 since : (l : tie.At-loop Inv-loop μ-loop) → let a = l .before .before .before .before .before .before .args in
-    Filled (a .out .now) (l .loop .at) (drop (a .tail) (seamed (a .digits) (a .d) (a .tail) (a .front)) ++ bytes (a .digits) (a .t4) (a .d) (a .front) (l .loop .at)) (l .loop .out)
+    Filled (a .out .now) (l .loop .at) (drop (a .tail) (seamed (a .sleeps) (a .d) (a .tail) (a .front)) ++ bytes (a .sleeps) (a .t4) (a .d) (a .front) (l .loop .at)) (l .loop .out)
 since l =
     let g = l .before .before .before in
     let s = g .before .before .before in
@@ -87,24 +87,6 @@ fits c =
     let wide = s .pre .1 .1 .1 .1 .1 .1 in
     let r = room s in
     (at, f .1, f .2, filled-length (since (c .before)) (omega arith), filled-length (head (c .before .before .before .before)) (omega arith))
-
-mul-begin : tie.Need-mul-begin Inv-loop μ-loop
-mul-begin c = search needs
-
-element-copy-out-begin : tie.Need-element-copy-out-begin Inv-loop μ-loop
-element-copy-out-begin c = search needs
-
-cast-begin : tie.Need-cast-begin Inv-loop μ-loop
-cast-begin c = search needs
-
-mul-end : tie.Need-mul-end Inv-loop μ-loop
-mul-end c = search needs
-
-element-copy-out-end : tie.Need-element-copy-out-end Inv-loop μ-loop
-element-copy-out-end c = search needs
-
-cast-end : tie.Need-cast-end Inv-loop μ-loop
-cast-end c = search needs
 
 sub-gap : tie.Need-sub-gap Inv-loop μ-loop
 sub-gap c = omega (arith, fits (c .before .before))
@@ -146,12 +128,6 @@ write-run-requires c κs = let s = c .before .before .before .before .before .be
 add-at-2 : tie.Need-add-at-2 Inv-loop μ-loop
 add-at-2 c = omega (arith, fits (c .before .before .before .before .before .before .before .before .before .before))
 
-add-i : tie.Need-add-i Inv-loop μ-loop
-add-i c = search needs
-
-loop-less : tie.Need-loop-less Inv-loop μ-loop
-loop-less c = search needs
-
 loop-again : tie.Need-loop-again Inv-loop μ-loop
 loop-again c =
     let w = c .before .before in
@@ -165,18 +141,18 @@ loop-again c =
     let f = fits l in
     let n = begin u i - at in
     let wide = s .pre .1 .1 .1 .1 .1 .1 in
-    let made = map (byteOf (a .digits)) (gapRow (a .d) n) in
-    let long = length-gap-bytes (a .digits) (a .d) n in
+    let made = map (byteOf (a .sleeps)) (gapRow (a .d) n) in
+    let long = length-gap-bytes (a .sleeps) (a .d) n in
     let all : take n (drop 0 made) ≡ made = take-all n made (omega arith) in
-    let first = drop (a .tail) (seamed (a .digits) (a .d) (a .tail) (a .front)) in
-    let before = bytes (a .digits) u (a .d) (a .front) at in
+    let first = drop (a .tail) (seamed (a .sleeps) (a .d) (a .tail) (a .front)) in
+    let before = bytes (a .sleeps) u (a .d) (a .front) at in
     let work : List ℕ = replicate (end u i - begin u i) 87 in
     let gap = written-on (l .before .loop .inv .2) (take n (drop 0 made)) (length-take-le n made (omega arith)) (omega arith) (g .write-gap2 .ensures) in
     let used = written-on gap work (length-replicate (end u i - begin u i) 87) (omega arith) (w .write-run .ensures) in
     let to : at + g .write-gap2 .result + w .write-run .result ≡ end u i = omega arith in
-    let joined : ((first ++ before) ++ take n (drop 0 made)) ++ work ≡ first ++ bytes (a .digits) u (a .d) (a .front) (end u i)
+    let joined : ((first ++ before) ++ take n (drop 0 made)) ++ work ≡ first ++ bytes (a .sleeps) u (a .d) (a .front) (end u i)
     = ap (λ (k : List ℕ). ((first ++ before) ++ k) ++ work) all ∙ ap (λ (k : List ℕ). k ++ work) (append-assoc first before made) ∙ append-assoc first (before ++ made) work
-    ∙ ap (λ (k : List ℕ). first ++ k) (sym (bytes-use (a .digits) u (a .h) (s .pre .1 .0) (a .d) (a .front) (s .pre .1 .1 .0) i at (l .loop-test .taken) (l .before .loop .inv .1))) in (
+    ∙ ap (λ (k : List ℕ). first ++ k) (sym (bytes-use (a .sleeps) u (a .h) (s .pre .1 .0) (a .d) (a .front) (s .pre .1 .1 .0) i at (l .loop-test .taken) (l .before .loop .inv .1))) in (
       omega arith,
       to ∙ from-next (a .front) u i,
       rw to (rw (to, joined) at used),
@@ -215,7 +191,7 @@ write-gap-requires-3 c κs =
 whole : (c : tie.After-write-gap3 Inv-loop μ-loop) → let l = c .before .before .before in
     let s = l .before .before .before .before .before .before in
     let a = s .args in
-    Filled (a .out .now) (a .h) (around (a .digits) (a .d) (a .t4) (a .front) (a .tail)) (putMid (l .loop .at) (length (l .loop .out) - l .loop .at) (l .loop .out) (c .write-gap3 .last .0))
+    Filled (a .out .now) (a .h) (around (a .sleeps) (a .d) (a .t4) (a .front) (a .tail)) (putMid (l .loop .at) (length (l .loop .out) - l .loop .at) (l .loop .out) (c .write-gap3 .last .0))
 unfolding around
 whole c =
     let l = c .before .before in
@@ -224,12 +200,12 @@ whole c =
     let at = l .before .loop .at in
     let o = over l in
     let r = room s in
-    let gap = seamed (a .digits) (a .d) (a .tail) (a .front) in
-    let long = length-gap-bytes (a .digits) (a .d) (a .tail + a .front) in
+    let gap = seamed (a .sleeps) (a .d) (a .tail) (a .front) in
+    let long = length-gap-bytes (a .sleeps) (a .d) (a .tail + a .front) in
     let wide = s .pre .1 .1 .1 .1 .1 .1 in
     let last = written-on (since (l .before)) (take (a .tail) (drop 0 gap)) (length-take-le (a .tail) gap (omega arith)) (omega arith) (c .write-gap3 .ensures) in
     let to : at + c .write-gap3 .result ≡ a .h = omega arith in
-    let joined = append-assoc (drop (a .tail) gap) (bytes (a .digits) (a .t4) (a .d) (a .front) at) (take (a .tail) gap) in
+    let joined = append-assoc (drop (a .tail) gap) (bytes (a .sleeps) (a .t4) (a .d) (a .front) at) (take (a .tail) gap) in
     rw (← o .0) (rw (to, joined) at last)
 
 same-length : tie.Need-same-length Inv-loop μ-loop
@@ -247,12 +223,12 @@ write-around-spec =
     add-seam
     write-gap-requires
     loop-holds
-    mul-begin
-    element-copy-out-begin
-    cast-begin
-    mul-end
-    element-copy-out-end
-    cast-end
+    (λ c. search needs)
+    (λ c. search needs)
+    (λ c. search needs)
+    (λ c. search needs)
+    (λ c. search needs)
+    (λ c. search needs)
     sub-gap
     sub-write-gap
     part-write-gap-start
@@ -265,8 +241,8 @@ write-around-spec =
     sub-write-run-2
     write-run-requires
     add-at-2
-    add-i
-    loop-less
+    (λ c. search needs)
+    (λ c. search needs)
     loop-again
     sub-write-gap-2
     part-write-gap-start-2

@@ -55,8 +55,8 @@ returns-2 c =
     let a = t .before .before .before .args in
     let m = t .gap-trip .result .level in
     let stay = a .g - (a .d .shut * m + a .d .wake * m) in
-    let row : tripBytes (a .d .shut * m) stay (a .d .wake * m) (byteOf (a .digits) (Row.at m)) ≡ map (byteOf (a .digits)) (gapRow (a .d) (a .g))
-    = sym (bytes-trip (a .digits) (a .d) m (a .g)) ∙ ap (λ (k : ℕ). map (byteOf (a .digits)) (trip (a .d) k (a .g))) (t .gap-trip .ensures .level) in
+    let row : tripBytes (a .d .shut * m) stay (a .d .wake * m) (byteOf (a .sleeps) (Row.at m)) ≡ map (byteOf (a .sleeps)) (gapRow (a .d) (a .g))
+    = sym (bytes-trip (a .sleeps) (a .d) m (a .g)) ∙ ap (λ (k : ℕ). map (byteOf (a .sleeps)) (trip (a .d) k (a .g))) (t .gap-trip .ensures .level) in
     let all = ap (tripBytes (a .d .shut * m) stay (a .d .wake * m)) (w .before .letter-at .ensures) ∙ row in
     (w .write-trip .ensures .0, w .write-trip .ensures .1 ∙ ap (λ (l : List ℕ). take (a .n) (drop (a .x) l) ++ drop (a .n) (a .rest .now)) all)
 

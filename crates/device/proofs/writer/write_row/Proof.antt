@@ -25,8 +25,8 @@ returns c =
     let s = w .before .before .before .before .before .before .before in
     let a = s .args in
     let e : idle (a .round) (a .u) ≡ true = sym (w .before .before .before .before .before .is-idle .ensures) ∙ w .before .before .before .before .if1 .taken in
-    let row : map (byteOf (a .digits)) (rowOf (a .round) (a .d) (pattern (usedIn (a .u)) 0 (a .h))) ≡ replicate (a .h) (byteOf (a .digits) (Row.at (a .d .levels)))
-    = ap (map (byteOf (a .digits))) (row-idle (a .u) (a .h) (s .pre .1 .0) (a .d) (a .round) e) ∙ map-replicate (byteOf (a .digits)) (a .h) (Row.at (a .d .levels)) in
+    let row : map (byteOf (a .sleeps)) (rowOf (a .round) (a .d) (pattern (usedIn (a .u)) 0 (a .h))) ≡ replicate (a .h) (byteOf (a .sleeps) (Row.at (a .d .levels)))
+    = ap (map (byteOf (a .sleeps))) (row-idle (a .u) (a .h) (s .pre .1 .0) (a .d) (a .round) e) ∙ map-replicate (byteOf (a .sleeps)) (a .h) (Row.at (a .d .levels)) in
     w .write-run .ensures .1 ∙ ap (λ (l : List ℕ). l ++ drop (a .h) (a .out .now)) (ap (replicate (a .h)) (w .before .letter-at .ensures) ∙ sym row)
 
 -- There is a use, or it is no round.
@@ -55,8 +55,8 @@ returns-2 c =
     let a = s .args in
     let l = lasts f in
     let tail : a .h - w .before .before .last-end .result ≡ a .h - afterFrom (f .front-of .result) (a .u) (a .u .count) = rw (l .1, w .before .before .last-end .ensures) in
-    let row : around (a .digits) (a .d) (a .u) (f .front-of .result) (a .h - w .before .before .last-end .result) ≡ map (byteOf (a .digits)) (rowOf (a .round) (a .d) (pattern (usedIn (a .u)) 0 (a .h)))
-    = rw (tail, f .front-of .ensures) (sym (row-around (a .digits) (a .u) (a .h) (s .pre .1 .0) (a .d) (a .round) (l .0))) in
+    let row : around (a .sleeps) (a .d) (a .u) (f .front-of .result) (a .h - w .before .before .last-end .result) ≡ map (byteOf (a .sleeps)) (rowOf (a .round) (a .d) (pattern (usedIn (a .u)) 0 (a .h)))
+    = rw (tail, f .front-of .ensures) (sym (row-around (a .sleeps) (a .u) (a .h) (s .pre .1 .0) (a .d) (a .round) (l .0))) in
     w .write-around .ensures ∙ ap (λ (r : List ℕ). r ++ drop (a .h) (a .out .now)) row
 
 pub write-row-spec : {M : Type 1} → statement M

@@ -17,15 +17,6 @@ abbrev μ-loop : tie.MeasureT-loop
 loop-holds : tie.Need-loop-holds Inv-loop μ-loop
 loop-holds c = (search needs, search needs, filled-none _)
 
-slice-write-rest : tie.Need-slice-write-rest Inv-loop μ-loop
-slice-write-rest c = search needs
-
-add-written : tie.Need-add-written Inv-loop μ-loop
-add-written c = search needs
-
-loop-less : tie.Need-loop-less Inv-loop μ-loop
-loop-less c = search needs
-
 loop-again : tie.Need-loop-again Inv-loop μ-loop
 loop-again c = (
   search needs,
@@ -33,13 +24,10 @@ loop-again c = (
   rw (← replicate-append-replicate (c .before .loop .written) 1 (c .before .before .args .letter)) (filled-store (c .before .loop .inv .2) (omega arith) (c .before .before .args .letter)),
 )
 
-same-length : tie.Need-same-length Inv-loop μ-loop
-same-length c = search needs
-
 returns : tie.Need-returns Inv-loop μ-loop
 returns c =
     let end : c .before .loop .written ≡ c .before .before .args .n = omega arith in
     (end, c .before .loop .inv .2 .is ∙ rw end)
 
 pub write-run-spec : {M : Type 1} → statement M
-write-run-spec = tie.close (tie.spec Inv-loop μ-loop loop-holds slice-write-rest add-written loop-less loop-again same-length returns)
+write-run-spec = tie.close (tie.spec Inv-loop μ-loop loop-holds (λ c. search needs) (λ c. search needs) (λ c. search needs) loop-again (λ c. search needs) returns)

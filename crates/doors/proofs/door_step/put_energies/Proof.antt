@@ -25,38 +25,11 @@ loop-holds c = (omega arith, fours-none (λ i. getD (c .before .before .args .en
 same : (c : tie.At-loop Inv-loop μ-loop) → length (c .loop .out) ≡ length (c .before .before .before .args .out .now)
 same c = filled-length (c .loop .inv .1) (omega (arith, c .before .before .before .pre))
 
-mul-at : tie.Need-mul-at Inv-loop μ-loop
-mul-at c = search needs
-
-add-end : tie.Need-add-end Inv-loop μ-loop
-add-end c = search needs
-
-sub-put : tie.Need-sub-put Inv-loop μ-loop
-sub-put c = search needs
-
-part-put-start : tie.Need-part-put-start Inv-loop μ-loop
-part-put-start c = search needs
-
 part-put-end : tie.Need-part-put-end Inv-loop μ-loop
 part-put-end c = omega (arith, same (c .before), c .before .before .before .before .pre)
 
-mul-put : tie.Need-mul-put Inv-loop μ-loop
-mul-put c = search needs
-
-shared-slice-read-put : tie.Need-shared-slice-read-put Inv-loop μ-loop
-shared-slice-read-put c = search needs
-
 cast-put : tie.Need-cast-put Inv-loop μ-loop
 cast-put c = record { fits = omega (arith, c .shared-slice-known2 .given (c .before .before .before .loop .k)) }
-
-put-requires : tie.Need-put-requires Inv-loop μ-loop
-put-requires c κs = search needs
-
-add-k : tie.Need-add-k Inv-loop μ-loop
-add-k c = search needs
-
-loop-less : tie.Need-loop-less Inv-loop μ-loop
-loop-less c = search needs
 
 loop-again : tie.Need-loop-again Inv-loop μ-loop
 loop-again c =
@@ -81,17 +54,17 @@ put-energies-spec =
     Inv-loop
     μ-loop
     loop-holds
-    mul-at
-    add-end
-    sub-put
-    part-put-start
+    (λ c. search needs)
+    (λ c. search needs)
+    (λ c. search needs)
+    (λ c. search needs)
     part-put-end
-    mul-put
-    shared-slice-read-put
+    (λ c. search needs)
+    (λ c. search needs)
     cast-put
-    put-requires
-    add-k
-    loop-less
+    (λ c κs. search needs)
+    (λ c. search needs)
+    (λ c. search needs)
     loop-again
     same-length
     returns)

@@ -15,9 +15,6 @@ Inv-loop r extras₀ m k₀ extras k = (k ≤ m) × Devices (recorderOf r) k ext
 abbrev μ-loop : tie.MeasureT-loop
 μ-loop r extras₀ m k₀ extras k = m - k
 
-device-count-requires : tie.Need-device-count-requires Inv-loop μ-loop
-device-count-requires c κs = search needs
-
 loop-holds : tie.Need-loop-holds Inv-loop μ-loop
 loop-holds c = (omega arith, devices-none (c .before .before .pre .1), refl)
 
@@ -26,12 +23,6 @@ lay-device-requires c κs =
     let l = c .before .before in
     let s = l .before .before .before in
     (s .pre .0, (omega (arith, c .before .loop-test .taken, l .before .device-count .ensures), l .loop .inv .1 .long))
-
-add-k : tie.Need-add-k Inv-loop μ-loop
-add-k c = search needs
-
-loop-less : tie.Need-loop-less Inv-loop μ-loop
-loop-less c = search needs
 
 loop-again : tie.Need-loop-again Inv-loop μ-loop
 loop-again c =
@@ -52,11 +43,11 @@ lay-extras-spec =
     (tie.spec
     Inv-loop
     μ-loop
-    device-count-requires
+    (λ c κs. search needs)
     loop-holds
     lay-device-requires
-    add-k
-    loop-less
+    (λ c. search needs)
+    (λ c. search needs)
     loop-again
     (λ c. c .before .loop .inv .2)
     returns)

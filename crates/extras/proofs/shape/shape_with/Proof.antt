@@ -7,11 +7,11 @@ use Rattle.extras.proofs.shape.shape_with.Tie as tie
 
 returns : tie.Need-returns
 unfolding shapeWith
-returns c = simp (lt-ltb _ _ (c .before .if1 .taken), c .later .ensures)
+returns c = simp (lt-ltb _ _ (c .before .if1 .taken), c .larger .ensures)
 
 returns-2 : tie.Need-returns-2
 unfolding shapeWith
-returns-2 c = simp (le-ltb _ _ (c .before .before .if1 .left), lt-ltb _ _ (c .before .if2 .taken), c .later2 .ensures)
+returns-2 c = simp (le-ltb _ _ (c .before .before .if1 .left), lt-ltb _ _ (c .before .if2 .taken), c .larger2 .ensures)
 
 returns-3 : tie.Need-returns-3
 unfolding shapeWith

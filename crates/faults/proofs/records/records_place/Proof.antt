@@ -24,17 +24,11 @@ loop-holds c =
     let all : a .count ≡ a .count - 0 = omega arith in
     (c .before .pre .0, c .before .pre .1, omega arith, ap (λ (n : ℕ). recordsWalk (a .mark) (a .s .now) (a .k) n 0 (a .from)) all)
 
-record-place-requires : tie.Need-record-place-requires Inv-loop μ-loop
-record-place-requires c κs = search needs
-
 returns : tie.Need-returns Inv-loop μ-loop
 returns c =
     let l = c .before .before .before .before .loop in
     let more : 0 < c .before .before .before .before .before .before .args .count - l .i = omega arith in
     walk-stop _ _ _ _ _ _ _ more (c .before .before .record-place .ensures) (c .if1 .taken) ∙ sym (l .inv .3)
-
-size-of-requires : tie.Need-size-of-requires Inv-loop μ-loop
-size-of-requires c κs = search needs
 
 -- The record at hand is not at fault.
 passed : (c : tie.Else1 Inv-loop μ-loop) → (let a = c .before .before .before .before .before .before .args in let l = c .before .before .before .before .loop in recordPlace (a .mark) (a .s .now) (a .k) (l .i) (l .at) .number ≡ 0)
@@ -48,20 +42,11 @@ roomy c =
 add-at : tie.Need-add-at Inv-loop μ-loop
 add-at c = rw (c .size-of .ensures) (omega (arith, roomy (c .before)))
 
-add-i : tie.Need-add-i Inv-loop μ-loop
-add-i c = search needs
-
 loop-again : tie.Need-loop-again Inv-loop μ-loop
 loop-again c =
     let a = c .before .before .before .before .before .before .before .args in
     let l = c .before .before .before .before .before .loop in
     rw (c .size-of .ensures) (roomy (c .before), l .inv .1, omega arith, l .inv .3 ∙ walk-next (a .mark) (a .s .now) (a .k) (a .count) (l .i) (l .at) (omega arith) (passed (c .before)))
-
-loop-less : tie.Need-loop-less Inv-loop μ-loop
-loop-less c = search needs
-
-no-fault-requires : tie.Need-no-fault-requires Inv-loop μ-loop
-no-fault-requires c κs = search needs
 
 returns-2 : tie.Need-returns-2 Inv-loop μ-loop
 returns-2 c =
@@ -76,12 +61,12 @@ records-place-spec =
     Inv-loop
     μ-loop
     loop-holds
-    record-place-requires
+    (λ c κs. search needs)
     returns
-    size-of-requires
+    (λ c κs. search needs)
     add-at
-    add-i
-    loop-less
+    (λ c. search needs)
+    (λ c. search needs)
     loop-again
-    no-fault-requires
+    (λ c κs. search needs)
     returns-2)

@@ -18,9 +18,6 @@ Inv-loop r table t m n rest₀ p₀ j₀ rest p j = ((i : ℕ) → i < j → Ope
 abbrev μ-loop : tie.MeasureT-loop
 μ-loop r table t m n rest₀ p₀ j₀ rest p j = n - j
 
-job-count-requires : tie.Need-job-count-requires Inv-loop μ-loop
-job-count-requires c κs = search needs
-
 loop-holds : tie.Need-loop-holds Inv-loop μ-loop
 loop-holds c = ((λ i h o. omega arith), omega arith, omega arith, omega arith)
 
@@ -38,12 +35,6 @@ mul-p : tie.Need-mul-p Inv-loop μ-loop
 mul-p c =
     let s = c .before .before .before .before .before in
     omega (arith, c .before .before .before .loop .inv .2, power-next (c .before .before .before .loop .j) (omega (arith, c .before .before .before .before .job-count .ensures, s .pre .0 .few-jobs)))
-
-add-j : tie.Need-add-j Inv-loop μ-loop
-add-j c = search needs
-
-loop-less : tie.Need-loop-less Inv-loop μ-loop
-loop-less c = search needs
 
 loop-again : tie.Need-loop-again Inv-loop μ-loop
 loop-again c =
@@ -66,12 +57,12 @@ first-job-spec =
     (tie.spec
     Inv-loop
     μ-loop
-    job-count-requires
+    (λ c κs. search needs)
     loop-holds
     offered-requires
     returns
     mul-p
-    add-j
-    loop-less
+    (λ c. search needs)
+    (λ c. search needs)
     loop-again
     returns-2)

@@ -31,12 +31,6 @@ first-job-requires c κs =
 release-of-requires : tie.Need-release-of-requires Inv-loop μ-loop
 release-of-requires c κs = omega (arith, c .first-job .ensures .opens .known, c .before .before .before .before .before .pre .0 .few-jobs)
 
-larger-requires : tie.Need-larger-requires Inv-loop μ-loop
-larger-requires c κs = search needs
-
-mul-starts : tie.Need-mul-starts Inv-loop μ-loop
-mul-starts c = search needs
-
 slice-write-starts : tie.Need-slice-write-starts Inv-loop μ-loop
 slice-write-starts c = omega (arith, c .before .before .first-job .ensures .opens .known, c .before .before .before .before .loop .inv .long, c .before .before .before .before .before .before .before .pre .1 .1 .0)
 
@@ -46,7 +40,7 @@ run-of-requires c κs = omega (arith, c .before .before .first-job .ensures .ope
 add-t : tie.Need-add-t Inv-loop μ-loop
 add-t c =
     let s = c .before .before .before .before .before .before .before .before in
-    omega (arith, c .run-of .ensures, c .before .larger .ensures, c .before .before .release-of .ensures, leads-ends (recorderOf (s .args .r .now)) (s .pre .0) _ _ _ (c .before .before .before .first-job .ensures))
+    omega (arith, c .run-of .ensures, c .before .later .ensures, c .before .before .release-of .ensures, leads-ends (recorderOf (s .args .r .now)) (s .pre .0) _ _ _ (c .before .before .before .first-job .ensures))
 
 power-requires : tie.Need-power-requires Inv-loop μ-loop
 power-requires c κs = omega (arith, c .before .before .before .first-job .ensures .opens .known, c .before .before .before .before .before .before .before .before .pre .0 .few-jobs)
@@ -65,8 +59,8 @@ loop-again c =
     let j = c .before .before .before .before .first-job .result in
     let t = c .before .before .before .before .before .before .loop .t in
     rw (c .power .ensures, c .before .run-of .ensures)
-    (going-next (recorderOf (s .args .r .now)) (s .args .starts .now) (c .before .before .before .before .before .before .loop .inv) j (c .before .before .larger .result) (c .before .before .before .before .first-job .ensures)
-    (c .before .before .larger .ensures ∙ ap (λ (x : ℕ). max t x) (c .before .before .before .release-of .ensures)))
+    (going-next (recorderOf (s .args .r .now)) (s .args .starts .now) (c .before .before .before .before .before .before .loop .inv) j (c .before .before .later .result) (c .before .before .before .before .first-job .ensures)
+    (c .before .before .later .ensures ∙ ap (λ (x : ℕ). max t x) (c .before .before .before .release-of .ensures)))
 
 same-length : tie.Need-same-length Inv-loop μ-loop
 same-length c = c .before .loop .inv .long
@@ -84,8 +78,8 @@ lay-starts-spec =
     loop-holds
     first-job-requires
     release-of-requires
-    larger-requires
-    mul-starts
+    (λ c κs. search needs)
+    (λ c. search needs)
     slice-write-starts
     run-of-requires
     add-t

@@ -18,20 +18,8 @@ Inv-loop r extras v j round m made₀ k₀ made k =
 abbrev μ-loop : tie.MeasureT-loop
 μ-loop r extras v j round m made₀ k₀ made k = m - k
 
-is-round-requires : tie.Need-is-round-requires Inv-loop μ-loop
-is-round-requires c κs = search needs
-
-device-count-requires : tie.Need-device-count-requires Inv-loop μ-loop
-device-count-requires c κs = search needs
-
 loop-holds : tie.Need-loop-holds Inv-loop μ-loop
 loop-holds c = (omega arith, omega (arith, c .device-count .ensures, c .before .before .before .pre .0 .valid .few-devices), refl, omega arith)
-
-mul-fall-with : tie.Need-mul-fall-with Inv-loop μ-loop
-mul-fall-with c = omega arith
-
-element-copy-out-fall-with : tie.Need-element-copy-out-fall-with Inv-loop μ-loop
-element-copy-out-fall-with c = omega arith
 
 fall-with-requires : tie.Need-fall-with-requires Inv-loop μ-loop
 fall-with-requires c κs =
@@ -52,12 +40,6 @@ more c =
 
 add-sum : tie.Need-add-sum Inv-loop μ-loop
 add-sum c = omega (arith, more c)
-
-add-k : tie.Need-add-k Inv-loop μ-loop
-add-k c = omega arith
-
-loop-less : tie.Need-loop-less Inv-loop μ-loop
-loop-less c = omega arith
 
 loop-again : tie.Need-loop-again Inv-loop μ-loop
 unfolding fallBy
@@ -84,14 +66,14 @@ falls-of-spec =
     (tie.spec
     Inv-loop
     μ-loop
-    is-round-requires
-    device-count-requires
+    (λ c κs. search needs)
+    (λ c κs. search needs)
     loop-holds
-    mul-fall-with
-    element-copy-out-fall-with
+    (λ c. omega arith)
+    (λ c. omega arith)
     fall-with-requires
     add-sum
-    add-k
-    loop-less
+    (λ c. omega arith)
+    (λ c. omega arith)
     loop-again
     returns)

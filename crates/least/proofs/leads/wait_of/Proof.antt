@@ -14,42 +14,12 @@ Inv-loop r extras v time round m until₀ k₀ until k = (k ≤ m) × (m ≤ 8) 
 abbrev μ-loop : tie.MeasureT-loop
 μ-loop r extras v time round m until₀ k₀ until k = m - k
 
-is-round-requires : tie.Need-is-round-requires Inv-loop μ-loop
-is-round-requires c κs = search needs
-
-device-count-requires : tie.Need-device-count-requires Inv-loop μ-loop
-device-count-requires c κs = search needs
-
 -- The time is one of the horizon's, which has at most 4,096 ticks.
 soon : (s : tie.Start Inv-loop μ-loop) → s .args .time ≤ 4096
 soon s = omega (arith, s .pre .1 .by, s .pre .0 .valid .few-ticks)
 
 loop-holds : tie.Need-loop-holds Inv-loop μ-loop
 loop-holds c = (omega arith, omega (arith, c .device-count .ensures, c .before .before .before .pre .0 .valid .few-devices), omega (arith, soon (c .before .before .before)))
-
-add-wait-with : tie.Need-add-wait-with Inv-loop μ-loop
-add-wait-with c = omega arith
-
-mul-wait-with : tie.Need-mul-wait-with Inv-loop μ-loop
-mul-wait-with c = omega arith
-
-element-copy-out-wait-with : tie.Need-element-copy-out-wait-with Inv-loop μ-loop
-element-copy-out-wait-with c = omega arith
-
-mul-is-unused : tie.Need-mul-is-unused Inv-loop μ-loop
-mul-is-unused c = omega arith
-
-element-copy-out-is-unused : tie.Need-element-copy-out-is-unused Inv-loop μ-loop
-element-copy-out-is-unused c = omega arith
-
-is-unused-requires : tie.Need-is-unused-requires Inv-loop μ-loop
-is-unused-requires c κs = search needs
-
-mul-wait-with-2 : tie.Need-mul-wait-with-2 Inv-loop μ-loop
-mul-wait-with-2 c = omega arith
-
-element-copy-out-wait-with-2 : tie.Need-element-copy-out-wait-with-2 Inv-loop μ-loop
-element-copy-out-wait-with-2 c = omega arith
 
 cap-of-requires : tie.Need-cap-of-requires Inv-loop μ-loop
 cap-of-requires c κs =
@@ -65,12 +35,6 @@ wait-with-requires c κs =
       (omega (arith, start .pre .1 .ends (l .loop .k) few, soon start), l .loop .inv .2),
     )
 
-add-k : tie.Need-add-k Inv-loop μ-loop
-add-k c = omega arith
-
-loop-less : tie.Need-loop-less Inv-loop μ-loop
-loop-less c = omega arith
-
 loop-again : tie.Need-loop-again Inv-loop μ-loop
 loop-again c = (omega arith, c .before .before .before .before .before .before .before .loop .inv .1, c .wait-with .ensures)
 
@@ -79,15 +43,6 @@ add-until c = omega (arith, soon (c .before .before .before .before .before .bef
 
 mul-until : tie.Need-mul-until Inv-loop μ-loop
 mul-until c = omega (arith, soon (c .before .before .before .before .before .before))
-
-horizon-of-requires : tie.Need-horizon-of-requires Inv-loop μ-loop
-horizon-of-requires c κs = search needs
-
-wide-requires : tie.Need-wide-requires Inv-loop μ-loop
-wide-requires c κs = search needs
-
-sooner-requires : tie.Need-sooner-requires Inv-loop μ-loop
-sooner-requires c κs = search needs
 
 -- With all devices at their caps the next step of 32 ticks is later too.
 after : (c : tie.Joined1 Inv-loop μ-loop) → c .before .before .before .before .before .before .args .time < c .if1 .until
@@ -98,7 +53,7 @@ of-two t u h x e l = (omega arith, λ b. omega arith)
 
 returns : tie.Need-returns Inv-loop μ-loop
 returns c =
-    let made = rw (c .before .wide .ensures .0, c .before .before .horizon-of .ensures) at (c .sooner .ensures) in
+    let made = rw (c .before .wide .ensures .0, c .before .before .horizon-of .ensures) at (c .smaller .ensures) in
     of-two _ _ _ _ made (after (c .before .before .before))
 
 pub wait-of-spec : {M : Type 1} → statement M
@@ -107,25 +62,25 @@ wait-of-spec =
     (tie.spec
     Inv-loop
     μ-loop
-    is-round-requires
-    device-count-requires
+    (λ c κs. search needs)
+    (λ c κs. search needs)
     loop-holds
     cap-of-requires
-    mul-is-unused
-    element-copy-out-is-unused
-    is-unused-requires
-    mul-wait-with
-    element-copy-out-wait-with
-    add-wait-with
-    mul-wait-with-2
-    element-copy-out-wait-with-2
+    (λ c. omega arith)
+    (λ c. omega arith)
+    (λ c κs. search needs)
+    (λ c. omega arith)
+    (λ c. omega arith)
+    (λ c. omega arith)
+    (λ c. omega arith)
+    (λ c. omega arith)
     wait-with-requires
-    add-k
-    loop-less
+    (λ c. omega arith)
+    (λ c. omega arith)
     loop-again
     add-until
     mul-until
-    horizon-of-requires
-    wide-requires
-    sooner-requires
+    (λ c κs. search needs)
+    (λ c κs. search needs)
+    (λ c κs. search needs)
     returns)

@@ -14,9 +14,6 @@ abbrev μ-loop : tie.MeasureT-loop
 loop-holds : tie.Need-loop-holds Inv-loop μ-loop
 loop-holds c = omega arith
 
-add-effort : tie.Need-add-effort Inv-loop μ-loop
-add-effort c = omega arith
-
 loop-less : tie.Need-loop-less Inv-loop μ-loop
 loop-less c = omega (arith, ltb-true)
 
@@ -26,10 +23,7 @@ loop-again c = omega (arith, ltb-true)
 returns : tie.Need-returns Inv-loop μ-loop
 returns c = omega arith
 
-returns-2 : tie.Need-returns-2 Inv-loop μ-loop
-returns-2 c = omega arith
-
 pub effort-of-spec : {M : Type 1} → statement M
 effort-of-spec =
     tie.close
-    (tie.spec Inv-loop μ-loop loop-holds add-effort loop-less loop-again returns returns-2)
+    (tie.spec Inv-loop μ-loop loop-holds (λ c. omega arith) loop-less loop-again returns (λ c. omega arith))

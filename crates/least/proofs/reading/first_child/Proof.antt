@@ -21,9 +21,6 @@ Inv-loop r extras latest memory₀ entered₀ budget lift v set time goal n rest
 abbrev μ-loop : tie.MeasureT-loop
 μ-loop r extras latest memory₀ entered₀ budget lift v set time goal n rest₀ p₀ j₀ memory entered rest p j = n - j
 
-job-count-requires : tie.Need-job-count-requires Inv-loop μ-loop
-job-count-requires c κs = search needs
-
 loop-holds : tie.Need-loop-holds Inv-loop μ-loop
 loop-holds c =
     let s = c .before .before .before in
@@ -34,9 +31,6 @@ first-start-requires c κs =
     let s = c .before .before .before .before .before .before .before .before in
     let l = c .before .before .before .before .loop in
     (l .inv .3, (l .inv .4, (s .pre .1 .1 .0, (s .pre .1 .1 .1, (omega (arith, c .before .before .before .loop-test .taken, c .before .before .before .before .before .job-count .ensures), (bit-is _ _ _ (l .inv .2) (c .before .before .if1 .taken), l .inv .1))))))
-
-same-length : tie.Need-same-length Inv-loop μ-loop
-same-length c = omega arith
 
 returns : tie.Need-returns Inv-loop μ-loop
 returns c =
@@ -51,12 +45,6 @@ mul-p : tie.Need-mul-p Inv-loop μ-loop
 mul-p c =
     let l = c .before .before .loop in
     omega (arith, l .inv .1, power-next (l .j) (omega (arith, c .before .loop-test .taken, c .before .before .before .job-count .ensures, c .before .before .before .before .before .before .pre .0 .tabled .valid .few-jobs)))
-
-add-j : tie.Need-add-j Inv-loop μ-loop
-add-j c = omega arith
-
-loop-less : tie.Need-loop-less Inv-loop μ-loop
-loop-less c = omega arith
 
 loop-again : tie.Need-loop-again Inv-loop μ-loop
 loop-again c =
@@ -102,14 +90,14 @@ first-child-spec =
     (tie.spec
     Inv-loop
     μ-loop
-    job-count-requires
+    (λ c κs. search needs)
     loop-holds
     first-start-requires
-    same-length
+    (λ c. omega arith)
     returns
     mul-p
-    add-j
-    loop-less
+    (λ c. omega arith)
+    (λ c. omega arith)
     loop-again
     same-length-2
     returns-2)

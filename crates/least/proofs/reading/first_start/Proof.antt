@@ -54,12 +54,6 @@ release-of-requires c κs =
     let p-is = s .pre .1 .1 .1 .1 .1 .1 in
     omega (arith, known, valid .few-jobs)
 
-wide-requires : tie.Need-wide-requires Inv-loop μ-loop
-wide-requires c κs = search needs
-
-later-requires : tie.Need-later-requires Inv-loop μ-loop
-later-requires c κs = search needs
-
 loop-holds : tie.Need-loop-holds Inv-loop μ-loop
 loop-holds c =
     let s = c .before .before .before .before .before .before in
@@ -75,7 +69,7 @@ lead-of-requires c κs =
     let one = s .pre .1 .1 .1 .1 .1 .0 in
     let p-is = s .pre .1 .1 .1 .1 .1 .1 in
     let l = c .before .loop in
-    let from-is = c .before .before .later .ensures ∙ ap (max _) (c .before .before .before .wide .ensures .0 ∙ c .before .before .before .before .release-of .ensures) in
+    let from-is = c .before .before .larger .ensures ∙ ap (max _) (c .before .before .before .wide .ensures .0 ∙ c .before .before .before .before .release-of .ensures) in
     let last-is = c .before .before .before .before .before .last-of .ensures in
     let late = slot-late _ _ _ _ (l .s) (subst (λ (n : ℕ). l .s < n) last-is (c .loop-test .taken)) in
     (s .pre .0 .tabled, (omega (arith, known, valid .few-jobs), ordered-later R valid _ _ _ (held-ordered R valid _ _ _ held) (omega (arith, l .inv .2 .low, from-is)) (omega (arith, late, valid .ends (s .args .j) known))))
@@ -90,13 +84,10 @@ hits-requires c κs =
     let one = s .pre .1 .1 .1 .1 .1 .0 in
     let p-is = s .pre .1 .1 .1 .1 .1 .1 in
     let l = c .before .before .before .before .loop in
-    let from-is = c .before .before .before .before .before .later .ensures ∙ ap (max _) (c .before .before .before .before .before .before .wide .ensures .0 ∙ c .before .before .before .before .before .before .before .release-of .ensures) in
+    let from-is = c .before .before .before .before .before .larger .ensures ∙ ap (max _) (c .before .before .before .before .before .before .wide .ensures .0 ∙ c .before .before .before .before .before .before .before .release-of .ensures) in
     let last-is = c .before .before .before .before .before .before .before .before .last-of .ensures in
     let late = slot-late _ _ _ _ (l .s) (subst (λ (n : ℕ). l .s < n) last-is (c .before .before .before .loop-test .taken)) in
     (l .inv .0, (l .inv .1, (held-offers R valid _ _ _ held _ _ known one (omega (arith, l .inv .2 .low, from-is)) late, (p-is, s .pre .1 .1 .1 .0))))
-
-same-length : tie.Need-same-length Inv-loop μ-loop
-same-length c = omega arith
 
 returns : tie.Need-returns Inv-loop μ-loop
 returns c =
@@ -108,14 +99,11 @@ returns c =
     let one = s .pre .1 .1 .1 .1 .1 .0 in
     let p-is = s .pre .1 .1 .1 .1 .1 .1 in
     let l = c .before .before .before .before .before .before .before .before .loop in
-    let from-is = c .before .before .before .before .before .before .before .before .before .later .ensures ∙ ap (max _) (c .before .before .before .before .before .before .before .before .before .before .wide .ensures .0 ∙ c .before .before .before .before .before .before .before .before .before .before .before .release-of .ensures) in
+    let from-is = c .before .before .before .before .before .before .before .before .before .larger .ensures ∙ ap (max _) (c .before .before .before .before .before .before .before .before .before .before .wide .ensures .0 ∙ c .before .before .before .before .before .before .before .before .before .before .before .release-of .ensures) in
     let last-is = c .before .before .before .before .before .before .before .before .before .before .before .before .last-of .ensures in
     let late = slot-late _ _ _ _ (l .s) (subst (λ (n : ℕ). l .s < n) last-is (c .before .before .before .before .before .before .before .loop-test .taken)) in
     let e = c .before .before .before .hits in
     (e .ensures .0, λ m u h q. start-stopped R valid _ _ _ _ _ _ _ _ (c .before .before .before .before .before .before .before .before .before .before .before .before .last-of .result) known one from-is _ _ (l .inv .2) late _ _ _ (c .before .before .before .before .before .before .lead-of .ensures .0) (e .ensures .1) (c .if1 .taken) m u h q _)
-
-same-length-2 : tie.Need-same-length-2 Inv-loop μ-loop
-same-length-2 c = omega arith
 
 returns-2 : tie.Need-returns-2 Inv-loop μ-loop
 returns-2 c =
@@ -127,17 +115,11 @@ returns-2 c =
     let one = s .pre .1 .1 .1 .1 .1 .0 in
     let p-is = s .pre .1 .1 .1 .1 .1 .1 in
     let l = c .before .before .before .before .before .before .before .before .before .loop in
-    let from-is = c .before .before .before .before .before .before .before .before .before .before .later .ensures ∙ ap (max _) (c .before .before .before .before .before .before .before .before .before .before .before .wide .ensures .0 ∙ c .before .before .before .before .before .before .before .before .before .before .before .before .release-of .ensures) in
+    let from-is = c .before .before .before .before .before .before .before .before .before .before .larger .ensures ∙ ap (max _) (c .before .before .before .before .before .before .before .before .before .before .before .wide .ensures .0 ∙ c .before .before .before .before .before .before .before .before .before .before .before .before .release-of .ensures) in
     let last-is = c .before .before .before .before .before .before .before .before .before .before .before .before .before .last-of .ensures in
     let late = slot-late _ _ _ _ (l .s) (subst (λ (n : ℕ). l .s < n) last-is (c .before .before .before .before .before .before .before .before .loop-test .taken)) in
     let e = c .before .before .before .before .hits in
     (e .ensures .0, λ m u h q. start-found R valid _ _ _ _ _ _ _ _ (c .before .before .before .before .before .before .before .before .before .before .before .before .before .last-of .result) known one from-is _ _ (l .inv .2) late _ _ _ (c .before .before .before .before .before .before .before .lead-of .ensures .0) (e .ensures .1) (c .before .if1 .left) (c .if2 .taken) m u h q)
-
-add-s : tie.Need-add-s Inv-loop μ-loop
-add-s c = omega arith
-
-loop-less : tie.Need-loop-less Inv-loop μ-loop
-loop-less c = omega arith
 
 loop-again : tie.Need-loop-again Inv-loop μ-loop
 loop-again c =
@@ -149,7 +131,7 @@ loop-again c =
     let one = s .pre .1 .1 .1 .1 .1 .0 in
     let p-is = s .pre .1 .1 .1 .1 .1 .1 in
     let l = c .before .before .before .before .before .before .before .before .before .loop in
-    let from-is = c .before .before .before .before .before .before .before .before .before .before .later .ensures ∙ ap (max _) (c .before .before .before .before .before .before .before .before .before .before .before .wide .ensures .0 ∙ c .before .before .before .before .before .before .before .before .before .before .before .before .release-of .ensures) in
+    let from-is = c .before .before .before .before .before .before .before .before .before .before .larger .ensures ∙ ap (max _) (c .before .before .before .before .before .before .before .before .before .before .before .wide .ensures .0 ∙ c .before .before .before .before .before .before .before .before .before .before .before .before .release-of .ensures) in
     let last-is = c .before .before .before .before .before .before .before .before .before .before .before .before .before .last-of .ensures in
     let late = slot-late _ _ _ _ (l .s) (subst (λ (n : ℕ). l .s < n) last-is (c .before .before .before .before .before .before .before .before .loop-test .taken)) in
     let e = c .before .before .before .before .hits in
@@ -168,7 +150,7 @@ returns-3 c =
     let one = s .pre .1 .1 .1 .1 .1 .0 in
     let p-is = s .pre .1 .1 .1 .1 .1 .1 in
     let l = c .before .loop in
-    let from-is = c .before .before .later .ensures ∙ ap (max _) (c .before .before .before .wide .ensures .0 ∙ c .before .before .before .before .release-of .ensures) in
+    let from-is = c .before .before .larger .ensures ∙ ap (max _) (c .before .before .before .wide .ensures .0 ∙ c .before .before .before .before .release-of .ensures) in
     let last-is = c .before .before .before .before .before .last-of .ensures in
     ((l .inv .0, l .inv .1), λ m u h q. start-nowhere R valid _ _ _ _ _ _ _ _ _ known one from-is _ _ (l .inv .2) (starts-slot R _ (s .pre .0 .laid) _ _ _ _ (held-few R valid _ _ _ held .0) p-is last-is) (omega (arith, c .loop-test .left)) m u h q)
 
@@ -181,17 +163,17 @@ first-start-spec =
     sub-last-of
     last-of-requires
     release-of-requires
-    wide-requires
-    later-requires
+    (λ c κs. search needs)
+    (λ c κs. search needs)
     loop-holds
     lead-of-requires
     hits-requires
-    same-length
+    (λ c. omega arith)
     returns
-    same-length-2
+    (λ c. omega arith)
     returns-2
-    add-s
-    loop-less
+    (λ c. omega arith)
+    (λ c. omega arith)
     loop-again
     same-length-3
     returns-3)

@@ -19,9 +19,6 @@ enter-requires c κs =
     let s = c .before .before .before .before .before in
     (s .pre .0, (s .pre .1 .0, (s .pre .1 .1 .0, (s .pre .1 .1 .1 .0, omega (arith, s .pre .1 .1 .1 .1)))))
 
-same-length : tie.Need-same-length
-same-length c = omega arith
-
 returns-2 : tie.Need-returns-2
 returns-2 c =
     let e = c .before .before .before .enter in
@@ -33,16 +30,10 @@ add-if3 c =
     let o = s .pre .1 .1 .0 in
     omega (arith, s .pre .1 .1 .1 .1, c .before .before .before .before .before .before .if1 .left, came-small (c .before .before .before .enter .ensures .1 (o .left) (o .vertex) (o .shows) (omega (arith, o .early))) (c .if2 .left))
 
-same-length-2 : tie.Need-same-length-2
-same-length-2 c = omega arith
-
 returns-3 : tie.Need-returns-3
 returns-3 c =
     let e = c .before .before .before .before .enter in
     (e .ensures .0, λ m u h q w. came-go _ _ _ (omega arith) (e .ensures .1 m u h q) (c .before .if2 .left) (λ small a. (omega arith, hit-one _ _ _ _ w _ (omega (arith, c .before .before .before .before .before .before .before .if1 .left)) a (c .if3 .taken))))
-
-same-length-3 : tie.Need-same-length-3
-same-length-3 c = omega arith
 
 returns-4 : tie.Need-returns-4
 returns-4 c =
@@ -56,10 +47,10 @@ hits-spec =
     returns
     add-enter
     enter-requires
-    same-length
+    (λ c. omega arith)
     returns-2
     add-if3
-    same-length-2
+    (λ c. omega arith)
     returns-3
-    same-length-3
+    (λ c. omega arith)
     returns-4)

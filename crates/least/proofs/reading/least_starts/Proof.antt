@@ -30,9 +30,6 @@ least-requires c κs =
     let all-is = ap (λ (n : ℕ). n - 1) (c .before .before .before .before .power .ensures ∙ ap (λ (n : ℕ). 2 ^ n) (c .before .before .before .before .before .job-count .ensures)) in
     (s .pre .0, (omega arith, (record { left = jobs R; vertex = root R; shows = root-held R _ shows _ all-is; time = refl }, omega arith)))
 
-same-length : tie.Need-same-length
-same-length c = omega arith
-
 returns : tie.Need-returns
 returns c =
     let s = c .before .before .before .before .before .before .before .before .before .before .before .before .before in
@@ -52,9 +49,6 @@ read-off-requires c κs =
     let e = c .before .before .before .before .before .before .before .least in
     (e .ensures .0 .0, (e .ensures .0 .1, root-reads R _ (s .pre .0 .tabled) (s .pre .1 .1) _ shows _ _ _ (e .ensures .1 (jobs R) (root R) (root-held R _ shows _ all-is) refl) (c .before .before .before .before .if1 .left) _ all-is _ (s .pre .1 .0)))
 
-same-length-2 : tie.Need-same-length-2
-same-length-2 c = omega arith
-
 returns-2 : tie.Need-returns-2
 returns-2 c = c .before .before .read-off .ensures
 
@@ -68,8 +62,8 @@ least-starts-spec =
     sub-all
     (λ c κs. search needs)
     least-requires
-    same-length
+    (λ c. omega arith)
     returns
     read-off-requires
-    same-length-2
+    (λ c. omega arith)
     returns-2)

@@ -18,21 +18,6 @@ loop-holds c = omega arith
 rise-of-requires : tie.Need-rise-of-requires Inv-loop μ-loop
 rise-of-requires c κs = (c .loop-test .taken, c .before .before .before .pre)
 
-later-requires : tie.Need-later-requires Inv-loop μ-loop
-later-requires c κs = search needs
-
-add-k : tie.Need-add-k Inv-loop μ-loop
-add-k c = omega arith
-
-loop-less : tie.Need-loop-less Inv-loop μ-loop
-loop-less c = omega arith
-
-loop-again : tie.Need-loop-again Inv-loop μ-loop
-loop-again c = omega arith
-
-mul-result : tie.Need-mul-result Inv-loop μ-loop
-mul-result c = omega arith
-
 returns : tie.Need-returns Inv-loop μ-loop
 returns c = search needs
 
@@ -44,9 +29,9 @@ lift-of-spec =
     μ-loop
     loop-holds
     rise-of-requires
-    later-requires
-    add-k
-    loop-less
-    loop-again
-    mul-result
+    (λ c κs. search needs)
+    (λ c. omega arith)
+    (λ c. omega arith)
+    (λ c. omega arith)
+    (λ c. omega arith)
     returns)

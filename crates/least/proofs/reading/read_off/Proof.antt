@@ -31,9 +31,6 @@ first-child-requires c κs =
     let l = c .before .before .before .before .loop in
     (l .inv .0, (l .inv .1, (reads-held _ _ _ _ _ _ _ (l .inv .2), reads-small _ _ _ _ _ _ _ (l .inv .2) _ (s .pre .0 .tabled))))
 
-same-length : tie.Need-same-length Inv-loop μ-loop
-same-length c = omega arith
-
 returns : tie.Need-returns Inv-loop μ-loop
 returns c =
     let l = c .before .before .before .before .before .before .before .before .loop in
@@ -65,9 +62,6 @@ sub-goal c =
     let went = c .before .before .if1 .left in
     let o = next-offers R (l .v) (l .starts) (l .set) (l .time) (l .goal) (l .entered) h some (s .args .budget) _ (e .result .job) (e .result .start) (e .ensures .1) went in
     omega (arith, c .lead-of .ensures .0, next-lead R (l .v) (l .starts) (l .set) (l .time) (l .goal) (l .entered) h some (s .args .budget) _ (e .result .job) (e .result .start) (e .ensures .1) went)
-
-cast-starts : tie.Need-cast-starts Inv-loop μ-loop
-cast-starts c = search needs
 
 mul-starts : tie.Need-mul-starts Inv-loop μ-loop
 mul-starts c =
@@ -120,9 +114,6 @@ run-of-requires c κs =
     let went = c .before .before .before .before .if1 .left in
     let o = next-offers R (l .v) (l .starts) (l .set) (l .time) (l .goal) (l .entered) h some (s .args .budget) _ (e .result .job) (e .result .start) (e .ensures .1) went in
     offers-known R valid (l .v) (l .set) (e .result .job) (e .result .start) o .1
-
-wide-requires : tie.Need-wide-requires Inv-loop μ-loop
-wide-requires c κs = search needs
 
 add-time : tie.Need-add-time Inv-loop μ-loop
 add-time c =
@@ -213,16 +204,16 @@ read-off-spec =
     μ-loop
     loop-holds
     first-child-requires
-    same-length
+    (λ c. omega arith)
     returns
     lead-of-requires
     sub-goal
-    cast-starts
+    (λ c. search needs)
     mul-starts
     element-write-starts
     place-requires
     run-of-requires
-    wide-requires
+    (λ c κs. search needs)
     add-time
     power-requires
     sub-set

@@ -48,9 +48,9 @@ use Rattle.least.proofs.search.tries.Reads as tries
 use Rattle.least.proofs.search.tries.Kinds as tries-kinds
 use Rattle.least.proofs.search.+attempt+choices+enter+examine+learn+least+tries.Lts-tries as tries-lts
 use Rattle.flat.proofs.job_count.Reads as job-count-reads
-use Rattle.flat.proofs.numbers.later.Reads as later-reads
-use Rattle.flat.proofs.numbers.sooner.Reads as sooner-reads
-use Rattle.flat.proofs.numbers.wide.Reads as wide-reads
+use Rattle.base.proofs.larger.Reads as larger-reads
+use Rattle.base.proofs.smaller.Reads as smaller-reads
+use Rattle.base.proofs.wide.Reads as wide-reads
 use Rattle.flat.proofs.release_of.Reads as release-of-reads
 use Rattle.flat.proofs.run_of.Reads as run-of-reads
 use Rattle.vertex.proofs.cells.place.Reads as place-reads
@@ -63,7 +63,7 @@ use Rattle.least.proofs.memory.remember.Reads as remember-reads
 use Rattle.stored.proofs.naming.key_of.Reads as key-of-reads
 use Rattle.least.proofs.search.is_enough.Reads as is-enough-reads
 use Rattle.least.proofs.search.last_of.Reads as last-of-reads
-use Rattle.least.proofs.search.lessened.Reads as lessened-reads
+use Rattle.base.proofs.lessened.Reads as lessened-reads
 use Rattle.least.proofs.search.raised.Reads as raised-reads
 use Rattle.least.proofs.search.+attempt+choices+enter+examine+learn+least+tries.{statement}
 use Rattle.least.proofs.search.+attempt+choices+enter+examine+learn+least+tries.Tie.{close}
@@ -132,7 +132,7 @@ abbrev tries-below : ℕ → In 6 tries-kinds.ps
 tries-below t = and 6 tries-kinds.ps (falls 6 tries-kinds.ps _<_ μ-tries t) tries.Pre
 
 abbrev attempt-calls : ℕ → attempt-lts.Claims
-attempt-calls t = (enter-below t, enter.Post, later-reads.Asked, later-reads.Learnt)
+attempt-calls t = (enter-below t, enter.Post, larger-reads.Asked, larger-reads.Learnt)
 
 abbrev choices-calls : ℕ → choices-lts.Claims
 choices-calls t = (job-count-reads.Asked, job-count-reads.Learnt, tries-below t, tries.Post)
@@ -141,48 +141,33 @@ abbrev enter-calls : ℕ → enter-lts.Claims
 enter-calls t = (place-reads.Asked, place-reads.Learnt, run-of-reads.Asked, run-of-reads.Learnt, wide-reads.Asked, wide-reads.Learnt, least-below t, least.Post)
 
 abbrev examine-calls : ℕ → examine-lts.Claims
-examine-calls t = (wait-of-reads.Asked, wait-of-reads.Learnt, choices-below t, choices.Post, wide-reads.Asked, wide-reads.Learnt, sooner-reads.Asked, sooner-reads.Learnt, least-below t, least.Post)
+examine-calls t = (wait-of-reads.Asked, wait-of-reads.Learnt, choices-below t, choices.Post, wide-reads.Asked, wide-reads.Learnt, smaller-reads.Asked, smaller-reads.Learnt, least-below t, least.Post)
 
 abbrev learn-calls : ℕ → learn-lts.Claims
-learn-calls t = (raised-reads.Asked, raised-reads.Learnt, examine-below t, examine.Post, later-reads.Asked, later-reads.Learnt, lessened-reads.Asked, lessened-reads.Learnt, remember-reads.Asked, remember-reads.Learnt)
+learn-calls t = (raised-reads.Asked, raised-reads.Learnt, examine-below t, examine.Post, larger-reads.Asked, larger-reads.Learnt, lessened-reads.Asked, lessened-reads.Learnt, remember-reads.Asked, remember-reads.Learnt)
 
 abbrev least-calls : ℕ → least-lts.Claims
 least-calls t = (close-of-reads.Asked, close-of-reads.Learnt, key-of-reads.Asked, key-of-reads.Learnt, look-reads.Asked, look-reads.Learnt, is-enough-reads.Asked, is-enough-reads.Learnt, learn-below t, learn.Post)
 
 abbrev tries-calls : ℕ → tries-lts.Claims
-tries-calls t = (last-of-reads.Asked, last-of-reads.Learnt, sooner-reads.Asked, sooner-reads.Learnt, falls-of-reads.Asked, falls-of-reads.Learnt, release-of-reads.Asked, release-of-reads.Learnt, wide-reads.Asked, wide-reads.Learnt, later-reads.Asked, later-reads.Learnt, lead-of-reads.Asked, lead-of-reads.Learnt, attempt-below t, attempt.Post, lessened-reads.Asked, lessened-reads.Learnt)
+tries-calls t = (last-of-reads.Asked, last-of-reads.Learnt, smaller-reads.Asked, smaller-reads.Learnt, falls-of-reads.Asked, falls-of-reads.Learnt, release-of-reads.Asked, release-of-reads.Learnt, wide-reads.Asked, wide-reads.Learnt, larger-reads.Asked, larger-reads.Learnt, lead-of-reads.Asked, lead-of-reads.Learnt, attempt-below t, attempt.Post, lessened-reads.Asked, lessened-reads.Learnt)
 
 -- ---- attempt
-
-attempt-add-if1 : (t : ℕ) → attempt-lts.Need-add-if1 (attempt-calls t) (attempt-at t) attempt.Post
-attempt-add-if1 t c = omega arith
 
 attempt-returns : (t : ℕ) → attempt-lts.Need-returns (attempt-calls t) (attempt-at t) attempt.Post
 attempt-returns t c =
     let s = c .before .before .before in
     ((s .pre .1 .0, s .pre .1 .1 .0), λ m u h q. told (s .pre .1 .1 .1 .1 .1 .1 .1) (omega arith) (passed (c .if1 .taken)))
 
-attempt-sub-enter : (t : ℕ) → attempt-lts.Need-sub-enter (attempt-calls t) (attempt-at t) attempt.Post
-attempt-sub-enter t c = omega arith
-
 attempt-enter-requires : (t : ℕ) → attempt-lts.Need-enter-requires (attempt-calls t) (attempt-at t) attempt.Post
 attempt-enter-requires t c κs =
     let s = c .before .before .before .before .before in
     (omega arith, (s .pre .1 .0, (s .pre .1 .1 .0, (s .pre .1 .1 .1 .0, (s .pre .1 .1 .1 .1 .0, omega arith)))))
 
-attempt-same-length : (t : ℕ) → attempt-lts.Need-same-length (attempt-calls t) (attempt-at t) attempt.Post
-attempt-same-length t c = omega arith
-
 attempt-returns-2 : (t : ℕ) → attempt-lts.Need-returns-2 (attempt-calls t) (attempt-at t) attempt.Post
 attempt-returns-2 t c =
     let e = c .before .before .before .enter in
     (e .ensures .0, λ m u h q. came-stop _ _ (omega arith) (e .ensures .1 m u h q) (c .if2 .taken))
-
-attempt-later-requires : (t : ℕ) → attempt-lts.Need-later-requires (attempt-calls t) (attempt-at t) attempt.Post
-attempt-later-requires t c κs = search needs
-
-attempt-same-length-2 : (t : ℕ) → attempt-lts.Need-same-length-2 (attempt-calls t) (attempt-at t) attempt.Post
-attempt-same-length-2 t c = omega arith
 
 attempt-returns-3 : (t : ℕ) → attempt-lts.Need-returns-3 (attempt-calls t) (attempt-at t) attempt.Post
 attempt-returns-3 t c =
@@ -190,7 +175,7 @@ attempt-returns-3 t c =
     let e = c .before .before .before .before .enter in (
       e .ensures .0,
       λ m u h q. came-go _ _ _ (omega arith) (e .ensures .1 m u h q) (c .before .if2 .left)
-          (λ small w. tried-entered _ _ _ _ _ _ (c .later .ensures) (omega arith) small (s .pre .1 .1 .1 .1 .1 .1 .1) w),
+          (λ small w. tried-entered _ _ _ _ _ _ (c .larger .ensures) (omega arith) small (s .pre .1 .1 .1 .1 .1 .1 .1) w),
     )
 
 -- ---- choices
@@ -202,9 +187,6 @@ choices-Inv-loop r extras latest memory₀ entered₀ budget lift v set time unt
 abbrev choices-μ-loop : choices-lts.MeasureT-loop
 choices-μ-loop r extras latest memory₀ entered₀ budget lift v set time until limit n best₀ rest₀ p₀ j₀ memory entered best rest p j = n - j
 
-choices-job-count-requires : (t : ℕ) → choices-lts.Need-job-count-requires (choices-calls t) (choices-at t) choices.Post choices-Inv-loop choices-μ-loop
-choices-job-count-requires t c κs = search needs
-
 choices-loop-holds : (t : ℕ) → choices-lts.Need-loop-holds (choices-calls t) (choices-at t) choices.Post choices-Inv-loop choices-μ-loop
 choices-loop-holds t c =
     let s = c .before .before .before in
@@ -215,9 +197,6 @@ choices-tries-requires t c κs =
     let s = c .before .before .before .before .before .before .before .before in
     let l = c .before .before .before .before .loop in
     (omega arith, (l .inv .3, (l .inv .4, (s .pre .1 .1 .1 .0, (s .pre .1 .1 .1 .1 .0, (l .inv .5 .small, (omega (arith, c .before .before .before .loop-test .taken, c .before .before .before .before .before .job-count .ensures), (bit-is _ _ _ (l .inv .2) (c .before .before .if1 .taken), l .inv .1))))))))
-
-choices-same-length : (t : ℕ) → choices-lts.Need-same-length (choices-calls t) (choices-at t) choices.Post choices-Inv-loop choices-μ-loop
-choices-same-length t c = omega arith
 
 choices-returns : (t : ℕ) → choices-lts.Need-returns (choices-calls t) (choices-at t) choices.Post choices-Inv-loop choices-μ-loop
 choices-returns t c =
@@ -232,12 +211,6 @@ choices-mul-p : (t : ℕ) → choices-lts.Need-mul-p (choices-calls t) (choices-
 choices-mul-p t c =
     let l = c .before .before .loop in
     omega (arith, l .inv .1, power-next (l .j) (omega (arith, c .before .loop-test .taken, c .before .before .before .job-count .ensures, c .before .before .before .before .before .before .pre .1 .0 .tabled .valid .few-jobs)))
-
-choices-add-j : (t : ℕ) → choices-lts.Need-add-j (choices-calls t) (choices-at t) choices.Post choices-Inv-loop choices-μ-loop
-choices-add-j t c = omega arith
-
-choices-loop-less : (t : ℕ) → choices-lts.Need-loop-less (choices-calls t) (choices-at t) choices.Post choices-Inv-loop choices-μ-loop
-choices-loop-less t c = omega arith
 
 choices-loop-again : (t : ℕ) → choices-lts.Need-loop-again (choices-calls t) (choices-at t) choices.Post choices-Inv-loop choices-μ-loop
 choices-loop-again t c =
@@ -296,9 +269,6 @@ enter-run-of-requires t c κs =
     let o = s .pre .1 .1 .1 .0 in
     offers-known R valid _ _ _ _ o .1
 
-enter-wide-requires : (t : ℕ) → enter-lts.Need-wide-requires (enter-calls t) (enter-at t) enter.Post
-enter-wide-requires t c κs = search needs
-
 enter-add-end : (t : ℕ) → enter-lts.Need-add-end (enter-calls t) (enter-at t) enter.Post
 enter-add-end t c =
     let s = c .before .before .before .before .before .before .before in
@@ -325,9 +295,6 @@ enter-least-requires t c κs =
     let end-is = ap (λ (n : ℕ). s .args .s + n) (c .before .before .before .wide .ensures .0 ∙ c .before .before .before .before .run-of .ensures) in
     (omega (arith, offers-bit R valid (s .args .v .now) (s .args .set) (s .args .j) (s .args .s) o (s .args .p) p-is), (s .pre .1 .0, (s .pre .1 .1 .0, (child-held R valid _ _ _ _ o _ _ p-is end-is _ (c .before .before .before .before .before .place .ensures), s .pre .1 .1 .1 .1 .1))))
 
-enter-same-length : (t : ℕ) → enter-lts.Need-same-length (enter-calls t) (enter-at t) enter.Post
-enter-same-length t c = omega arith
-
 enter-returns : (t : ℕ) → enter-lts.Need-returns (enter-calls t) (enter-at t) enter.Post
 enter-returns t c =
     let s = c .before .before .before .before .before .before .before .before .before .before .before .before .before in
@@ -350,9 +317,6 @@ examine-wait-of-requires t c κs =
 
 examine-choices-requires : (t : ℕ) → examine-lts.Need-choices-requires (examine-calls t) (examine-at t) examine.Post
 examine-choices-requires t c κs = (omega arith, c .before .before .before .before .before .pre .1)
-
-examine-same-length : (t : ℕ) → examine-lts.Need-same-length (examine-calls t) (examine-at t) examine.Post
-examine-same-length t c = omega arith
 
 examine-returns : (t : ℕ) → examine-lts.Need-returns (examine-calls t) (examine-at t) examine.Post
 examine-returns t c =
@@ -379,12 +343,6 @@ examine-element-copy-out-last t c =
     let valid = s .pre .1 .0 .tabled .valid in
     omega (arith, held-few R valid (s .args .v .now) (s .args .set) (s .args .time) (s .pre .1 .1 .1 .0) .1)
 
-examine-wide-requires : (t : ℕ) → examine-lts.Need-wide-requires (examine-calls t) (examine-at t) examine.Post
-examine-wide-requires t c κs = search needs
-
-examine-same-length-2 : (t : ℕ) → examine-lts.Need-same-length-2 (examine-calls t) (examine-at t) examine.Post
-examine-same-length-2 t c = omega arith
-
 examine-returns-2 : (t : ℕ) → examine-lts.Need-returns-2 (examine-calls t) (examine-at t) examine.Post
 examine-returns-2 t c =
     let s = c .before .before .before .before .before .before .before .before .before .before .before .before in
@@ -396,9 +354,6 @@ examine-returns-2 t c =
     let e = c .before .before .before .before .before .before .choices in
     let last = s .pre .1 .0 .laid .laid (s .args .set) (held-few R valid (s .args .v .now) (s .args .set) (s .args .time) held .0) in
     (e .ensures .0, λ m u h q. near-comes R valid _ _ m u h _ (wait .0) _ q order _ _ _ _ _ (c .before .before .before .if1 .left) (e .ensures .1 m u h q) (omega (arith, c .if2 .taken, c .before .wide .ensures .0, last)))
-
-examine-sooner-requires : (t : ℕ) → examine-lts.Need-sooner-requires (examine-calls t) (examine-at t) examine.Post
-examine-sooner-requires t c κs = search needs
 
 examine-least-requires : (t : ℕ) → examine-lts.Need-least-requires (examine-calls t) (examine-at t) examine.Post
 examine-least-requires t c κs =
@@ -412,10 +367,7 @@ examine-least-requires t c κs =
     let last = s .pre .1 .0 .laid .laid (s .args .set) (held-few R valid (s .args .v .now) (s .args .set) (s .args .time) held .0) in
     let early = alive-early R valid (s .args .set) (c .before .before .before .before .before .before .before .before .before .before .before .before .wait-of .result) (s .pre .1 .1 .1 .1 .1) (omega (arith, c .before .before .before .if2 .left, c .before .before .before .before .wide .ensures .0, last)) in
     let later = wait .1 early in
-    (omega (arith, later, wait .0, valid .few-ticks), (e .ensures .0 .0, (e .ensures .0 .1, (held-later R valid _ _ _ held _ order (wait .0), omega (arith, c .sooner .ensures, s .pre .1 .1 .1 .1 .0)))))
-
-examine-same-length-3 : (t : ℕ) → examine-lts.Need-same-length-3 (examine-calls t) (examine-at t) examine.Post
-examine-same-length-3 t c = omega arith
+    (omega (arith, later, wait .0, valid .few-ticks), (e .ensures .0 .0, (e .ensures .0 .1, (held-later R valid _ _ _ held _ order (wait .0), omega (arith, c .smaller .ensures, s .pre .1 .1 .1 .1 .0)))))
 
 examine-returns-3 : (t : ℕ) → examine-lts.Need-returns-3 (examine-calls t) (examine-at t) examine.Post
 examine-returns-3 t c =
@@ -432,12 +384,6 @@ examine-returns-3 t c =
     let f = c .before .before .before .least in
     (f .ensures .0, λ m u h q. far-stops R valid _ _ m u h _ (wait .0) _ q order _ _ _ _ _ (c .before .before .before .before .before .before .before .before .before .before .if1 .left) (e .ensures .1 m u h q) later _ _ _ (f .ensures .1 (suc m) (waited R u (c .before .before .before .before .before .before .before .before .before .before .before .before .before .before .before .before .wait-of .result)) (waited-shown R valid _ _ _ u h _ (omega (arith, q, order)) (wait .0)) refl) _ (c .if3 .taken))
 
-examine-sooner-requires-2 : (t : ℕ) → examine-lts.Need-sooner-requires-2 (examine-calls t) (examine-at t) examine.Post
-examine-sooner-requires-2 t c κs = search needs
-
-examine-same-length-4 : (t : ℕ) → examine-lts.Need-same-length-4 (examine-calls t) (examine-at t) examine.Post
-examine-same-length-4 t c = omega arith
-
 examine-returns-4 : (t : ℕ) → examine-lts.Need-returns-4 (examine-calls t) (examine-at t) examine.Post
 examine-returns-4 t c =
     let s = c .before .before .before .before .before .before .before .before .before .before .before .before .before .before .before .before .before .before .before .before in
@@ -451,7 +397,7 @@ examine-returns-4 t c =
     let later = wait .1 early in
     let e = c .before .before .before .before .before .before .before .before .before .before .before .before .before .before .choices in
     let f = c .before .before .before .before .least in
-    (f .ensures .0, λ m u h q. far-comes R valid _ _ m u h _ (wait .0) _ q order _ _ _ _ _ (c .before .before .before .before .before .before .before .before .before .before .before .if1 .left) (e .ensures .1 m u h q) later _ _ _ (f .ensures .1 (suc m) (waited R u (c .before .before .before .before .before .before .before .before .before .before .before .before .before .before .before .before .before .wait-of .result)) (waited-shown R valid _ _ _ u h _ (omega (arith, q, order)) (wait .0)) refl) _ (c .sooner2 .ensures) (c .before .before .before .before .before .sooner .ensures) (c .before .if3 .left))
+    (f .ensures .0, λ m u h q. far-comes R valid _ _ m u h _ (wait .0) _ q order _ _ _ _ _ (c .before .before .before .before .before .before .before .before .before .before .before .if1 .left) (e .ensures .1 m u h q) later _ _ _ (f .ensures .1 (suc m) (waited R u (c .before .before .before .before .before .before .before .before .before .before .before .before .before .before .before .before .before .wait-of .result)) (waited-shown R valid _ _ _ u h _ (omega (arith, q, order)) (wait .0)) refl) _ (c .smaller2 .ensures) (c .before .before .before .before .before .smaller .ensures) (c .before .if3 .left))
 
 -- ---- learn
 
@@ -460,31 +406,16 @@ learn-returns t c =
     let s = c .before .before .before .before in
     ((s .pre .1 .0, s .pre .1 .1 .0), λ m u h q. stopped refl (omega (arith, most-own (recorderOf (s .args .r .now)) m (s .args .time), c .if1 .taken)))
 
-learn-add-entered : (t : ℕ) → learn-lts.Need-add-entered (learn-calls t) (learn-at t) learn.Post
-learn-add-entered t c = omega arith
-
-learn-raised-requires : (t : ℕ) → learn-lts.Need-raised-requires (learn-calls t) (learn-at t) learn.Post
-learn-raised-requires t c κs = search needs
-
 learn-examine-requires : (t : ℕ) → learn-lts.Need-examine-requires (learn-calls t) (learn-at t) learn.Post
 learn-examine-requires t c κs =
     let s = c .before .before .before .before .before .before .before in
     (omega arith, (s .pre .1 .0, (omega (arith, s .pre .1 .1 .0, c .before .before .before .if1 .left), (s .pre .1 .1 .1 .0, (c .before .before .raised .ensures .1, s .pre .1 .1 .1 .1 .1 .0)))))
-
-learn-same-length : (t : ℕ) → learn-lts.Need-same-length (learn-calls t) (learn-at t) learn.Post
-learn-same-length t c = omega arith
 
 learn-returns-2 : (t : ℕ) → learn-lts.Need-returns-2 (learn-calls t) (learn-at t) learn.Post
 learn-returns-2 t c =
     let s = c .before .before .before .before .before .before .before .before .before .before .before in
     let e = c .before .before .before .examine in
     (e .ensures .0, λ m u h q. came-stop _ _ (omega (arith, most-own (recorderOf (s .args .r .now)) m (s .args .time))) (came-from (s .args .entered .now) 1 (omega arith) (e .ensures .1 m u h q)) (c .if2 .taken))
-
-learn-later-requires : (t : ℕ) → learn-lts.Need-later-requires (learn-calls t) (learn-at t) learn.Post
-learn-later-requires t c κs = search needs
-
-learn-lessened-requires : (t : ℕ) → learn-lts.Need-lessened-requires (learn-calls t) (learn-at t) learn.Post
-learn-lessened-requires t c κs = search needs
 
 learn-remember-requires : (t : ℕ) → learn-lts.Need-remember-requires (learn-calls t) (learn-at t) learn.Post
 learn-remember-requires t c κs =
@@ -497,11 +428,8 @@ learn-remember-requires t c κs =
     let few = held-few R valid (s .args .v .now) (s .args .set) (s .args .time) held in
     let e = c .before .before .before .before .before .before .before .examine in (
       subst (λ (k : Key). k .head < 536870912) (sym key-is) (head-few R (capAt (s .args .extras .now)) (s .args .v .now) (s .args .set) (s .args .time) (few .1) (omega (arith, held-by R valid (s .args .v .now) (s .args .set) (s .args .time) held, valid .few-ticks))),
-      omega (arith, c .before .before .later .ensures, came-small (e .ensures .1 (o .left) (o .vertex) (o .shows) (o .time)) (c .before .before .before .before .if2 .left), c .before .before .before .struct-known .given),
+      omega (arith, c .before .before .larger .ensures, came-small (e .ensures .1 (o .left) (o .vertex) (o .shows) (o .time)) (c .before .before .before .before .if2 .left), c .before .before .before .struct-known .given),
     )
-
-learn-same-length-2 : (t : ℕ) → learn-lts.Need-same-length-2 (learn-calls t) (learn-at t) learn.Post
-learn-same-length-2 t c = omega arith
 
 learn-returns-3 : (t : ℕ) → learn-lts.Need-returns-3 (learn-calls t) (learn-at t) learn.Post
 learn-returns-3 t c =
@@ -514,13 +442,13 @@ learn-returns-3 t c =
     let few = held-few R valid (s .args .v .now) (s .args .set) (s .args .time) held in
     let looked = subst (λ (k : Key). Looked (s .args .memory .now) k (s .args .spot)) key-is (s .pre .1 .1 .1 .1 .1 .1 .1) in
     let e = c .before .before .before .before .before .before .before .before .before .before .examine in
-    let best-is = c .before .before .before .before .before .later .ensures in
+    let best-is = c .before .before .before .before .before .larger .ensures in
     let keeps = c .before .before .remember .ensures in
     let went = c .before .before .before .before .before .before .before .if2 .left in
     let early : s .args .time ≤ 4096 = omega (arith, held-by R valid (s .args .v .now) (s .args .set) (s .args .time) held, valid .few-ticks) in
     let w = learnt-kept R (s .args .extras .now) (s .args .latest .now) (s .args .memory .now) (s .args .v .now) (s .pre .1 .0) (s .args .set) (s .args .time) (s .args .spot) looked _ _ _ _ _ _ _ best-is went (o .left) (o .vertex) (o .shows) (o .time) (e .ensures .1 (o .left) (o .vertex) (o .shows) (o .time)) in (
       (kept-lent R _ _ _ _ (e .ensures .0 .0) _ _ (few .1) early _ key-is (o .left) (o .vertex) (o .shows) (o .time) _ _ w _ (keeps .0) (keeps .1) _ (keeps .2), e .ensures .0 .1),
-      λ m u h q. learnt R (s .args .extras .now) (s .args .latest .now) (s .args .memory .now) (s .args .v .now) (s .pre .1 .0) (s .args .set) (s .args .time) (s .args .spot) looked (s .args .slack) (c .before .before .before .before .before .before .before .before .before .before .before .before .before .raised .result) _ (s .args .entered .now) _ (e .result) (c .before .before .before .before .before .later .result) (c .before .before .before .before .before .before .before .before .before .before .before .before .before .raised .ensures .0) (omega (arith, c .before .before .before .before .before .before .struct-known .given)) best-is went m u h q (e .ensures .1 m u h q),
+      λ m u h q. learnt R (s .args .extras .now) (s .args .latest .now) (s .args .memory .now) (s .args .v .now) (s .pre .1 .0) (s .args .set) (s .args .time) (s .args .spot) looked (s .args .slack) (c .before .before .before .before .before .before .before .before .before .before .before .before .before .raised .result) _ (s .args .entered .now) _ (e .result) (c .before .before .before .before .before .larger .result) (c .before .before .before .before .before .before .before .before .before .before .before .before .before .raised .ensures .0) (omega (arith, c .before .before .before .before .before .before .struct-known .given)) best-is went m u h q (e .ensures .1 m u h q),
     )
 
 -- ---- least
@@ -548,15 +476,6 @@ least-key-of-requires t c κs =
     let held = s .pre .1 .1 .1 .0 in
     (s .pre .1 .0 .tabled, (held-ordered R valid _ _ _ held, held-few R valid _ _ _ held .1))
 
-least-look-requires : (t : ℕ) → least-lts.Need-look-requires (least-calls t) (least-at t) least.Post
-least-look-requires t c κs = search needs
-
-least-is-enough-requires : (t : ℕ) → least-lts.Need-is-enough-requires (least-calls t) (least-at t) least.Post
-least-is-enough-requires t c κs = search needs
-
-least-same-length : (t : ℕ) → least-lts.Need-same-length (least-calls t) (least-at t) least.Post
-least-same-length t c = omega arith
-
 least-returns-2 : (t : ℕ) → least-lts.Need-returns-2 (least-calls t) (least-at t) least.Post
 least-returns-2 t c =
     let s = c .before .before .before .before .before .before .before .before .before in
@@ -572,9 +491,6 @@ least-learn-requires : (t : ℕ) → least-lts.Need-learn-requires (least-calls 
 least-learn-requires t c κs =
     let s = c .before .before .before .before .before .before .before .before .before .before in
     (omega arith, (s .pre .1 .0, (s .pre .1 .1 .0, (s .pre .1 .1 .1 .0, (s .pre .1 .1 .1 .1, (omega (arith, c .before .before .before .before .before .before .before .if1 .left), (c .before .before .before .before .before .before .key-of .ensures, c .before .before .before .before .look .ensures)))))))
-
-least-same-length-2 : (t : ℕ) → least-lts.Need-same-length-2 (least-calls t) (least-at t) least.Post
-least-same-length-2 t c = omega arith
 
 least-returns-3 : (t : ℕ) → least-lts.Need-returns-3 (least-calls t) (least-at t) least.Post
 least-returns-3 t c =
@@ -615,9 +531,6 @@ tries-last-of-requires t c κs =
     let p-is = s .pre .1 .1 .1 .1 .1 .1 .1 .1 in
     (omega (arith, known, valid .few-jobs), omega (arith, held-few R valid (s .args .v .now) (s .args .set) (s .args .time) held .1))
 
-tries-sooner-requires : (t : ℕ) → tries-lts.Need-sooner-requires (tries-calls t) (tries-at t) tries.Post tries-Inv-loop tries-μ-loop
-tries-sooner-requires t c κs = search needs
-
 tries-falls-of-requires : (t : ℕ) → tries-lts.Need-falls-of-requires (tries-calls t) (tries-at t) tries.Post tries-Inv-loop tries-μ-loop
 tries-falls-of-requires t c κs =
     let s = c .before .before .before .before in
@@ -640,12 +553,6 @@ tries-release-of-requires t c κs =
     let p-is = s .pre .1 .1 .1 .1 .1 .1 .1 .1 in
     omega (arith, known, valid .few-jobs)
 
-tries-wide-requires : (t : ℕ) → tries-lts.Need-wide-requires (tries-calls t) (tries-at t) tries.Post tries-Inv-loop tries-μ-loop
-tries-wide-requires t c κs = search needs
-
-tries-later-requires : (t : ℕ) → tries-lts.Need-later-requires (tries-calls t) (tries-at t) tries.Post tries-Inv-loop tries-μ-loop
-tries-later-requires t c κs = search needs
-
 tries-loop-holds : (t : ℕ) → tries-lts.Need-loop-holds (tries-calls t) (tries-at t) tries.Post tries-Inv-loop tries-μ-loop
 tries-loop-holds t c =
     let s = c .before .before .before .before .before .before .before .before in
@@ -661,14 +568,11 @@ tries-lead-of-requires t c κs =
     let one = s .pre .1 .1 .1 .1 .1 .1 .1 .0 in
     let p-is = s .pre .1 .1 .1 .1 .1 .1 .1 .1 in
     let l = c .before .loop in
-    let from-is = c .before .before .later .ensures ∙ ap (max _) (c .before .before .before .wide .ensures .0 ∙ c .before .before .before .before .release-of .ensures) in
-    let to-is = c .before .before .before .before .before .before .sooner .ensures in
+    let from-is = c .before .before .larger .ensures ∙ ap (max _) (c .before .before .before .wide .ensures .0 ∙ c .before .before .before .before .release-of .ensures) in
+    let to-is = c .before .before .before .before .before .before .smaller .ensures in
     let last-is = c .before .before .before .before .before .before .before .last-of .ensures in
     let late = starts-late R (s .args .j) _ _ _ _ to-is last-is (l .s) (c .loop-test .taken) in
     (s .pre .1 .0 .tabled, (omega (arith, known, valid .few-jobs), ordered-later R valid _ _ _ (held-ordered R valid _ _ _ held) (omega (arith, l .inv .2 .low, from-is)) (omega (arith, late, valid .ends (s .args .j) known))))
-
-tries-sooner-requires-2 : (t : ℕ) → tries-lts.Need-sooner-requires-2 (tries-calls t) (tries-at t) tries.Post tries-Inv-loop tries-μ-loop
-tries-sooner-requires-2 t c κs = search needs
 
 tries-attempt-requires : (t : ℕ) → tries-lts.Need-attempt-requires (tries-calls t) (tries-at t) tries.Post tries-Inv-loop tries-μ-loop
 tries-attempt-requires t c κs =
@@ -680,14 +584,11 @@ tries-attempt-requires t c κs =
     let one = s .pre .1 .1 .1 .1 .1 .1 .1 .0 in
     let p-is = s .pre .1 .1 .1 .1 .1 .1 .1 .1 in
     let l = c .before .before .before .before .before .loop in
-    let from-is = c .before .before .before .before .before .before .later .ensures ∙ ap (max _) (c .before .before .before .before .before .before .before .wide .ensures .0 ∙ c .before .before .before .before .before .before .before .before .release-of .ensures) in
-    let to-is = c .before .before .before .before .before .before .before .before .before .before .sooner .ensures in
+    let from-is = c .before .before .before .before .before .before .larger .ensures ∙ ap (max _) (c .before .before .before .before .before .before .before .wide .ensures .0 ∙ c .before .before .before .before .before .before .before .before .release-of .ensures) in
+    let to-is = c .before .before .before .before .before .before .before .before .before .before .smaller .ensures in
     let last-is = c .before .before .before .before .before .before .before .before .before .before .before .last-of .ensures in
     let late = starts-late R (s .args .j) _ _ _ _ to-is last-is (l .s) (c .before .before .before .before .loop-test .taken) in
-    (omega arith, (l .inv .0, (l .inv .1, (held-offers R valid _ _ _ held _ _ known one (omega (arith, l .inv .2 .low, from-is)) late, (p-is, (omega (arith, c .before .before .sooner2 .ensures, s .pre .1 .1 .1 .1 .0), (c .before .before .before .lead-of .ensures .1, l .inv .2 .small-ahead)))))))
-
-tries-same-length : (t : ℕ) → tries-lts.Need-same-length (tries-calls t) (tries-at t) tries.Post tries-Inv-loop tries-μ-loop
-tries-same-length t c = omega arith
+    (omega arith, (l .inv .0, (l .inv .1, (held-offers R valid _ _ _ held _ _ known one (omega (arith, l .inv .2 .low, from-is)) late, (p-is, (omega (arith, c .before .before .smaller2 .ensures, s .pre .1 .1 .1 .1 .0), (c .before .before .before .lead-of .ensures .1, l .inv .2 .small-ahead)))))))
 
 tries-returns : (t : ℕ) → tries-lts.Need-returns (tries-calls t) (tries-at t) tries.Post tries-Inv-loop tries-μ-loop
 tries-returns t c =
@@ -699,14 +600,14 @@ tries-returns t c =
     let one = s .pre .1 .1 .1 .1 .1 .1 .1 .0 in
     let p-is = s .pre .1 .1 .1 .1 .1 .1 .1 .1 in
     let l = c .before .before .before .before .before .before .before .before .before .loop in
-    let from-is = c .before .before .before .before .before .before .before .before .before .before .later .ensures ∙ ap (max _) (c .before .before .before .before .before .before .before .before .before .before .before .wide .ensures .0 ∙ c .before .before .before .before .before .before .before .before .before .before .before .before .release-of .ensures) in
-    let to-is = c .before .before .before .before .before .before .before .before .before .before .before .before .before .before .sooner .ensures in
+    let from-is = c .before .before .before .before .before .before .before .before .before .before .larger .ensures ∙ ap (max _) (c .before .before .before .before .before .before .before .before .before .before .before .wide .ensures .0 ∙ c .before .before .before .before .before .before .before .before .before .before .before .before .release-of .ensures) in
+    let to-is = c .before .before .before .before .before .before .before .before .before .before .before .before .before .before .smaller .ensures in
     let last-is = c .before .before .before .before .before .before .before .before .before .before .before .before .before .before .before .last-of .ensures in
     let e = c .before .before .before .attempt in
-    (e .ensures .0, λ m u o h q w. trial-stopped R valid _ _ _ _ _ _ _ _ _ _ _ _ _ _ _ (l .inv .2) (c .before .before .before .before .before .before .before .before .loop-test .taken) _ _ _ _ (c .before .before .before .before .before .before .sooner2 .ensures) (e .ensures .1) (omega (arith, l .inv .2 .low, from-is)) _ (omega (arith, from-is, to-is)) (c .if1 .taken) m u o h q w _)
+    (e .ensures .0, λ m u o h q w. trial-stopped R valid _ _ _ _ _ _ _ _ _ _ _ _ _ _ _ (l .inv .2) (c .before .before .before .before .before .before .before .before .loop-test .taken) _ _ _ _ (c .before .before .before .before .before .before .smaller2 .ensures) (e .ensures .1) (omega (arith, l .inv .2 .low, from-is)) _ (omega (arith, from-is, to-is)) (c .if1 .taken) m u o h q w _)
 
-tries-add-sooner : (t : ℕ) → tries-lts.Need-add-sooner (tries-calls t) (tries-at t) tries.Post tries-Inv-loop tries-μ-loop
-tries-add-sooner t c =
+tries-add-smaller : (t : ℕ) → tries-lts.Need-add-smaller (tries-calls t) (tries-at t) tries.Post tries-Inv-loop tries-μ-loop
+tries-add-smaller t c =
     let s = c .before .before .before .before .before .before .before .before .before .before .before .before .before .before .before .before .before .before in
     let R = recorderOf (s .args .r .now) in
     let valid = s .pre .1 .0 .tabled .valid in
@@ -715,24 +616,12 @@ tries-add-sooner t c =
     let one = s .pre .1 .1 .1 .1 .1 .1 .1 .0 in
     let p-is = s .pre .1 .1 .1 .1 .1 .1 .1 .1 in
     let l = c .before .before .before .before .before .before .before .before .before .loop in
-    let from-is = c .before .before .before .before .before .before .before .before .before .before .later .ensures ∙ ap (max _) (c .before .before .before .before .before .before .before .before .before .before .before .wide .ensures .0 ∙ c .before .before .before .before .before .before .before .before .before .before .before .before .release-of .ensures) in
-    let to-is = c .before .before .before .before .before .before .before .before .before .before .before .before .before .before .sooner .ensures in
+    let from-is = c .before .before .before .before .before .before .before .before .before .before .larger .ensures ∙ ap (max _) (c .before .before .before .before .before .before .before .before .before .before .before .wide .ensures .0 ∙ c .before .before .before .before .before .before .before .before .before .before .before .before .release-of .ensures) in
+    let to-is = c .before .before .before .before .before .before .before .before .before .before .before .before .before .before .smaller .ensures in
     let last-is = c .before .before .before .before .before .before .before .before .before .before .before .before .before .before .before .last-of .ensures in
     let e = c .before .before .before .attempt in
     let o = held-open R valid _ _ _ held (omega (arith, has-le (s .args .set) (s .args .j) one, pow-pos (s .args .j))) in
     omega (arith, c .before .before .before .before .before .before .before .lead-of .ensures .1, came-small (e .ensures .1 (o .left) (o .vertex) (o .shows) (omega (arith, o .time, l .inv .2 .low, from-is))) (c .if1 .left))
-
-tries-sooner-requires-3 : (t : ℕ) → tries-lts.Need-sooner-requires-3 (tries-calls t) (tries-at t) tries.Post tries-Inv-loop tries-μ-loop
-tries-sooner-requires-3 t c κs = search needs
-
-tries-lessened-requires : (t : ℕ) → tries-lts.Need-lessened-requires (tries-calls t) (tries-at t) tries.Post tries-Inv-loop tries-μ-loop
-tries-lessened-requires t c κs = search needs
-
-tries-add-s : (t : ℕ) → tries-lts.Need-add-s (tries-calls t) (tries-at t) tries.Post tries-Inv-loop tries-μ-loop
-tries-add-s t c = omega arith
-
-tries-loop-less : (t : ℕ) → tries-lts.Need-loop-less (tries-calls t) (tries-at t) tries.Post tries-Inv-loop tries-μ-loop
-tries-loop-less t c = omega arith
 
 tries-loop-again : (t : ℕ) → tries-lts.Need-loop-again (tries-calls t) (tries-at t) tries.Post tries-Inv-loop tries-μ-loop
 tries-loop-again t c =
@@ -744,15 +633,15 @@ tries-loop-again t c =
     let one = s .pre .1 .1 .1 .1 .1 .1 .1 .0 in
     let p-is = s .pre .1 .1 .1 .1 .1 .1 .1 .1 in
     let l = c .before .before .before .before .before .before .before .before .before .before .before .loop in
-    let from-is = c .before .before .before .before .before .before .before .before .before .before .before .before .later .ensures ∙ ap (max _) (c .before .before .before .before .before .before .before .before .before .before .before .before .before .wide .ensures .0 ∙ c .before .before .before .before .before .before .before .before .before .before .before .before .before .before .release-of .ensures) in
-    let to-is = c .before .before .before .before .before .before .before .before .before .before .before .before .before .before .before .before .sooner .ensures in
+    let from-is = c .before .before .before .before .before .before .before .before .before .before .before .before .larger .ensures ∙ ap (max _) (c .before .before .before .before .before .before .before .before .before .before .before .before .before .wide .ensures .0 ∙ c .before .before .before .before .before .before .before .before .before .before .before .before .before .before .release-of .ensures) in
+    let to-is = c .before .before .before .before .before .before .before .before .before .before .before .before .before .before .before .before .smaller .ensures in
     let last-is = c .before .before .before .before .before .before .before .before .before .before .before .before .before .before .before .before .before .last-of .ensures in
     let e = c .before .before .before .before .before .attempt in (
       e .ensures .0 .0,
       e .ensures .0 .1,
       trial-as _ _ _ _ _ _ _ _ _ _ _ _ _ _ _ _ _ _ _
-          (trial-next R valid _ _ _ _ _ _ _ _ _ _ _ _ _ _ _ (l .inv .2) (c .before .before .before .before .before .before .before .before .before .before .loop-test .taken) _ _ _ _ (c .before .before .before .before .before .before .before .before .sooner2 .ensures) (e .ensures .1) (omega (arith, l .inv .2 .low, from-is)) _ (s .pre .1 .0 .tabled) held known one (omega (arith, from-is)) (starts-late R (s .args .j) _ _ _ _ to-is last-is) (c .before .before .before .before .before .before .before .before .before .before .before .before .before .before .before .falls-of .ensures) (c .before .before .before .before .before .before .before .before .before .lead-of .ensures .0) (c .before .before .if1 .left))
-          refl (c .before .sooner3 .ensures) (c .lessened .ensures),
+          (trial-next R valid _ _ _ _ _ _ _ _ _ _ _ _ _ _ _ (l .inv .2) (c .before .before .before .before .before .before .before .before .before .before .loop-test .taken) _ _ _ _ (c .before .before .before .before .before .before .before .before .smaller2 .ensures) (e .ensures .1) (omega (arith, l .inv .2 .low, from-is)) _ (s .pre .1 .0 .tabled) held known one (omega (arith, from-is)) (starts-late R (s .args .j) _ _ _ _ to-is last-is) (c .before .before .before .before .before .before .before .before .before .before .before .before .before .before .before .falls-of .ensures) (c .before .before .before .before .before .before .before .before .before .lead-of .ensures .0) (c .before .before .if1 .left))
+          refl (c .before .smaller3 .ensures) (c .lessened .ensures),
       omega arith,
     )
 
@@ -769,8 +658,8 @@ tries-returns-2 t c =
     let one = s .pre .1 .1 .1 .1 .1 .1 .1 .0 in
     let p-is = s .pre .1 .1 .1 .1 .1 .1 .1 .1 in
     let l = c .before .loop in
-    let from-is = c .before .before .later .ensures ∙ ap (max _) (c .before .before .before .wide .ensures .0 ∙ c .before .before .before .before .release-of .ensures) in
-    let to-is = c .before .before .before .before .before .before .sooner .ensures in
+    let from-is = c .before .before .larger .ensures ∙ ap (max _) (c .before .before .before .wide .ensures .0 ∙ c .before .before .before .before .release-of .ensures) in
+    let to-is = c .before .before .before .before .before .before .smaller .ensures in
     let last-is = c .before .before .before .before .before .before .before .last-of .ensures in
     ((l .inv .0, l .inv .1), λ m u o h q w. trial-end R valid _ _ _ _ _ _ _ _ _ _ _ _ known one from-is (starts-to R _ (s .pre .1 .0 .laid) _ _ _ _ _ _ (held-few R valid _ _ _ held .0) p-is to-is last-is) _ _ _ _ (l .inv .2) (omega (arith, c .loop-test .left)) m u o h q w)
 
@@ -779,28 +668,28 @@ pub +attempt+choices+enter+examine+learn+least+tries-spec : {M : Type 1} → sta
     (λ t. attempt-lts.spec (attempt-calls t)
     (attempt-at t)
     attempt.Post
-    (attempt-add-if1 t)
+    (λ c. omega arith)
     (attempt-returns t)
-    (attempt-sub-enter t)
+    (λ c. omega arith)
     (attempt-enter-requires t)
-    (attempt-same-length t)
+    (λ c. omega arith)
     (attempt-returns-2 t)
-    (attempt-later-requires t)
-    (attempt-same-length-2 t)
+    (λ c κs. search needs)
+    (λ c. omega arith)
     (attempt-returns-3 t))
     (λ t. choices-lts.spec (choices-calls t)
     (choices-at t)
     choices.Post
     choices-Inv-loop
     choices-μ-loop
-    (choices-job-count-requires t)
+    (λ c κs. search needs)
     (choices-loop-holds t)
     (choices-tries-requires t)
-    (choices-same-length t)
+    (λ c. omega arith)
     (choices-returns t)
     (choices-mul-p t)
-    (choices-add-j t)
-    (choices-loop-less t)
+    (λ c. omega arith)
+    (λ c. omega arith)
     (choices-loop-again t)
     (choices-same-length-2 t)
     (choices-returns-2 t))
@@ -809,44 +698,44 @@ pub +attempt+choices+enter+examine+learn+least+tries-spec : {M : Type 1} → sta
     enter.Post
     (enter-place-requires t)
     (enter-run-of-requires t)
-    (enter-wide-requires t)
+    (λ c κs. search needs)
     (enter-add-end t)
     (enter-sub-least t)
     (enter-least-requires t)
-    (enter-same-length t)
+    (λ c. omega arith)
     (enter-returns t))
     (λ t. examine-lts.spec (examine-calls t)
     (examine-at t)
     examine.Post
     (examine-wait-of-requires t)
     (examine-choices-requires t)
-    (examine-same-length t)
+    (λ c. omega arith)
     (examine-returns t)
     (examine-mul-last t)
     (examine-element-copy-out-last t)
-    (examine-wide-requires t)
-    (examine-same-length-2 t)
+    (λ c κs. search needs)
+    (λ c. omega arith)
     (examine-returns-2 t)
-    (examine-sooner-requires t)
+    (λ c κs. search needs)
     (examine-least-requires t)
-    (examine-same-length-3 t)
+    (λ c. omega arith)
     (examine-returns-3 t)
-    (examine-sooner-requires-2 t)
-    (examine-same-length-4 t)
+    (λ c κs. search needs)
+    (λ c. omega arith)
     (examine-returns-4 t))
     (λ t. learn-lts.spec (learn-calls t)
     (learn-at t)
     learn.Post
     (learn-returns t)
-    (learn-add-entered t)
-    (learn-raised-requires t)
+    (λ c. omega arith)
+    (λ c κs. search needs)
     (learn-examine-requires t)
-    (learn-same-length t)
+    (λ c. omega arith)
     (learn-returns-2 t)
-    (learn-later-requires t)
-    (learn-lessened-requires t)
+    (λ c κs. search needs)
+    (λ c κs. search needs)
     (learn-remember-requires t)
-    (learn-same-length-2 t)
+    (λ c. omega arith)
     (learn-returns-3 t))
     (λ t. least-lts.spec (least-calls t)
     (least-at t)
@@ -854,12 +743,12 @@ pub +attempt+choices+enter+examine+learn+least+tries-spec : {M : Type 1} → sta
     (least-close-of-requires t)
     (least-returns t)
     (least-key-of-requires t)
-    (least-look-requires t)
-    (least-is-enough-requires t)
-    (least-same-length t)
+    (λ c κs. search needs)
+    (λ c κs. search needs)
+    (λ c. omega arith)
     (least-returns-2 t)
     (least-learn-requires t)
-    (least-same-length-2 t)
+    (λ c. omega arith)
     (least-returns-3 t))
     λ t. tries-lts.spec (tries-calls t)
     (tries-at t)
@@ -868,22 +757,22 @@ pub +attempt+choices+enter+examine+learn+least+tries-spec : {M : Type 1} → sta
     tries-μ-loop
     (tries-sub-last-of t)
     (tries-last-of-requires t)
-    (tries-sooner-requires t)
+    (λ c κs. search needs)
     (tries-falls-of-requires t)
     (tries-release-of-requires t)
-    (tries-wide-requires t)
-    (tries-later-requires t)
+    (λ c κs. search needs)
+    (λ c κs. search needs)
     (tries-loop-holds t)
     (tries-lead-of-requires t)
-    (tries-sooner-requires-2 t)
+    (λ c κs. search needs)
     (tries-attempt-requires t)
-    (tries-same-length t)
+    (λ c. omega arith)
     (tries-returns t)
-    (tries-add-sooner t)
-    (tries-sooner-requires-3 t)
-    (tries-lessened-requires t)
-    (tries-add-s t)
-    (tries-loop-less t)
+    (tries-add-smaller t)
+    (λ c κs. search needs)
+    (λ c κs. search needs)
+    (λ c. omega arith)
+    (λ c. omega arith)
     (tries-loop-again t)
     (tries-same-length-2 t)
     (tries-returns-2 t)

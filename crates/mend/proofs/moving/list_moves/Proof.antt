@@ -17,18 +17,6 @@ abbrev μ-loop : tie.MeasureT-loop
 loop-holds : tie.Need-loop-holds Inv-loop μ-loop
 loop-holds c = (omega arith, listed-none _ _ _)
 
-mul-list-move : tie.Need-mul-list-move Inv-loop μ-loop
-mul-list-move c = omega arith
-
-shared-slice-read-list-move : tie.Need-shared-slice-read-list-move Inv-loop μ-loop
-shared-slice-read-list-move c = omega arith
-
-mul-list-move-2 : tie.Need-mul-list-move-2 Inv-loop μ-loop
-mul-list-move-2 c = omega arith
-
-array-read-list-move : tie.Need-array-read-list-move Inv-loop μ-loop
-array-read-list-move c = omega arith
-
 list-move-requires : tie.Need-list-move-requires Inv-loop μ-loop
 list-move-requires c κs =
     let s = c .before .before .before .before .before .before in
@@ -42,12 +30,6 @@ list-move-requires c κs =
         filled-length (l .inv .1 .listed) (omega (arith, listed-few g (s .args .t2) m (l .job) (l .count) (l .moved) (l .inv .1))),
       ),
     )
-
-add-job : tie.Need-add-job Inv-loop μ-loop
-add-job c = omega arith
-
-loop-less : tie.Need-loop-less Inv-loop μ-loop
-loop-less c = omega arith
 
 loop-again : tie.Need-loop-again Inv-loop μ-loop
 loop-again c =
@@ -82,13 +64,13 @@ list-moves-spec =
     Inv-loop
     μ-loop
     loop-holds
-    mul-list-move
-    shared-slice-read-list-move
-    mul-list-move-2
-    array-read-list-move
+    (λ c. omega arith)
+    (λ c. omega arith)
+    (λ c. omega arith)
+    (λ c. omega arith)
     list-move-requires
-    add-job
-    loop-less
+    (λ c. omega arith)
+    (λ c. omega arith)
     loop-again
     same-length
     returns)

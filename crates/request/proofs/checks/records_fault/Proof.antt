@@ -19,29 +19,17 @@ abbrev μ-loop : tie.MeasureT-loop
 loop-holds : tie.Need-loop-holds Inv-loop μ-loop
 loop-holds c = (c .before .pre, refl)
 
-record-fault-requires : tie.Need-record-fault-requires Inv-loop μ-loop
-record-fault-requires c κs = search needs
-
 returns : tie.Need-returns Inv-loop μ-loop
 returns c =
     let l = c .before .before .before .loop in
     let more : 0 < l .left = omega arith in
     first-stop _ _ _ _ _ more (c .before .record-fault .ensures) (c .if1 .taken) ∙ sym (l .inv .1)
 
-sub-left : tie.Need-sub-left Inv-loop μ-loop
-sub-left c = search needs
-
-size-of-requires : tie.Need-size-of-requires Inv-loop μ-loop
-size-of-requires c κs = search needs
-
 add-at : tie.Need-add-at Inv-loop μ-loop
 add-at c =
     let l = c .before .before .before .before .loop in
     let ok = sym (c .before .if1 .left) ∙ c .before .before .record-fault .ensures in
     rw (c .size-of .ensures) (omega (arith, record-room _ _ _ (l .inv .0) ok))
-
-loop-less : tie.Need-loop-less Inv-loop μ-loop
-loop-less c = search needs
 
 loop-again : tie.Need-loop-again Inv-loop μ-loop
 loop-again c =
@@ -63,11 +51,11 @@ records-fault-spec =
     Inv-loop
     μ-loop
     loop-holds
-    record-fault-requires
+    (λ c κs. search needs)
     returns
-    sub-left
-    size-of-requires
+    (λ c. search needs)
+    (λ c κs. search needs)
     add-at
-    loop-less
+    (λ c. search needs)
     loop-again
     returns-2)

@@ -7,7 +7,7 @@ use Rattle.request.proofs.horizon.horizon_of.Tie as tie
 
 returns : tie.Need-returns
 unfolding horizonOf
-returns c = rw (eq-eqb _ _ (c .before .before .if1 .taken), ← c .before .pair-at .ensures) (c .capped .ensures)
+returns c = rw (eq-eqb _ _ (c .before .before .if1 .taken), ← c .before .pair-at .ensures) (c .smaller .ensures)
 
 returns-2 : tie.Need-returns-2
 unfolding horizonOf

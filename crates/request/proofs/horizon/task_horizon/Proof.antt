@@ -22,9 +22,6 @@ loop-holds c = (c .before .pre, omega arith, refl)
 pair-at-requires : tie.Need-pair-at-requires Inv-loop μ-loop
 pair-at-requires c κs = omega (arith, c .before .loop .inv .0 .there)
 
-cast-lcm : tie.Need-cast-lcm Inv-loop μ-loop
-cast-lcm c = search needs
-
 lcm-requires : tie.Need-lcm-requires Inv-loop μ-loop
 lcm-requires c κs =
     let l = c .before .before .loop in
@@ -50,14 +47,8 @@ returns c =
     let s = c .before .before .before .before .before .before .args .s .now in
     omega (arith, step (c .before), le-lcmFrom s (l .left - 1) (l .at + 5) (c .before .lcm .result) (λ i m. rest (c .before .before .before) .periods i m .0))
 
-sub-left : tie.Need-sub-left Inv-loop μ-loop
-sub-left c = search needs
-
 add-at : tie.Need-add-at Inv-loop μ-loop
 add-at c = omega (arith, rest (c .before .before .before) .there)
-
-loop-less : tie.Need-loop-less Inv-loop μ-loop
-loop-less c = search needs
 
 loop-again : tie.Need-loop-again Inv-loop μ-loop
 loop-again c = (rest (c .before .before .before), c .if1 .left, step (c .before))
@@ -75,11 +66,11 @@ task-horizon-spec =
     μ-loop
     loop-holds
     pair-at-requires
-    cast-lcm
+    (λ c. search needs)
     lcm-requires
     returns
-    sub-left
+    (λ c. search needs)
     add-at
-    loop-less
+    (λ c. search needs)
     loop-again
     returns-2)

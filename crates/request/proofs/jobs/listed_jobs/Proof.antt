@@ -17,24 +17,9 @@ Inv-loop s count from js₀ j₀ js j = (j ≤ count) × (js ≡ packed (listed 
 abbrev μ-loop : tie.MeasureT-loop
 μ-loop s count from js₀ j₀ js j = count - j
 
-no-jobs-requires : tie.Need-no-jobs-requires Inv-loop μ-loop
-no-jobs-requires c κs = search needs
-
 loop-holds : tie.Need-loop-holds Inv-loop μ-loop
 unfolding upTo
 loop-holds c = (omega arith, c .no-jobs .ensures)
-
-listed-job-requires : tie.Need-listed-job-requires Inv-loop μ-loop
-listed-job-requires c κs = search needs
-
-push-requires : tie.Need-push-requires Inv-loop μ-loop
-push-requires c κs = search needs
-
-add-j : tie.Need-add-j Inv-loop μ-loop
-add-j c = search needs
-
-loop-less : tie.Need-loop-less Inv-loop μ-loop
-loop-less c = search needs
 
 loop-again : tie.Need-loop-again Inv-loop μ-loop
 loop-again c =
@@ -53,11 +38,11 @@ listed-jobs-spec =
     (tie.spec
     Inv-loop
     μ-loop
-    no-jobs-requires
+    (λ c κs. search needs)
     loop-holds
-    listed-job-requires
-    push-requires
-    add-j
-    loop-less
+    (λ c κs. search needs)
+    (λ c κs. search needs)
+    (λ c. search needs)
+    (λ c. search needs)
     loop-again
     returns)

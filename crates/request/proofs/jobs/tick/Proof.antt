@@ -26,12 +26,6 @@ release-requires c κs =
     let p = ok .periods (c .before .loop .i) (c .loop-test .taken) in
     (omega (arith, ok .there), p .0, omega arith)
 
-add-i : tie.Need-add-i Inv-loop μ-loop
-add-i c = search needs
-
-loop-less : tie.Need-loop-less Inv-loop μ-loop
-loop-less c = search needs
-
 loop-again : tie.Need-loop-again Inv-loop μ-loop
 loop-again c =
     let l = c .before .before .loop in
@@ -52,7 +46,7 @@ tick-spec =
     μ-loop
     loop-holds
     release-requires
-    add-i
-    loop-less
+    (λ c. search needs)
+    (λ c. search needs)
     loop-again
     returns)

@@ -14,21 +14,12 @@ Inv-loop s tasks from h js₀ t₀ js t = (t ≤ h) × (js ≡ packed (unfolded 
 abbrev μ-loop : tie.MeasureT-loop
 μ-loop s tasks from h js₀ t₀ js t = h - t
 
-no-jobs-requires : tie.Need-no-jobs-requires Inv-loop μ-loop
-no-jobs-requires c κs = search needs
-
 loop-holds : tie.Need-loop-holds Inv-loop μ-loop
 unfolding unfolded
 loop-holds c = (omega arith, c .no-jobs .ensures)
 
 tick-requires : tie.Need-tick-requires Inv-loop μ-loop
 tick-requires c κs = (c .before .before .before .before .pre .0, omega arith, c .before .loop .inv .1)
-
-add-t : tie.Need-add-t Inv-loop μ-loop
-add-t c = search needs
-
-loop-less : tie.Need-loop-less Inv-loop μ-loop
-loop-less c = search needs
 
 loop-again : tie.Need-loop-again Inv-loop μ-loop
 loop-again c = (omega arith, c .tick .ensures)
@@ -45,10 +36,10 @@ unfold-spec =
     (tie.spec
     Inv-loop
     μ-loop
-    no-jobs-requires
+    (λ c κs. search needs)
     loop-holds
     tick-requires
-    add-t
-    loop-less
+    (λ c. search needs)
+    (λ c. search needs)
     loop-again
     returns)

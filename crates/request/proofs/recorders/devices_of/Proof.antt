@@ -20,9 +20,6 @@ Inv-loop s kind n devices₀ at₀ k₀ devices at k =
 abbrev μ-loop : tie.MeasureT-loop
 μ-loop s kind n devices₀ at₀ k₀ devices at k = n - k
 
-no-devices-requires : tie.Need-no-devices-requires Inv-loop μ-loop
-no-devices-requires c κs = search needs
-
 loop-holds : tie.Need-loop-holds Inv-loop μ-loop
 unfolding upTo
 loop-holds c = (omega arith, refl, c .no-devices .ensures)
@@ -33,29 +30,11 @@ device-at-requires c κs =
     let a = c .before .before .before .before .args in
     rw (l .inv .1) (omega (arith, after-one (deviceSize (a .kind) (a .s .now)) (l .k) (a .n) 3 (c .loop-test .taken), c .before .before .before .before .pre))
 
-device-of-requires : tie.Need-device-of-requires Inv-loop μ-loop
-device-of-requires c κs = search needs
-
-mul-t11 : tie.Need-mul-t11 Inv-loop μ-loop
-mul-t11 c = search needs
-
-element-set-from-devices : tie.Need-element-set-from-devices Inv-loop μ-loop
-element-set-from-devices c = search needs
-
-device-size-requires : tie.Need-device-size-requires Inv-loop μ-loop
-device-size-requires c κs = search needs
-
 add-at : tie.Need-add-at Inv-loop μ-loop
 add-at c =
     let l = c .before .before .before .before .loop in
     let a = c .before .before .before .before .before .before .before .args in
     rw (c .device-size .ensures, l .inv .1) (omega (arith, after-one (deviceSize (a .kind) (a .s .now)) (l .k) (a .n) 3 (c .before .before .before .loop-test .taken), c .before .before .before .before .before .before .before .pre))
-
-add-k : tie.Need-add-k Inv-loop μ-loop
-add-k c = search needs
-
-loop-less : tie.Need-loop-less Inv-loop μ-loop
-loop-less c = search needs
 
 loop-again : tie.Need-loop-again Inv-loop μ-loop
 loop-again c =
@@ -78,15 +57,15 @@ devices-of-spec =
     (tie.spec
     Inv-loop
     μ-loop
-    no-devices-requires
+    (λ c κs. search needs)
     loop-holds
     device-at-requires
-    device-of-requires
-    mul-t11
-    element-set-from-devices
-    device-size-requires
+    (λ c κs. search needs)
+    (λ c. search needs)
+    (λ c. search needs)
+    (λ c κs. search needs)
     add-at
-    add-k
-    loop-less
+    (λ c. search needs)
+    (λ c. search needs)
     loop-again
     returns)

@@ -81,7 +81,7 @@ unfolding recorderAs
 returns c =
     let j = c .before in
     let few = length-jobs _ _ _ _ _ (ok (j .before .before .before .before .before) .jobs) in
-    rw (j .jobs-of .ensures, j .before .before .before .before .device-place .ensures, packed-held _ few, j .before .devices-of .ensures, same (j .before .before), c .has-digits .ensures)
+    rw (j .jobs-of .ensures, j .before .before .before .before .device-place .ensures, packed-held _ few, j .before .devices-of .ensures, same (j .before .before), c .sleeps-in .ensures)
 
 pub recorder-in-spec : {M : Type 1} → statement M
 recorder-in-spec =

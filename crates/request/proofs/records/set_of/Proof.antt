@@ -21,15 +21,6 @@ loop-holds : tie.Need-loop-holds Inv-loop μ-loop
 unfolding upTo padded
 loop-holds c = (omega arith, omega arith, refl)
 
-array-write-uses : tie.Need-array-write-uses Inv-loop μ-loop
-array-write-uses c = search needs
-
-add-k : tie.Need-add-k Inv-loop μ-loop
-add-k c = search needs
-
-loop-less : tie.Need-loop-less Inv-loop μ-loop
-loop-less c = search needs
-
 loop-again : tie.Need-loop-again Inv-loop μ-loop
 loop-again c =
     let l = c .before .loop in
@@ -46,4 +37,4 @@ returns c =
 pub set-of-spec : {M : Type 1} → statement M
 set-of-spec =
     tie.close
-    (tie.spec Inv-loop μ-loop loop-holds array-write-uses add-k loop-less loop-again returns)
+    (tie.spec Inv-loop μ-loop loop-holds (λ c. search needs) (λ c. search needs) (λ c. search needs) loop-again returns)

@@ -31,17 +31,8 @@ mul-window-fault c = omega (arith, c .before .before .before .before .before .pr
 shared-slice-read-window-fault : tie.Need-shared-slice-read-window-fault Inv-loop μ-loop
 shared-slice-read-window-fault c = omega (arith, c .before .before .before .before .before .before .pre)
 
-window-fault-requires : tie.Need-window-fault-requires Inv-loop μ-loop
-window-fault-requires c κs = search needs
-
 returns : tie.Need-returns Inv-loop μ-loop
 returns c = let l = c .before .before .before .before .before .loop in missed (window-missed _ _ _ _ (omega arith) (l .inv .1) (c .before .window-fault .ensures) (λ e. omega arith))
-
-add-j : tie.Need-add-j Inv-loop μ-loop
-add-j c = omega arith
-
-loop-less : tie.Need-loop-less Inv-loop μ-loop
-loop-less c = omega arith
 
 loop-again : tie.Need-loop-again Inv-loop μ-loop
 loop-again c = let l = c .before .before .before .before .before .loop in (omega arith, below-more _ _ (l .inv .1) (window-met (c .before .before .before .before .before .before .before .before .args .r) (c .before .before .before .before .before .before .before .before .args .starts .now) (l .j) (omega (arith, c .before .window-fault .ensures))))
@@ -60,9 +51,9 @@ first-missed-spec =
     element-copy-out-job
     mul-window-fault
     shared-slice-read-window-fault
-    window-fault-requires
+    (λ c κs. search needs)
     returns
-    add-j
-    loop-less
+    (λ c. omega arith)
+    (λ c. omega arith)
     loop-again
     returns-2)

@@ -27,9 +27,6 @@ returns c = let p = c .before .before .before .before .before .before .pre in fa
 add-j : tie.Need-add-j Inv-loop μ-loop
 add-j c = omega (arith, c .before .before .before .before .before .before .pre .0)
 
-loop-less : tie.Need-loop-less Inv-loop μ-loop
-loop-less c = omega arith
-
 loop-again : tie.Need-loop-again Inv-loop μ-loop
 loop-again c = (omega arith, below-more _ _ (c .before .before .before .before .loop .inv .1) (denied (c .before .overlaps .ensures) (c .if2 .left)))
 
@@ -46,6 +43,6 @@ first-overlap-spec =
     overlaps-requires
     returns
     add-j
-    loop-less
+    (λ c. omega arith)
     loop-again
     returns-2)

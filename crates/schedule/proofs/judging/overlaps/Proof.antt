@@ -43,17 +43,11 @@ mul-clash-2 c = omega (arith, c .before .before .before .before .before .before 
 shared-slice-read-clash-2 : tie.Need-shared-slice-read-clash-2 Inv-loop μ-loop
 shared-slice-read-clash-2 c = omega (arith, c .before .before .before .before .before .before .before .before .pre)
 
-clash-requires : tie.Need-clash-requires Inv-loop μ-loop
-clash-requires c κs = search needs
-
 returns : tie.Need-returns Inv-loop μ-loop
 returns c = let p = c .before .before .before .before .before .before .before .before .before .before .pre in let l = c .before .before .before .before .before .before .loop in let i : l .i < jobs (c .before .before .before .before .before .before .before .before .before .before .args .r) = omega arith in holds (clash-overlaps (c .before .before .before .before .before .before .before .before .before .before .args .r) (c .before .before .before .before .before .before .before .before .before .before .args .starts .now) (l .i) (c .before .before .before .before .before .before .before .before .before .before .args .job .0) i (p .0 .runs _ i) (p .0 .runs _ (p .2)) (sym (c .before .clash .ensures) ∙ c .if1 .taken))
 
 add-i : tie.Need-add-i Inv-loop μ-loop
 add-i c = omega (arith, c .before .before .before .before .before .before .before .before .before .before .pre .0)
-
-loop-less : tie.Need-loop-less Inv-loop μ-loop
-loop-less c = omega arith
 
 loop-again : tie.Need-loop-again Inv-loop μ-loop
 loop-again c = let l = c .before .before .before .before .before .before .loop in (omega arith, below-more _ _ (l .inv .1) (clash-apart (c .before .before .before .before .before .before .before .before .before .before .args .r) (c .before .before .before .before .before .before .before .before .before .before .args .starts .now) (l .i) (c .before .before .before .before .before .before .before .before .before .before .args .job .0) (sym (c .before .clash .ensures) ∙ c .if1 .left)))
@@ -76,9 +70,9 @@ overlaps-spec =
     shared-slice-read-clash
     mul-clash-2
     shared-slice-read-clash-2
-    clash-requires
+    (λ c κs. search needs)
     returns
     add-i
-    loop-less
+    (λ c. omega arith)
     loop-again
     returns-2)

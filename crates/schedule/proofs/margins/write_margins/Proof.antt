@@ -49,9 +49,6 @@ mul-margin-of c = omega (arith, c .before .before .before .before .before .pre .
 shared-slice-read-margin-of : tie.Need-shared-slice-read-margin-of Inv-loop μ-loop
 shared-slice-read-margin-of c = omega (arith, c .before .before .before .before .before .before .pre)
 
-margin-of-requires : tie.Need-margin-of-requires Inv-loop μ-loop
-margin-of-requires c κs = search needs
-
 mul-t15 : tie.Need-mul-t15 Inv-loop μ-loop
 mul-t15 c = omega (arith, c .before .before .before .before .before .before .before .pre .0)
 
@@ -60,9 +57,6 @@ slice-set-from-out c = let i = c .before .before .before .before .loop .inv in o
 
 add-j : tie.Need-add-j Inv-loop μ-loop
 add-j c = omega (arith, c .before .before .before .before .before .before .before .pre .0)
-
-loop-less : tie.Need-loop-less Inv-loop μ-loop
-loop-less c = omega arith
 
 loop-again : tie.Need-loop-again Inv-loop μ-loop
 loop-again c = let i = c .before .before .before .before .loop .inv in (omega arith, i .1, filled-value _ (i .2) (omega arith) _ (stored c))
@@ -84,11 +78,11 @@ write-margins-spec =
     element-copy-out-job
     mul-margin-of
     shared-slice-read-margin-of
-    margin-of-requires
+    (λ c κs. search needs)
     mul-t15
     slice-set-from-out
     add-j
-    loop-less
+    (λ c. omega arith)
     loop-again
     same-length
     returns)

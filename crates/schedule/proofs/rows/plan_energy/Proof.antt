@@ -47,9 +47,6 @@ add-sum c = omega (arith, more c .0)
 add-k : tie.Need-add-k Inv-loop μ-loop
 add-k c = omega (arith, c .before .before .before .before .before .before .before .before .pre .0)
 
-loop-less : tie.Need-loop-less Inv-loop μ-loop
-loop-less c = omega arith
-
 loop-again : tie.Need-loop-again Inv-loop μ-loop
 loop-again c = (omega arith, more c .1)
 
@@ -73,6 +70,6 @@ plan-energy-spec =
     energy-of-requires
     add-sum
     add-k
-    loop-less
+    (λ c. omega arith)
     loop-again
     returns)

@@ -18,11 +18,11 @@ use Rattle.schedule.proofs.rows.write_rows.Statement.{statement}
 use Rattle.schedule.proofs.rows.write_rows.Tie as tie
 
 abbrev Inv-loop : tie.InvT-loop
-Inv-loop r starts out₀ devices h order sum₀ k₀ out sum k =
-    (k ≤ r .devices .count) × Summed r starts k sum × Filled out₀ (k * r .horizon) (laid (r .digits) (planRow r starts) k) out
+Inv-loop r starts out₀ devices sleeps h order sum₀ k₀ out sum k =
+    (k ≤ r .devices .count) × Summed r starts k sum × Filled out₀ (k * r .horizon) (laid (r .sleeps) (planRow r starts) k) out
 
 abbrev μ-loop : tie.MeasureT-loop
-μ-loop r starts out₀ devices h order sum₀ k₀ out sum k = r .devices .count - k
+μ-loop r starts out₀ devices sleeps h order sum₀ k₀ out sum k = r .devices .count - k
 
 -- The rows up to the next one have room, and the buffer has the length it had.
 roomy : (c : tie.In-loop Inv-loop μ-loop) → let s = c .before .before .before .before .before .before .before in
@@ -96,9 +96,6 @@ write-row-requires c κs =
 add-k : tie.Need-add-k Inv-loop μ-loop
 add-k c = omega (arith, c .before .before .before .before .before .before .before .before .before .before .before .before .before .before .before .pre .0)
 
-loop-less : tie.Need-loop-less Inv-loop μ-loop
-loop-less c = omega arith
-
 loop-again : tie.Need-loop-again Inv-loop μ-loop
 loop-again c =
     let R = c .before .before .before .before .before .before .before .before .before .before .before .before .before .before .before .args .r in
@@ -106,7 +103,7 @@ loop-again c =
       omega arith,
       more (c .before .before .before .before .before) .1,
       laid-row R (c .before .before .before .before .before .before .before .before .before .before .before .before .before .before .before .args .starts .now) (l .k) (l .inv .2) (roomy (c .before .before .before .before .before .before .before .before) .0) (c .before .before .write-row .last .1 .1 .1 .1 .1 .0)
-          (c .before .before .write-row .ensures ∙ ap (λ (u : List Bool). map (byteOf (R .digits)) (rowOf (R .round) (device R (l .k)) u) ++ drop (R .horizon) (take (length (l .out) - l .k * R .horizon) (drop (l .k * R .horizon) (l .out)))) (pattern-uses (c .before .before .before .before .before .before .before .uses-of .ensures))),
+          (c .before .before .write-row .ensures ∙ ap (λ (u : List Bool). map (byteOf (R .sleeps)) (rowOf (R .round) (device R (l .k)) u) ++ drop (R .horizon) (take (length (l .out) - l .k * R .horizon) (drop (l .k * R .horizon) (l .out)))) (pattern-uses (c .before .before .before .before .before .before .before .uses-of .ensures))),
     )
 
 same-length : tie.Need-same-length Inv-loop μ-loop
@@ -118,7 +115,7 @@ returns c =
     let l = c .before .loop in
     let all : l .k ≡ a .r .devices .count = omega arith in (
       summed-all (a .r) (a .starts .now) (l .sum) (subst (λ (n : ℕ). Summed (a .r) (a .starts .now) n (l .sum)) all (l .inv .1)),
-      l .inv .2 .is ∙ ap (λ (n : ℕ). laid (a .r .digits) (planRow (a .r) (a .starts .now)) n ++ drop (n * a .r .horizon) (a .out .now)) all,
+      l .inv .2 .is ∙ ap (λ (n : ℕ). laid (a .r .sleeps) (planRow (a .r) (a .starts .now)) n ++ drop (n * a .r .horizon) (a .out .now)) all,
     )
 
 pub write-rows-spec : {M : Type 1} → statement M
@@ -143,7 +140,7 @@ write-rows-spec =
     part-write-row-end
     write-row-requires
     add-k
-    loop-less
+    (λ c. omega arith)
     loop-again
     same-length
     returns)

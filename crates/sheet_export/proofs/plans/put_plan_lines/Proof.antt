@@ -30,15 +30,6 @@ loop-holds c =
 cast-put-three : tie.Need-cast-put-three Inv-loop μ-loop
 cast-put-three c = omega (arith, c .before .before .before .before .before .pre .0)
 
-mul-put-three : tie.Need-mul-put-three Inv-loop μ-loop
-mul-put-three c = search needs
-
-shared-slice-read-put-three : tie.Need-shared-slice-read-put-three Inv-loop μ-loop
-shared-slice-read-put-three c = search needs
-
-mul-spare-of : tie.Need-mul-spare-of Inv-loop μ-loop
-mul-spare-of c = search needs
-
 shared-slice-copy-out-spare-of : tie.Need-shared-slice-copy-out-spare-of Inv-loop μ-loop
 shared-slice-copy-out-spare-of c = omega (arith, c .before .before .before .before .before .before .pre .0, c .before .before .before .before .before .before .pre .1)
 
@@ -57,9 +48,6 @@ put-three-requires c κs =
 
 add-j : tie.Need-add-j Inv-loop μ-loop
 add-j c = omega (arith, c .before .before .before .before .before .before .before .before .before .before .before .pre .0)
-
-loop-less : tie.Need-loop-less Inv-loop μ-loop
-loop-less c = search needs
 
 loop-again : tie.Need-loop-again Inv-loop μ-loop
 loop-again c =
@@ -93,14 +81,14 @@ put-plan-lines-spec =
     μ-loop
     loop-holds
     cast-put-three
-    mul-put-three
-    shared-slice-read-put-three
-    mul-spare-of
+    (λ c. search needs)
+    (λ c. search needs)
+    (λ c. search needs)
     shared-slice-copy-out-spare-of
     spare-of-requires
     put-three-requires
     add-j
-    loop-less
+    (λ c. search needs)
     loop-again
     same-length
     returns)

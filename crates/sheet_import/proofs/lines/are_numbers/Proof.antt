@@ -18,26 +18,17 @@ Inv-loop line rows first k₀ k = (k ≤ 4) × (areNumbers (columnsOf rows .most
 abbrev μ-loop : tie.MeasureT-loop
 μ-loop line rows first k₀ k = 4 - k
 
-texts-requires : tie.Need-texts-requires Inv-loop μ-loop
-texts-requires c κs = search needs
-
 loop-holds : tie.Need-loop-holds Inv-loop μ-loop
 loop-holds c =
     let a = c .before .before .args in
     let none : columnsOf (a .rows) .texts ≡ columnsOf (a .rows) .texts + 0 = omega arith in
     (omega arith, ap (λ (x : ℕ). areNumbers (columnsOf (a .rows) .most) (drop x (rawIn (a .line .now)))) none)
 
-most-requires : tie.Need-most-requires Inv-loop μ-loop
-most-requires c κs = search needs
-
 add-field : tie.Need-add-field Inv-loop μ-loop
 add-field c = omega (arith, c .before .before .before .texts .ensures, few-texts (c .before .before .before .before .before .args .rows))
 
 field-requires : tie.Need-field-requires Inv-loop μ-loop
 field-requires c κs = c .before .before .before .before .before .pre
-
-number-of-requires : tie.Need-number-of-requires Inv-loop μ-loop
-number-of-requires c κs = search needs
 
 returns : tie.Need-returns Inv-loop μ-loop
 returns c =
@@ -50,12 +41,6 @@ returns c =
     c .before .number-of .ensures ∙ ap numberOf (c .before .before .field .ensures ∙ ap (λ (x : ℕ). getD fs x []) place) in
     let bound = c .before .before .before .most .ensures in
     sym (l .inv .1 ∙ number-fails (a .rows) fs (l .k) (omega arith) (omega arith))
-
-add-k : tie.Need-add-k Inv-loop μ-loop
-add-k c = search needs
-
-loop-less : tie.Need-loop-less Inv-loop μ-loop
-loop-less c = search needs
 
 loop-again : tie.Need-loop-again Inv-loop μ-loop
 loop-again c =
@@ -81,14 +66,14 @@ are-numbers-spec =
     (tie.spec
     Inv-loop
     μ-loop
-    texts-requires
+    (λ c κs. search needs)
     loop-holds
-    most-requires
+    (λ c κs. search needs)
     add-field
     field-requires
-    number-of-requires
+    (λ c κs. search needs)
     returns
-    add-k
-    loop-less
+    (λ c. search needs)
+    (λ c. search needs)
     loop-again
     returns-2)

@@ -26,9 +26,6 @@ abbrev μ-loop : tie.MeasureT-loop
 loop-holds : tie.Need-loop-holds Inv-loop μ-loop
 loop-holds c = (omega arith, sym (zero-mul (rowSize (c .before .before .args .rows))), put-none _ _)
 
-line-requires : tie.Need-line-requires Inv-loop μ-loop
-line-requires c κs = search needs
-
 put-row-requires : tie.Need-put-row-requires Inv-loop μ-loop
 put-row-requires c κs =
     let l = c .before .before .before .loop in
@@ -37,12 +34,6 @@ put-row-requires c κs =
     let room = room-left (rowSize (start .args .rows)) inside (start .pre .1) in
     let kept = put-length (l .inv .2) (omega (arith, room, l .inv .1)) in
     rw (c .line .ensures) (omega (arith, room, l .inv .1), start .pre .2 (l .k) (omega (arith, start .pre .0)))
-
-add-k : tie.Need-add-k Inv-loop μ-loop
-add-k c = search needs
-
-loop-less : tie.Need-loop-less Inv-loop μ-loop
-loop-less c = search needs
 
 loop-again : tie.Need-loop-again Inv-loop μ-loop
 loop-again c =
@@ -80,10 +71,10 @@ put-rows-spec =
     Inv-loop
     μ-loop
     loop-holds
-    line-requires
+    (λ c κs. search needs)
     put-row-requires
-    add-k
-    loop-less
+    (λ c. search needs)
+    (λ c. search needs)
     loop-again
     same-length
     returns)

@@ -25,9 +25,6 @@ mul-d c = omega (arith, c .loop-test .taken, c .before .before .pre)
 element-copy-out-d : tie.Need-element-copy-out-d Inv-loop μ-loop
 element-copy-out-d c = omega (arith, c .loop-test .taken, c .before .before .pre)
 
-cast-if1 : tie.Need-cast-if1 Inv-loop μ-loop
-cast-if1 c = search needs
-
 returns : tie.Need-returns Inv-loop μ-loop
 returns c = holds (record { which = c .before .before .before .before .before .loop .k; known = c .before .before .before .before .loop-test .taken; outrun = omega (arith, c .if1 .taken) })
 
@@ -52,7 +49,7 @@ is-outrun-spec =
     loop-holds
     mul-d
     element-copy-out-d
-    cast-if1
+    (λ c. search needs)
     returns
     add-k
     loop-less

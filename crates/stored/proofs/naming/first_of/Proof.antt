@@ -21,8 +21,8 @@ returns c =
     let s = c .before .before .before .before .before .before .before .before in
     let d = c .before .before .before .before .before .before .device-count in
     let b = there s (d .result) (d .ensures) (c .before .before .before .before .before .if1 .taken) in
-    first-there (recorderOf (s .args .r .now)) (capAt (s .args .extras .now)) (s .args .v .now) (s .args .k) (c .sooner .result) b
-    (s .pre .0 .cap-most (s .args .k) b) (c .before .before .before .if2 .taken) (rw (c .before .cap-of .ensures) at (c .sooner .ensures))
+    first-there (recorderOf (s .args .r .now)) (capAt (s .args .extras .now)) (s .args .v .now) (s .args .k) (c .smaller .result) b
+    (s .pre .0 .cap-most (s .args .k) b) (c .before .before .before .if2 .taken) (rw (c .before .cap-of .ensures) at (c .smaller .ensures))
 
 returns-2 : tie.Need-returns-2
 returns-2 c =

@@ -8,10 +8,10 @@ returns : tie.Need-returns
 returns c = let s = c .before .before in rw (lt-ltb 0 (s .args .ahead) (c .before .if1 .taken), c .if2 .taken)
 
 returns-2 : tie.Need-returns-2
-returns-2 c = let s = c .before .before .before in rw (lt-ltb 0 (s .args .ahead) (c .before .before .if1 .taken), c .before .if2 .left) (c .sooner .ensures)
+returns-2 c = let s = c .before .before .before in rw (lt-ltb 0 (s .args .ahead) (c .before .before .if1 .taken), c .before .if2 .left) (c .smaller .ensures)
 
 returns-3 : tie.Need-returns-3
-returns-3 c = let s = c .before .before in rw (le-ltb 0 (s .args .ahead) (c .before .if1 .left)) (c .sooner2 .ensures)
+returns-3 c = let s = c .before .before in rw (le-ltb 0 (s .args .ahead) (c .before .if1 .left)) (c .smaller2 .ensures)
 
 pub idle-with-spec : {M : Type 1} → statement M
 idle-with-spec =

@@ -19,20 +19,11 @@ abbrev μ-loop : tie.MeasureT-loop
 loop-holds : tie.Need-loop-holds Inv-loop μ-loop
 loop-holds c = (omega arith, refl)
 
-device-size-requires : tie.Need-device-size-requires Inv-loop μ-loop
-device-size-requires c κs = search needs
-
 add-at : tie.Need-add-at Inv-loop μ-loop
 add-at c =
     let l = c .before .before .loop in
     let a = c .before .before .before .before .args in
     rw (c .device-size .ensures, l .inv .1) (omega (arith, after-one (deviceSize (a .kind) (a .s .now)) (l .k) (a .n) 3 (c .before .loop-test .taken), c .before .before .before .before .pre))
-
-add-k : tie.Need-add-k Inv-loop μ-loop
-add-k c = search needs
-
-loop-less : tie.Need-loop-less Inv-loop μ-loop
-loop-less c = search needs
 
 loop-again : tie.Need-loop-again Inv-loop μ-loop
 loop-again c =
@@ -53,9 +44,9 @@ device-place-spec =
     Inv-loop
     μ-loop
     loop-holds
-    device-size-requires
+    (λ c κs. search needs)
     add-at
-    add-k
-    loop-less
+    (λ c. search needs)
+    (λ c. search needs)
     loop-again
     returns)

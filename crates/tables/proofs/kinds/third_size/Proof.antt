@@ -24,9 +24,6 @@ cast-levels c = omega (arith, c .shared-slice-known .given (c .before .before .b
 returns-3 : tie.Need-returns-3
 returns-3 c = omega arith
 
-returns-4 : tie.Need-returns-4
-returns-4 c = omega arith
-
 pub third-size-spec : {M : Type 1} → statement M
 third-size-spec =
     tie.close
@@ -40,4 +37,4 @@ third-size-spec =
     (λ c. search needs)
     (λ c. search needs)
     returns-3
-    returns-4)
+    (λ c. omega arith))

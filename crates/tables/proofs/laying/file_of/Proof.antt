@@ -8,9 +8,9 @@ use Rattle.tables.specs.declared.File.{File}
 use Rattle.tables.specs.declared.TableName.the-variants.{Devices, Tasks, Jobs}
 use Rattle.base.specs.Bytes.{pairBytes}
 use Rattle.tables.specs.Layout.{marker, sectionOf, layoutOf, bytesOf}
-use Rattle.tables.specs.inside.Held.{cut, held, appended}
+use Rattle.tables.specs.inside.Held.{limited, held, appended}
 use Rattle.tables.proofs.Appending.{appended-count, appended-more, held-all}
-use Rattle.tables.proofs.Joining.{length-marker, devices-short, tasks-short, jobs-short, cut-fits}
+use Rattle.tables.proofs.Joining.{length-marker, devices-short, tasks-short, jobs-short, limited-fits}
 use Rattle.tables.proofs.laying.file_of.Statement.{statement}
 use Rattle.tables.proofs.laying.file_of.Tie as tie
 
@@ -29,12 +29,12 @@ headed c =
 after-devices : (c : tie.After-push-section) → c .push-section .result .count ≤ 131
 after-devices c =
     let t = c .before .before .before .before .args .t in
-    omega (arith, headed (c .before), ap (λ (f : File). f .count) (c .push-section .ensures), appended-count (c .before .push-pair .result) (sectionOf (cut t) Devices), devices-short t)
+    omega (arith, headed (c .before), ap (λ (f : File). f .count) (c .push-section .ensures), appended-count (c .before .push-pair .result) (sectionOf (limited t) Devices), devices-short t)
 
 after-tasks : (c : tie.After-push-section2) → c .push-section2 .result .count ≤ 177
 after-tasks c =
     let t = c .before .before .before .before .before .args .t in
-    omega (arith, after-devices (c .before), ap (λ (f : File). f .count) (c .push-section2 .ensures), appended-count (c .before .push-section .result) (sectionOf (cut t) Tasks), tasks-short t)
+    omega (arith, after-devices (c .before), ap (λ (f : File). f .count) (c .push-section2 .ensures), appended-count (c .before .push-section .result) (sectionOf (limited t) Tasks), tasks-short t)
 
 push-marker-requires : tie.Need-push-marker-requires
 unfolding held
@@ -53,14 +53,14 @@ push-section-requires-3 : tie.Need-push-section-requires-3
 push-section-requires-3 c κs = omega (arith, after-tasks c, jobs-short (c .before .before .before .before .before .args .t))
 
 returns : tie.Need-returns
-unfolding bytesOf layoutOf cut
+unfolding bytesOf layoutOf limited
 returns c =
     let t = c .before .before .before .before .before .before .args .t in
-    let T = cut t in
+    let T = limited t in
     let first = c .before .before .before .before .push-marker .ensures ∙ ap (λ (f : File). appended f (marker (T .kind))) (c .before .before .before .before .before .empty .ensures) in
     rw (c .push-section3 .ensures, c .before .push-section2 .ensures, c .before .before .push-section .ensures, c .before .before .before .push-pair .ensures, first)
     (appended-more _ (sectionOf T Tasks) (sectionOf T Jobs) ∙ appended-more _ (sectionOf T Devices) _ ∙ appended-more _ (pairBytes (T .horizon)) _
-    ∙ appended-more (held []) (marker (T .kind)) _ ∙ held-all (bytesOf T) (cut-fits t))
+    ∙ appended-more (held []) (marker (T .kind)) _ ∙ held-all (bytesOf T) (limited-fits t))
 
 pub file-of-spec : {M : Type 1} → statement M
 file-of-spec =

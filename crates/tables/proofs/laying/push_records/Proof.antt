@@ -40,12 +40,6 @@ push-record-requires c κs =
     let a = c .before .before .args in
     fits (a .t) (a .part) (a .f) (a .n) (l .k) (l .out) (l .inv .1) (c .loop-test .taken) (c .before .before .pre)
 
-add-k : tie.Need-add-k Inv-loop μ-loop
-add-k c = search needs
-
-loop-less : tie.Need-loop-less Inv-loop μ-loop
-loop-less c = search needs
-
 loop-again : tie.Need-loop-again Inv-loop μ-loop
 loop-again c = (omega arith, rw (c .push-record .ensures, c .before .before .loop .inv .1, appended-more, joined-more))
 
@@ -56,4 +50,4 @@ returns c =
     rw (l .inv .1, all)
 
 pub push-records-spec : {M : Type 1} → statement M
-push-records-spec = tie.close (tie.spec Inv-loop μ-loop loop-holds push-record-requires add-k loop-less loop-again returns)
+push-records-spec = tie.close (tie.spec Inv-loop μ-loop loop-holds push-record-requires (λ c. search needs) (λ c. search needs) loop-again returns)

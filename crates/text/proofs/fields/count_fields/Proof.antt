@@ -21,18 +21,6 @@ abbrev μ-loop : tie.MeasureT-loop
 loop-holds : tie.Need-loop-holds Inv-loop μ-loop
 loop-holds c = (omega arith, omega arith, refl)
 
-sub-cut : tie.Need-sub-cut Inv-loop μ-loop
-sub-cut c = search needs
-
-part-cut-start : tie.Need-part-cut-start Inv-loop μ-loop
-part-cut-start c = search needs
-
-part-cut-end : tie.Need-part-cut-end Inv-loop μ-loop
-part-cut-end c = search needs
-
-cut-requires : tie.Need-cut-requires Inv-loop μ-loop
-cut-requires c κs = search needs
-
 returns : tie.Need-returns Inv-loop μ-loop
 returns c =
     let l = c .before .before .before .before .before .loop in
@@ -122,10 +110,10 @@ count-fields-spec =
     Inv-loop
     μ-loop
     loop-holds
-    sub-cut
-    part-cut-start
-    part-cut-end
-    cut-requires
+    (λ c. search needs)
+    (λ c. search needs)
+    (λ c. search needs)
+    (λ c κs. search needs)
     returns
     add-end
     add-count

@@ -20,12 +20,6 @@ abbrev μ-loop : tie.MeasureT-loop
 loop-holds : tie.Need-loop-holds Inv-loop μ-loop
 loop-holds c = (omega arith, record { size = omega arith; whole = refl })
 
-shared-slice-read-turn-at : tie.Need-shared-slice-read-turn-at Inv-loop μ-loop
-shared-slice-read-turn-at c = search needs
-
-turn-at-requires : tie.Need-turn-at-requires Inv-loop μ-loop
-turn-at-requires c κs = search needs
-
 enum-told : tie.Need-enum-told Inv-loop μ-loop
 enum-told c = search needs
 
@@ -36,9 +30,6 @@ returns c =
     let r = cut-stray (l .state) s (l .i) (omega arith) (sym (c .before .before .turn-at .ensures) ∙ c .enum-told .given .1) in
     reached (cutOf s) (l .i) false (further s (l .i) (l .state) 0 (l .i) (l .inv .1) r (omega arith))
 
-enum-told-2 : tie.Need-enum-told-2 Inv-loop μ-loop
-enum-told-2 c = search needs
-
 returns-2 : tie.Need-returns-2 Inv-loop μ-loop
 returns-2 c =
     let l = c .before .before .before .before .before .loop in
@@ -46,24 +37,12 @@ returns-2 c =
     let r = cut-ends (l .state) s (l .i) (omega arith) (sym (c .before .before .turn-at .ensures) ∙ c .enum-told2 .given .1) in
     reached (cutOf s) (l .i) true (further s (l .i) (l .state) 0 (l .i) (l .inv .1) r (omega arith))
 
-enum-known-turn : tie.Need-enum-known-turn Inv-loop μ-loop
-enum-known-turn c = search needs
-
-add-i : tie.Need-add-i Inv-loop μ-loop
-add-i c = search needs
-
-loop-less : tie.Need-loop-less Inv-loop μ-loop
-loop-less c = search needs
-
 loop-again : tie.Need-loop-again Inv-loop μ-loop
 loop-again c =
     let l = c .before .before .before .before .before .before .loop in
     let s = c .before .before .before .before .before .before .before .before .args .s .now in
     let r = cut-goes (l .state) s (l .i) (omega arith) _ (sym (c .before .before .before .turn-at .ensures) ∙ c .before .turn .given .1) in
     (omega arith, further s (l .i) (l .state) _ _ (l .inv .1) r (omega arith))
-
-is-over-requires : tie.Need-is-over-requires Inv-loop μ-loop
-is-over-requires c κs = search needs
 
 returns-3 : tie.Need-returns-3 Inv-loop μ-loop
 returns-3 c =
@@ -79,15 +58,15 @@ cut-spec =
     Inv-loop
     μ-loop
     loop-holds
-    shared-slice-read-turn-at
-    turn-at-requires
+    (λ c. search needs)
+    (λ c κs. search needs)
     enum-told
     returns
-    enum-told-2
+    (λ c. search needs)
     returns-2
-    enum-known-turn
-    add-i
-    loop-less
+    (λ c. search needs)
+    (λ c. search needs)
+    (λ c. search needs)
     loop-again
-    is-over-requires
+    (λ c κs. search needs)
     returns-3)

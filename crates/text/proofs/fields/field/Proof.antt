@@ -22,18 +22,6 @@ abbrev μ-loop : tie.MeasureT-loop
 loop-holds : tie.Need-loop-holds Inv-loop μ-loop
 loop-holds c = (omega arith, omega arith, c .before .pre, ap (fieldAt (rawOf (c .before .args .line .now))) (omega arith))
 
-sub-cut : tie.Need-sub-cut Inv-loop μ-loop
-sub-cut c = search needs
-
-part-cut-start : tie.Need-part-cut-start Inv-loop μ-loop
-part-cut-start c = search needs
-
-part-cut-end : tie.Need-part-cut-end Inv-loop μ-loop
-part-cut-end c = search needs
-
-cut-requires : tie.Need-cut-requires Inv-loop μ-loop
-cut-requires c κs = search needs
-
 add-end : tie.Need-add-end Inv-loop μ-loop
 add-end c =
     let l = c .before .before .before .before .loop in
@@ -44,9 +32,6 @@ add-end c =
     let within = cut-within (drop (l .at) s) in
     let long = length-drop (l .at) s in
     omega arith
-
-slice-aggregate-result : tie.Need-slice-aggregate-result Inv-loop μ-loop
-slice-aggregate-result c = search needs
 
 returns : tie.Need-returns Inv-loop μ-loop
 returns c =
@@ -72,12 +57,6 @@ add-at c =
     let long = length-drop (l .at) s in
     omega arith
 
-add-k : tie.Need-add-k Inv-loop μ-loop
-add-k c = search needs
-
-loop-less : tie.Need-loop-less Inv-loop μ-loop
-loop-less c = search needs
-
 loop-again : tie.Need-loop-again Inv-loop μ-loop
 loop-again c =
     let l = c .before .before .before .before .before .loop in
@@ -94,15 +73,6 @@ loop-again c =
     let read = read-more (drop (l .at) s) (l .inv .2) (omega arith) in
     let later = field-later (drop (l .at) s) (l .inv .2) (i - (l .k + 1)) (omega arith) in
     (omega arith, omega arith, rw rest at read, l .inv .3 ∙ ap (fieldAt (rawOf (drop (l .at) s))) one ∙ rw rest at later)
-
-sub-first-field : tie.Need-sub-first-field Inv-loop μ-loop
-sub-first-field c = search needs
-
-part-first-field-start : tie.Need-part-first-field-start Inv-loop μ-loop
-part-first-field-start c = search needs
-
-part-first-field-end : tie.Need-part-first-field-end Inv-loop μ-loop
-part-first-field-end c = search needs
 
 first-field-requires : tie.Need-first-field-requires Inv-loop μ-loop
 first-field-requires c κs = rw (rest-is (c .before .before .before .before .args .line .now) (c .before .before .loop .at)) (c .before .before .loop .inv .2)
@@ -122,19 +92,19 @@ field-spec =
     Inv-loop
     μ-loop
     loop-holds
-    sub-cut
-    part-cut-start
-    part-cut-end
-    cut-requires
+    (λ c. search needs)
+    (λ c. search needs)
+    (λ c. search needs)
+    (λ c κs. search needs)
     add-end
-    slice-aggregate-result
+    (λ c. search needs)
     returns
     add-at
-    add-k
-    loop-less
+    (λ c. search needs)
+    (λ c. search needs)
     loop-again
-    sub-first-field
-    part-first-field-start
-    part-first-field-end
+    (λ c. search needs)
+    (λ c. search needs)
+    (λ c. search needs)
     first-field-requires
     returns-2)

@@ -22,18 +22,6 @@ abbrev μ-loop : tie.MeasureT-loop
 loop-holds : tie.Need-loop-holds Inv-loop μ-loop
 loop-holds c = (omega arith, omega arith, ap (λ (x : ℕ). getD (linesOf (c .before .args .text .now)) x []) (omega arith))
 
-sub-next-line : tie.Need-sub-next-line Inv-loop μ-loop
-sub-next-line c = search needs
-
-part-next-line-start : tie.Need-part-next-line-start Inv-loop μ-loop
-part-next-line-start c = search needs
-
-part-next-line-end : tie.Need-part-next-line-end Inv-loop μ-loop
-part-next-line-end c = search needs
-
-next-line-requires : tie.Need-next-line-requires Inv-loop μ-loop
-next-line-requires c κs = search needs
-
 add-at : tie.Need-add-at Inv-loop μ-loop
 add-at c =
     let l = c .before .before .before .loop in
@@ -42,12 +30,6 @@ add-at c =
     let within = next-within (drop (l .at) s) in
     let long = length-drop (l .at) s in
     omega arith
-
-add-i : tie.Need-add-i Inv-loop μ-loop
-add-i c = search needs
-
-loop-less : tie.Need-loop-less Inv-loop μ-loop
-loop-less c = search needs
 
 loop-again : tie.Need-loop-again Inv-loop μ-loop
 loop-again c =
@@ -61,18 +43,6 @@ loop-again c =
     let rest = drop-drop (nextLine (drop (l .at) s)) (l .at) s in
     let later = line-later (drop (l .at) s) (k - (l .i + 1)) in
     (omega arith, omega arith, rw (e, ← rest) (l .inv .2 ∙ ap (λ (x : ℕ). getD (linesOf (drop (l .at) s)) x []) one ∙ later))
-
-sub-line-end : tie.Need-sub-line-end Inv-loop μ-loop
-sub-line-end c = search needs
-
-part-line-end-start : tie.Need-part-line-end-start Inv-loop μ-loop
-part-line-end-start c = search needs
-
-part-line-end-end : tie.Need-part-line-end-end Inv-loop μ-loop
-part-line-end-end c = search needs
-
-line-end-requires : tie.Need-line-end-requires Inv-loop μ-loop
-line-end-requires c κs = search needs
 
 add-end : tie.Need-add-end Inv-loop μ-loop
 add-end c =
@@ -91,9 +61,6 @@ sub-result c =
     let within = line-within (drop (l .at) s) in
     let long = length-drop (l .at) s in
     omega arith
-
-part-result-start : tie.Need-part-result-start Inv-loop μ-loop
-part-result-start c = search needs
 
 part-result-end : tie.Need-part-result-end Inv-loop μ-loop
 part-result-end c =
@@ -122,20 +89,20 @@ line-spec =
     Inv-loop
     μ-loop
     loop-holds
-    sub-next-line
-    part-next-line-start
-    part-next-line-end
-    next-line-requires
+    (λ c. search needs)
+    (λ c. search needs)
+    (λ c. search needs)
+    (λ c κs. search needs)
     add-at
-    add-i
-    loop-less
+    (λ c. search needs)
+    (λ c. search needs)
     loop-again
-    sub-line-end
-    part-line-end-start
-    part-line-end-end
-    line-end-requires
+    (λ c. search needs)
+    (λ c. search needs)
+    (λ c. search needs)
+    (λ c κs. search needs)
     add-end
     sub-result
-    part-result-start
+    (λ c. search needs)
     part-result-end
     returns)

@@ -22,9 +22,6 @@ returns c = sym (number-none (c .before .before .args .field .now) (c .if1 .take
 loop-holds : tie.Need-loop-holds Inv-loop μ-loop
 loop-holds c = (omega arith, omega arith, number-some (c .before .before .args .field .now) (omega arith))
 
-shared-slice-read-b : tie.Need-shared-slice-read-b Inv-loop μ-loop
-shared-slice-read-b c = search needs
-
 returns-2 : tie.Need-returns-2 Inv-loop μ-loop
 returns-2 c =
     let l = c .before .before .before .loop in
@@ -37,33 +34,15 @@ returns-3 c =
     let f = c .before .before .before .before .before .before .before .args .field .now in
     sym (l .inv .2 ∙ number-above f (l .value) (l .i) (omega arith) (omega arith))
 
-mul-at-most : tie.Need-mul-at-most Inv-loop μ-loop
-mul-at-most c = search needs
-
-cast-at-most : tie.Need-cast-at-most Inv-loop μ-loop
-cast-at-most c = search needs
-
-add-at-most : tie.Need-add-at-most Inv-loop μ-loop
-add-at-most c = search needs
-
-at-most-requires : tie.Need-at-most-requires Inv-loop μ-loop
-at-most-requires c κs = search needs
-
-add-i : tie.Need-add-i Inv-loop μ-loop
-add-i c = search needs
-
-loop-less : tie.Need-loop-less Inv-loop μ-loop
-loop-less c = search needs
-
 loop-again : tie.Need-loop-again Inv-loop μ-loop
 loop-again c =
     let l = c .before .before .before .before .before .loop in
     let f = c .before .before .before .before .before .before .before .before .args .field .now in
     let a-digit = digit-is (getD f (l .i) 0) (omega arith) (omega arith) in (
       omega arith,
-      omega (arith, c .at-most .ensures),
+      omega (arith, c .smaller .ensures),
       l .inv .2 ∙ number-next f (l .value) (l .i) (omega arith) a-digit
-          ∙ rw (c .at-most .ensures),
+          ∙ rw (c .smaller .ensures),
     )
 
 returns-4 : tie.Need-returns-4 Inv-loop μ-loop
@@ -80,14 +59,14 @@ number-of-spec =
     μ-loop
     returns
     loop-holds
-    shared-slice-read-b
+    (λ c. search needs)
     returns-2
     returns-3
-    mul-at-most
-    cast-at-most
-    add-at-most
-    at-most-requires
-    add-i
-    loop-less
+    (λ c. search needs)
+    (λ c. search needs)
+    (λ c. search needs)
+    (λ c κs. search needs)
+    (λ c. search needs)
+    (λ c. search needs)
     loop-again
     returns-4)

@@ -16,29 +16,14 @@ Inv-loop r k n made₀ j₀ made j = (j ≤ n) × (n ≤ 16) × (made ≡ sum j 
 abbrev μ-loop : tie.MeasureT-loop
 μ-loop r k n made₀ j₀ made j = n - j
 
-job-count-requires : tie.Need-job-count-requires Inv-loop μ-loop
-job-count-requires c κs = search needs
-
 loop-holds : tie.Need-loop-holds Inv-loop μ-loop
 loop-holds c = (omega arith, omega (arith, c .job-count .ensures, c .before .pre .0), refl, omega arith)
 
 is-used-requires : tie.Need-is-used-requires Inv-loop μ-loop
 is-used-requires c κs = (c .before .before .before .pre .1, omega arith)
 
-run-of-requires : tie.Need-run-of-requires Inv-loop μ-loop
-run-of-requires c κs = omega arith
-
-ticks-of-requires : tie.Need-ticks-of-requires Inv-loop μ-loop
-ticks-of-requires c κs = search needs
-
 add-sum : tie.Need-add-sum Inv-loop μ-loop
 add-sum c = omega (arith, c .ticks-of .ensures .1)
-
-add-j : tie.Need-add-j Inv-loop μ-loop
-add-j c = omega arith
-
-loop-less : tie.Need-loop-less Inv-loop μ-loop
-loop-less c = omega arith
 
 loop-again : tie.Need-loop-again Inv-loop μ-loop
 loop-again c =
@@ -57,13 +42,13 @@ all-ticks-of-spec =
     (tie.spec
     Inv-loop
     μ-loop
-    job-count-requires
+    (λ c κs. search needs)
     loop-holds
     is-used-requires
-    run-of-requires
-    ticks-of-requires
+    (λ c κs. omega arith)
+    (λ c κs. search needs)
     add-sum
-    add-j
-    loop-less
+    (λ c. omega arith)
+    (λ c. omega arith)
     loop-again
     returns)

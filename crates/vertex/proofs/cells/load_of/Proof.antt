@@ -16,26 +16,11 @@ Inv-loop r n load₀ j₀ load j = (j ≤ n) × (n ≤ 16) × (load ≡ sum j (r
 abbrev μ-loop : tie.MeasureT-loop
 μ-loop r n load₀ j₀ load j = n - j
 
-job-count-requires : tie.Need-job-count-requires Inv-loop μ-loop
-job-count-requires c κs = search needs
-
 loop-holds : tie.Need-loop-holds Inv-loop μ-loop
 loop-holds c = (omega arith, omega (arith, c .job-count .ensures, c .before .pre), refl, omega arith)
 
-run-of-requires : tie.Need-run-of-requires Inv-loop μ-loop
-run-of-requires c κs = omega arith
-
-wide-requires : tie.Need-wide-requires Inv-loop μ-loop
-wide-requires c κs = search needs
-
 add-load : tie.Need-add-load Inv-loop μ-loop
 add-load c = omega (arith, c .wide .ensures .1)
-
-add-j : tie.Need-add-j Inv-loop μ-loop
-add-j c = omega arith
-
-loop-less : tie.Need-loop-less Inv-loop μ-loop
-loop-less c = omega arith
 
 loop-again : tie.Need-loop-again Inv-loop μ-loop
 loop-again c =
@@ -52,12 +37,12 @@ load-of-spec =
     (tie.spec
     Inv-loop
     μ-loop
-    job-count-requires
+    (λ c κs. search needs)
     loop-holds
-    run-of-requires
-    wide-requires
+    (λ c κs. omega arith)
+    (λ c κs. search needs)
     add-load
-    add-j
-    loop-less
+    (λ c. omega arith)
+    (λ c. omega arith)
     loop-again
     returns)

@@ -18,15 +18,6 @@ abbrev μ-loop : tie.MeasureT-loop
 run-of-requires : tie.Need-run-of-requires Inv-loop μ-loop
 run-of-requires c κs = omega (arith, c .pre .1 .1 .0)
 
-wide-requires : tie.Need-wide-requires Inv-loop μ-loop
-wide-requires c κs = search needs
-
-is-round-requires : tie.Need-is-round-requires Inv-loop μ-loop
-is-round-requires c κs = search needs
-
-device-count-requires : tie.Need-device-count-requires Inv-loop μ-loop
-device-count-requires c κs = search needs
-
 loop-holds : tie.Need-loop-holds Inv-loop μ-loop
 loop-holds c =
     let s = c .before .before .before .before in
@@ -45,12 +36,6 @@ charge-requires c κs =
     rw (at .before .before .before .wide .ensures .0, at .before .before .before .before .run-of .ensures)
     (near, (l .inv .2 .long, (start .pre .1 .1 .1 .0, may-charge _ _ _ _ _ _ near (l .inv .2) (sym (c .before .before .is-used .ensures) ∙ c .before .if1 .taken) (start .pre .1 .1 .1 .1 .1 (l .k) few))))
 
-add-k : tie.Need-add-k Inv-loop μ-loop
-add-k c = omega arith
-
-loop-less : tie.Need-loop-less Inv-loop μ-loop
-loop-less c = omega arith
-
 loop-again : tie.Need-loop-again Inv-loop μ-loop
 loop-again c =
     let at = c .before .before .before in
@@ -62,16 +47,10 @@ loop-again c =
     (λ x. (omega arith, l .inv .1, subst (Upto _ _ _ _ _) (sym (x .1)) (upto-unused _ _ _ _ _ _ (omega arith) (l .inv .2) (sym (c .before .is-used .ensures) ∙ x .0 .left))))
     (c .if1 .came)
 
-element-copy-out-load : tie.Need-element-copy-out-load Inv-loop μ-loop
-element-copy-out-load c = omega arith
-
 sub-w : tie.Need-sub-w Inv-loop μ-loop
 sub-w c =
     let s = c .before .before .before .before .before .before .before in
     omega (arith, c .before .before .loop .inv .2 .load, s .pre .1 .1 .1 .1 .0, c .before .before .before .before .before .wide .ensures .0, c .before .before .before .before .before .before .run-of .ensures)
-
-element-write-w : tie.Need-element-write-w Inv-loop μ-loop
-element-write-w c = omega arith
 
 returns : tie.Need-returns Inv-loop μ-loop
 returns c =
@@ -90,16 +69,16 @@ place-spec =
     Inv-loop
     μ-loop
     run-of-requires
-    wide-requires
-    is-round-requires
-    device-count-requires
+    (λ c κs. search needs)
+    (λ c κs. search needs)
+    (λ c κs. search needs)
     loop-holds
     is-used-requires
     charge-requires
-    add-k
-    loop-less
+    (λ c. omega arith)
+    (λ c. omega arith)
     loop-again
-    element-copy-out-load
+    (λ c. omega arith)
     sub-w
-    element-write-w
+    (λ c. omega arith)
     returns)

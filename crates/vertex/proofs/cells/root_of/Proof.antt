@@ -14,14 +14,8 @@ Inv-loop r m v₀ k₀ v k = (k ≤ m) × (m ≤ 8) × Rooted (recorderOf r) k v
 abbrev μ-loop : tie.MeasureT-loop
 μ-loop r m v₀ k₀ v k = m - k
 
-device-count-requires : tie.Need-device-count-requires Inv-loop μ-loop
-device-count-requires c κs = search needs
-
 load-of-requires : tie.Need-load-of-requires Inv-loop μ-loop
 load-of-requires c κs = c .before .pre .few-jobs
-
-array-write-v : tie.Need-array-write-v Inv-loop μ-loop
-array-write-v c = omega arith
 
 loop-holds : tie.Need-loop-holds Inv-loop μ-loop
 loop-holds c = (omega arith, omega (arith, c .before .device-count .ensures, c .before .before .pre .few-devices), rooted-none _ _ (c .load-of .ensures))
@@ -29,20 +23,8 @@ loop-holds c = (omega arith, omega (arith, c .before .device-count .ensures, c .
 all-ticks-of-requires : tie.Need-all-ticks-of-requires Inv-loop μ-loop
 all-ticks-of-requires c κs = (c .before .before .before .before .pre .few-jobs, omega arith)
 
-add-v : tie.Need-add-v Inv-loop μ-loop
-add-v c = omega arith
-
-mul-v : tie.Need-mul-v Inv-loop μ-loop
-mul-v c = omega arith
-
 array-write-v-2 : tie.Need-array-write-v-2 Inv-loop μ-loop
 array-write-v-2 c = omega (arith, c .before .before .loop .inv .2 .long)
-
-add-k : tie.Need-add-k Inv-loop μ-loop
-add-k c = omega arith
-
-loop-less : tie.Need-loop-less Inv-loop μ-loop
-loop-less c = omega arith
 
 loop-again : tie.Need-loop-again Inv-loop μ-loop
 loop-again c = let l = c .before .before .loop in (omega arith, l .inv .1, rooted-more _ (l .k) (l .v) (omega arith) (l .inv .2) _ (c .all-ticks-of .ensures))
@@ -61,15 +43,15 @@ root-of-spec =
     (tie.spec
     Inv-loop
     μ-loop
-    device-count-requires
+    (λ c κs. search needs)
     load-of-requires
-    array-write-v
+    (λ c. omega arith)
     loop-holds
     all-ticks-of-requires
-    add-v
-    mul-v
+    (λ c. omega arith)
+    (λ c. omega arith)
     array-write-v-2
-    add-k
-    loop-less
+    (λ c. omega arith)
+    (λ c. omega arith)
     loop-again
     returns)

@@ -11,7 +11,7 @@ returns c = simp (lt-ltb _ _ (c .if1 .taken))
 
 returns-2 : tie.Need-returns-2
 unfolding dueWith
-returns-2 c = simp (le-ltb _ _ (c .before .before .if1 .left), c .sooner .ensures)
+returns-2 c = simp (le-ltb _ _ (c .before .before .if1 .left), c .smaller .ensures)
 
 pub due-with-spec : {M : Type 1} → statement M
 due-with-spec = tie.close (tie.spec returns (λ c κs. search needs) returns-2)

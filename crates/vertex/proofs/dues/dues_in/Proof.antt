@@ -17,37 +17,13 @@ Inv-loop r set n dues₀ rest₀ i₀ dues rest i = (i ≤ n) × (n ≤ 16) × (
 abbrev μ-loop : tie.MeasureT-loop
 μ-loop r set n dues₀ rest₀ i₀ dues rest i = n - i
 
-job-count-requires : tie.Need-job-count-requires Inv-loop μ-loop
-job-count-requires c κs = search needs
-
 loop-holds : tie.Need-loop-holds Inv-loop μ-loop
 loop-holds c = (omega arith, omega (arith, c .job-count .ensures, c .before .pre .few-jobs), omega arith, two-least-none _ _)
-
-deadline-of-requires : tie.Need-deadline-of-requires Inv-loop μ-loop
-deadline-of-requires c κs = omega arith
-
-wide-requires : tie.Need-wide-requires Inv-loop μ-loop
-wide-requires c κs = search needs
-
-run-of-requires : tie.Need-run-of-requires Inv-loop μ-loop
-run-of-requires c κs = omega arith
-
-wide-requires-2 : tie.Need-wide-requires-2 Inv-loop μ-loop
-wide-requires-2 c κs = search needs
 
 sub-last : tie.Need-sub-last Inv-loop μ-loop
 sub-last c =
     let at = c .before .before .before .before .before .before in
     omega (arith, (c .before .before .wide .ensures .0 ∙ c .before .before .before .deadline-of .ensures), (c .wide2 .ensures .0 ∙ c .before .run-of .ensures), at .before .before .pre .fits (at .loop .i) (omega (arith, c .before .before .before .before .before .loop-test .taken, at .before .job-count .ensures)))
-
-due-with-requires : tie.Need-due-with-requires Inv-loop μ-loop
-due-with-requires c κs = search needs
-
-add-i : tie.Need-add-i Inv-loop μ-loop
-add-i c = omega arith
-
-loop-less : tie.Need-loop-less Inv-loop μ-loop
-loop-less c = omega arith
 
 loop-again : tie.Need-loop-again Inv-loop μ-loop
 loop-again c =
@@ -70,15 +46,15 @@ dues-in-spec =
     (tie.spec
     Inv-loop
     μ-loop
-    job-count-requires
+    (λ c κs. search needs)
     loop-holds
-    deadline-of-requires
-    wide-requires
-    run-of-requires
-    wide-requires-2
+    (λ c κs. omega arith)
+    (λ c κs. search needs)
+    (λ c κs. omega arith)
+    (λ c κs. search needs)
     sub-last
-    due-with-requires
-    add-i
-    loop-less
+    (λ c κs. search needs)
+    (λ c. omega arith)
+    (λ c. omega arith)
     loop-again
     returns)

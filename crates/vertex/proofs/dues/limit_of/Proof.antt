@@ -7,11 +7,11 @@ use Rattle.vertex.proofs.dues.limit_of.Tie as tie
 
 returns : tie.Need-returns
 unfolding limitFor dueFor
-returns c = rw (eq-eqb _ _ (c .before .if1 .taken)) (c .sooner .ensures)
+returns c = rw (eq-eqb _ _ (c .before .if1 .taken)) (c .smaller .ensures)
 
 returns-2 : tie.Need-returns-2
 unfolding limitFor dueFor
-returns-2 c = rw (ne-eqb _ _ (c .before .if1 .left)) (c .sooner2 .ensures)
+returns-2 c = rw (ne-eqb _ _ (c .before .if1 .left)) (c .smaller2 .ensures)
 
 pub limit-of-spec : {M : Type 1} → statement M
 limit-of-spec =

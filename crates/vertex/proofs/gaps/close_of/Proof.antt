@@ -17,35 +17,8 @@ Inv-loop r extras v round h m made₀ k₀ made k = (k ≤ m) × (m ≤ 8) × (m
 abbrev μ-loop : tie.MeasureT-loop
 μ-loop r extras v round h m made₀ k₀ made k = m - k
 
-is-round-requires : tie.Need-is-round-requires Inv-loop μ-loop
-is-round-requires c κs = search needs
-
-horizon-of-requires : tie.Need-horizon-of-requires Inv-loop μ-loop
-horizon-of-requires c κs = search needs
-
-wide-requires : tie.Need-wide-requires Inv-loop μ-loop
-wide-requires c κs = search needs
-
-device-count-requires : tie.Need-device-count-requires Inv-loop μ-loop
-device-count-requires c κs = search needs
-
 loop-holds : tie.Need-loop-holds Inv-loop μ-loop
 loop-holds c = (omega arith, omega (arith, c .device-count .ensures, c .before .before .before .before .before .pre .0 .valid .few-devices), refl, omega arith)
-
-mul-close-with : tie.Need-mul-close-with Inv-loop μ-loop
-mul-close-with c = omega arith
-
-element-copy-out-close-with : tie.Need-element-copy-out-close-with Inv-loop μ-loop
-element-copy-out-close-with c = omega arith
-
-add-close-with : tie.Need-add-close-with Inv-loop μ-loop
-add-close-with c = omega arith
-
-mul-close-with-2 : tie.Need-mul-close-with-2 Inv-loop μ-loop
-mul-close-with-2 c = omega arith
-
-element-copy-out-close-with-2 : tie.Need-element-copy-out-close-with-2 Inv-loop μ-loop
-element-copy-out-close-with-2 c = omega arith
 
 close-with-requires : tie.Need-close-with-requires Inv-loop μ-loop
 close-with-requires c κs =
@@ -65,12 +38,6 @@ more c =
 
 add-sum : tie.Need-add-sum Inv-loop μ-loop
 add-sum c = omega (arith, more c)
-
-add-k : tie.Need-add-k Inv-loop μ-loop
-add-k c = omega arith
-
-loop-less : tie.Need-loop-less Inv-loop μ-loop
-loop-less c = omega arith
 
 loop-again : tie.Need-loop-again Inv-loop μ-loop
 unfolding closeBy
@@ -97,19 +64,19 @@ close-of-spec =
     (tie.spec
     Inv-loop
     μ-loop
-    is-round-requires
-    horizon-of-requires
-    wide-requires
-    device-count-requires
+    (λ c κs. search needs)
+    (λ c κs. search needs)
+    (λ c κs. search needs)
+    (λ c κs. search needs)
     loop-holds
-    mul-close-with
-    element-copy-out-close-with
-    add-close-with
-    mul-close-with-2
-    element-copy-out-close-with-2
+    (λ c. omega arith)
+    (λ c. omega arith)
+    (λ c. omega arith)
+    (λ c. omega arith)
+    (λ c. omega arith)
     close-with-requires
     add-sum
-    add-k
-    loop-less
+    (λ c. omega arith)
+    (λ c. omega arith)
     loop-again
     returns)

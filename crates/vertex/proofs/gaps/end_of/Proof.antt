@@ -17,41 +17,11 @@ Inv-loop r extras v j s round h c m made₀ k₀ made k = (k ≤ m) × (m ≤ 8)
 abbrev μ-loop : tie.MeasureT-loop
 μ-loop r extras v j s round h c m made₀ k₀ made k = m - k
 
-is-round-requires : tie.Need-is-round-requires Inv-loop μ-loop
-is-round-requires c κs = search needs
-
-horizon-of-requires : tie.Need-horizon-of-requires Inv-loop μ-loop
-horizon-of-requires c κs = search needs
-
-wide-requires : tie.Need-wide-requires Inv-loop μ-loop
-wide-requires c κs = search needs
-
 run-of-requires : tie.Need-run-of-requires Inv-loop μ-loop
 run-of-requires c κs = c .before .before .before .before .pre .1 .0
 
-wide-requires-2 : tie.Need-wide-requires-2 Inv-loop μ-loop
-wide-requires-2 c κs = search needs
-
-device-count-requires : tie.Need-device-count-requires Inv-loop μ-loop
-device-count-requires c κs = search needs
-
 loop-holds : tie.Need-loop-holds Inv-loop μ-loop
 loop-holds c = (omega arith, omega (arith, c .device-count .ensures, c .before .before .before .before .before .before .before .pre .0 .valid .few-devices), refl, omega arith)
-
-mul-end-with : tie.Need-mul-end-with Inv-loop μ-loop
-mul-end-with c = omega arith
-
-element-copy-out-end-with : tie.Need-element-copy-out-end-with Inv-loop μ-loop
-element-copy-out-end-with c = omega arith
-
-add-end-with : tie.Need-add-end-with Inv-loop μ-loop
-add-end-with c = omega arith
-
-mul-end-with-2 : tie.Need-mul-end-with-2 Inv-loop μ-loop
-mul-end-with-2 c = omega arith
-
-element-copy-out-end-with-2 : tie.Need-element-copy-out-end-with-2 Inv-loop μ-loop
-element-copy-out-end-with-2 c = omega arith
 
 end-with-requires : tie.Need-end-with-requires Inv-loop μ-loop
 end-with-requires c κs =
@@ -72,12 +42,6 @@ more c =
 
 add-sum : tie.Need-add-sum Inv-loop μ-loop
 add-sum c = omega (arith, more c)
-
-add-k : tie.Need-add-k Inv-loop μ-loop
-add-k c = omega arith
-
-loop-less : tie.Need-loop-less Inv-loop μ-loop
-loop-less c = omega arith
 
 loop-again : tie.Need-loop-again Inv-loop μ-loop
 unfolding endBy
@@ -104,21 +68,21 @@ end-of-spec =
     (tie.spec
     Inv-loop
     μ-loop
-    is-round-requires
-    horizon-of-requires
-    wide-requires
+    (λ c κs. search needs)
+    (λ c κs. search needs)
+    (λ c κs. search needs)
     run-of-requires
-    wide-requires-2
-    device-count-requires
+    (λ c κs. search needs)
+    (λ c κs. search needs)
     loop-holds
-    mul-end-with
-    element-copy-out-end-with
-    add-end-with
-    mul-end-with-2
-    element-copy-out-end-with-2
+    (λ c. omega arith)
+    (λ c. omega arith)
+    (λ c. omega arith)
+    (λ c. omega arith)
+    (λ c. omega arith)
     end-with-requires
     add-sum
-    add-k
-    loop-less
+    (λ c. omega arith)
+    (λ c. omega arith)
     loop-again
     returns)

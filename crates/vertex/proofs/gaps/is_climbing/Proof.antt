@@ -15,20 +15,8 @@ Inv-loop r extras v j s round m k₀ k = (k ≤ m) × (m ≤ 8) × ((i : ℕ) �
 abbrev μ-loop : tie.MeasureT-loop
 μ-loop r extras v j s round m k₀ k = m - k
 
-is-round-requires : tie.Need-is-round-requires Inv-loop μ-loop
-is-round-requires c κs = search needs
-
-device-count-requires : tie.Need-device-count-requires Inv-loop μ-loop
-device-count-requires c κs = search needs
-
 loop-holds : tie.Need-loop-holds Inv-loop μ-loop
 loop-holds c = (omega arith, omega (arith, c .device-count .ensures, c .before .before .before .pre .0 .valid .few-devices), λ i b. absurd (omega arith))
-
-mul-is-short : tie.Need-mul-is-short Inv-loop μ-loop
-mul-is-short c = omega arith
-
-element-copy-out-is-short : tie.Need-element-copy-out-is-short Inv-loop μ-loop
-element-copy-out-is-short c = omega arith
 
 is-short-requires : tie.Need-is-short-requires Inv-loop μ-loop
 is-short-requires c κs =
@@ -38,12 +26,6 @@ is-short-requires c κs =
 
 returns : tie.Need-returns Inv-loop μ-loop
 returns c = λ q. absurd (true≢false (sym q))
-
-add-k : tie.Need-add-k Inv-loop μ-loop
-add-k c = omega arith
-
-loop-less : tie.Need-loop-less Inv-loop μ-loop
-loop-less c = omega arith
 
 loop-again : tie.Need-loop-again Inv-loop μ-loop
 loop-again c =
@@ -69,14 +51,14 @@ is-climbing-spec =
     (tie.spec
     Inv-loop
     μ-loop
-    is-round-requires
-    device-count-requires
+    (λ c κs. search needs)
+    (λ c κs. search needs)
     loop-holds
-    mul-is-short
-    element-copy-out-is-short
+    (λ c. omega arith)
+    (λ c. omega arith)
     is-short-requires
     returns
-    add-k
-    loop-less
+    (λ c. omega arith)
+    (λ c. omega arith)
     loop-again
     returns-2)

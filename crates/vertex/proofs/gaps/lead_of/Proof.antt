@@ -17,20 +17,8 @@ Inv-loop r extras v j s round m made₀ k₀ made k = (k ≤ m) × (m ≤ 8) × 
 abbrev μ-loop : tie.MeasureT-loop
 μ-loop r extras v j s round m made₀ k₀ made k = m - k
 
-is-round-requires : tie.Need-is-round-requires Inv-loop μ-loop
-is-round-requires c κs = search needs
-
-device-count-requires : tie.Need-device-count-requires Inv-loop μ-loop
-device-count-requires c κs = search needs
-
 loop-holds : tie.Need-loop-holds Inv-loop μ-loop
 loop-holds c = (omega arith, omega (arith, c .device-count .ensures, c .before .before .before .pre .0 .valid .few-devices), refl, omega arith)
-
-mul-lead-with : tie.Need-mul-lead-with Inv-loop μ-loop
-mul-lead-with c = omega arith
-
-element-copy-out-lead-with : tie.Need-element-copy-out-lead-with Inv-loop μ-loop
-element-copy-out-lead-with c = omega arith
 
 lead-with-requires : tie.Need-lead-with-requires Inv-loop μ-loop
 lead-with-requires c κs =
@@ -49,12 +37,6 @@ more c =
 
 add-sum : tie.Need-add-sum Inv-loop μ-loop
 add-sum c = omega (arith, more c)
-
-add-k : tie.Need-add-k Inv-loop μ-loop
-add-k c = omega arith
-
-loop-less : tie.Need-loop-less Inv-loop μ-loop
-loop-less c = omega arith
 
 loop-again : tie.Need-loop-again Inv-loop μ-loop
 unfolding leadBy
@@ -80,14 +62,14 @@ lead-of-spec =
     (tie.spec
     Inv-loop
     μ-loop
-    is-round-requires
-    device-count-requires
+    (λ c κs. search needs)
+    (λ c κs. search needs)
     loop-holds
-    mul-lead-with
-    element-copy-out-lead-with
+    (λ c. omega arith)
+    (λ c. omega arith)
     lead-with-requires
     add-sum
-    add-k
-    loop-less
+    (λ c. omega arith)
+    (λ c. omega arith)
     loop-again
     returns)

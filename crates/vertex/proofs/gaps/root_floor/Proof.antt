@@ -17,34 +17,13 @@ Inv-loop r extras v h m made₀ k₀ made k = (k ≤ m) × (m ≤ 8) × (made �
 abbrev μ-loop : tie.MeasureT-loop
 μ-loop r extras v h m made₀ k₀ made k = m - k
 
-horizon-of-requires : tie.Need-horizon-of-requires Inv-loop μ-loop
-horizon-of-requires c κs = search needs
-
-wide-requires : tie.Need-wide-requires Inv-loop μ-loop
-wide-requires c κs = search needs
-
-device-count-requires : tie.Need-device-count-requires Inv-loop μ-loop
-device-count-requires c κs = search needs
-
 loop-holds : tie.Need-loop-holds Inv-loop μ-loop
 loop-holds c = (omega arith, omega (arith, c .device-count .ensures, c .before .before .before .before .pre .0 .valid .few-devices), refl, omega arith)
-
-work-power-requires : tie.Need-work-power-requires Inv-loop μ-loop
-work-power-requires c κs = omega arith
 
 deep-power-requires : tie.Need-deep-power-requires Inv-loop μ-loop
 deep-power-requires c κs =
     let at = c .before .before in
     (omega arith, at .before .before .before .before .before .pre .0 .valid .sound (at .loop .k) (omega (arith, c .before .loop-test .taken, at .before .device-count .ensures)))
-
-add-floor-with : tie.Need-add-floor-with Inv-loop μ-loop
-add-floor-with c = omega arith
-
-mul-floor-with : tie.Need-mul-floor-with Inv-loop μ-loop
-mul-floor-with c = omega arith
-
-element-copy-out-floor-with : tie.Need-element-copy-out-floor-with Inv-loop μ-loop
-element-copy-out-floor-with c = omega arith
 
 floor-with-requires : tie.Need-floor-with-requires Inv-loop μ-loop
 floor-with-requires c κs =
@@ -63,12 +42,6 @@ more c =
 
 add-sum : tie.Need-add-sum Inv-loop μ-loop
 add-sum c = omega (arith, more c)
-
-add-k : tie.Need-add-k Inv-loop μ-loop
-add-k c = omega arith
-
-loop-less : tie.Need-loop-less Inv-loop μ-loop
-loop-less c = omega arith
 
 loop-again : tie.Need-loop-again Inv-loop μ-loop
 unfolding idleFloor
@@ -95,18 +68,18 @@ root-floor-spec =
     (tie.spec
     Inv-loop
     μ-loop
-    horizon-of-requires
-    wide-requires
-    device-count-requires
+    (λ c κs. search needs)
+    (λ c κs. search needs)
+    (λ c κs. search needs)
     loop-holds
-    work-power-requires
+    (λ c κs. omega arith)
     deep-power-requires
-    add-floor-with
-    mul-floor-with
-    element-copy-out-floor-with
+    (λ c. omega arith)
+    (λ c. omega arith)
+    (λ c. omega arith)
     floor-with-requires
     add-sum
-    add-k
-    loop-less
+    (λ c. omega arith)
+    (λ c. omega arith)
     loop-again
     returns)

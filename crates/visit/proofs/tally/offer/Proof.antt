@@ -13,44 +13,14 @@ Inv-loop tally₀ e j₀ tally j = (j ≤ 16) × Copied j tally₀ tally
 abbrev μ-loop : tie.MeasureT-loop
 μ-loop tally₀ e j₀ tally j = 16 - j
 
-element-copy-out-if1 : tie.Need-element-copy-out-if1 Inv-loop μ-loop
-element-copy-out-if1 c = omega arith
-
 returns : tie.Need-returns Inv-loop μ-loop
 returns c = kept (c .if1 .taken) refl
 
 loop-holds : tie.Need-loop-holds Inv-loop μ-loop
 loop-holds c = (omega arith, copied-none _ (c .before .before .pre))
 
-add-tally : tie.Need-add-tally Inv-loop μ-loop
-add-tally c = omega arith
-
-mul-tally : tie.Need-mul-tally Inv-loop μ-loop
-mul-tally c = omega arith
-
-element-copy-out-tally : tie.Need-element-copy-out-tally Inv-loop μ-loop
-element-copy-out-tally c = omega arith
-
-add-tally-2 : tie.Need-add-tally-2 Inv-loop μ-loop
-add-tally-2 c = omega arith
-
-mul-tally-2 : tie.Need-mul-tally-2 Inv-loop μ-loop
-mul-tally-2 c = omega arith
-
-element-write-tally : tie.Need-element-write-tally Inv-loop μ-loop
-element-write-tally c = omega arith
-
-add-j : tie.Need-add-j Inv-loop μ-loop
-add-j c = omega arith
-
-loop-less : tie.Need-loop-less Inv-loop μ-loop
-loop-less c = omega arith
-
 loop-again : tie.Need-loop-again Inv-loop μ-loop
 loop-again c = let l = c .before .before .loop in (omega arith, copied-more (l .j) _ (l .tally) (omega arith) (l .inv .1))
-
-element-write-tally-2 : tie.Need-element-write-tally-2 Inv-loop μ-loop
-element-write-tally-2 c = omega arith
 
 returns-2 : tie.Need-returns-2 Inv-loop μ-loop
 returns-2 c =
@@ -64,17 +34,17 @@ offer-spec =
     (tie.spec
     Inv-loop
     μ-loop
-    element-copy-out-if1
+    (λ c. omega arith)
     returns
     loop-holds
-    add-tally
-    mul-tally
-    element-copy-out-tally
-    add-tally-2
-    mul-tally-2
-    element-write-tally
-    add-j
-    loop-less
+    (λ c. omega arith)
+    (λ c. omega arith)
+    (λ c. omega arith)
+    (λ c. omega arith)
+    (λ c. omega arith)
+    (λ c. omega arith)
+    (λ c. omega arith)
+    (λ c. omega arith)
     loop-again
-    element-write-tally-2
+    (λ c. omega arith)
     returns-2)

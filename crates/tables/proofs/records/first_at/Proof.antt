@@ -1,0 +1,21 @@
+-- `tables::records::first_at` meets its contract.
+use borrow.Author.Needs.{needs}
+use Rattle.tables.proofs.records.first_at.Statement.{statement}
+use Rattle.tables.proofs.records.first_at.Tie as tie
+
+returns : tie.Need-returns
+returns c = cc
+
+pub first-at-spec : {M : Type 1} → statement M
+first-at-spec =
+    tie.close
+    (tie.spec
+    (λ c. search needs)
+    (λ c. search needs)
+    (λ c κs. search needs)
+    (λ c. search needs)
+    (λ c κs. search needs)
+    (λ c. search needs)
+    (λ c κs. search needs)
+    (λ c κs. search needs)
+    returns)
