@@ -16,7 +16,8 @@ use Rattle.value.specs.inside.Leasts.{Rises, Falls}
 use Rattle.extras.specs.declared.shape.Shape.{Shape}
 use Rattle.extras.specs.inside.Shapes.{Climbs, Shaped, shapeOf}
 use Rattle.extras.specs.inside.Tabled.{extraAt, capAt, riseAt, fallAt, footAt, Tabled}
-use Rattle.extras.specs.inside.Parts.{LaidGaps, Stands, LaidDevice}
+use Rattle.extras.specs.inside.Uses.{Lists}
+use Rattle.extras.specs.inside.Parts.{LaidGaps, Stands, LaidDevice, LaidJobs}
 use Rattle.extras.proofs.Bounds.{extra-most}
 use Rattle.extras.proofs.Shaping.{shape-of}
 
@@ -25,27 +26,27 @@ use Rattle.extras.proofs.Shaping.{shape-of}
 pub record Below (d : Device) (k n : ℕ) (l₀ l : List ℕ) : Type 0 where
   pub long : length l ≡ length l₀
   pub laid : (g : ℕ) → g < n → extraAt l k g ≡ extra d g
-  pub kept : (i : ℕ) → ((g : ℕ) → i ≡ 32 + 8 * g + k → ⊥) → getD l i 0 ≡ getD l₀ i 0
+  pub kept : (i : ℕ) → ((g : ℕ) → i ≡ 176 + 8 * g + k → ⊥) → getD l i 0 ≡ getD l₀ i 0
 
 module _ {d : Device} {k : ℕ} {l₀ : List ℕ} where
   pub below-none : Below d k 0 l₀ l₀
   below-none = record { long = refl; laid = λ g h. absurd (omega arith); kept = λ i h. refl }
 
   pub below-next :
-      {n x : ℕ} {l : List ℕ} → Below d k n l₀ l → 32 + 8 * n + k < length l₀ → x ≡ extra d n → Below d k (n + 1) l₀ (set l (32 + 8 * n + k) x)
+      {n x : ℕ} {l : List ℕ} → Below d k n l₀ l → 176 + 8 * n + k < length l₀ → x ≡ extra d n → Below d k (n + 1) l₀ (set l (176 + 8 * n + k) x)
   unfolding extraAt
   below-next {n} {x} {l} b room e = record {
-    long = length-set l (32 + 8 * n + k) x ∙ b .long;
+    long = length-set l (176 + 8 * n + k) x ∙ b .long;
     laid =
-        λ g h. ⊎-elim (λ (q : g ≡ n). rw q (here ∙ e)) (λ q. other (32 + 8 * g + k) (λ p. absurd (omega arith)) ∙ b .laid g q) (eq-or-lt-of-le {n = g} {m = n} (omega arith));
+        λ g h. ⊎-elim (λ (q : g ≡ n). rw q (here ∙ e)) (λ q. other (176 + 8 * g + k) (λ p. absurd (omega arith)) ∙ b .laid g q) (eq-or-lt-of-le {n = g} {m = n} (omega arith));
     kept = λ i h. other i (h n) ∙ b .kept i h;
   }
     where
-      here : getD (set l (32 + 8 * n + k) x) (32 + 8 * n + k) 0 ≡ x
-      here = getD-set-same l (32 + 8 * n + k) x 0 (omega (arith, b .long))
+      here : getD (set l (176 + 8 * n + k) x) (176 + 8 * n + k) 0 ≡ x
+      here = getD-set-same l (176 + 8 * n + k) x 0 (omega (arith, b .long))
 
-      other : (i : ℕ) → (i ≡ 32 + 8 * n + k → ⊥) → getD (set l (32 + 8 * n + k) x) i 0 ≡ getD l i 0
-      other i h = getD-set-other l (32 + 8 * n + k) i x 0 h
+      other : (i : ℕ) → (i ≡ 176 + 8 * n + k → ⊥) → getD (set l (176 + 8 * n + k) x) i 0 ≡ getD l i 0
+      other i h = getD-set-other l (176 + 8 * n + k) i x 0 h
 
   pub below-all : {n h : ℕ} {l : List ℕ} → Below d k n l₀ l → n ≡ h + 1 → LaidGaps d k h l₀ l
   below-all b m = record { long = b .long; laid = λ g s. b .laid g (omega arith); kept = b .kept }
@@ -104,7 +105,7 @@ device-laid {d} {k} {h} {s} {l₀} {l} w few long narrow e = record {
   narrow = narrow;
   stands =
       record {
-        laid = λ g m. stored-other l k s (32 + 8 * g + k) (λ e. absurd (omega arith)) (λ e. absurd (omega arith)) (λ e. absurd (omega arith)) (λ e. absurd (omega arith)) ∙ w .laid g m;
+        laid = λ g m. stored-other l k s (176 + 8 * g + k) (λ e. absurd (omega arith)) (λ e. absurd (omega arith)) (λ e. absurd (omega arith)) (λ e. absurd (omega arith)) ∙ w .laid g m;
         cap = stored-cap l k s room few ∙ rw e;
         rise = stored-rise l k s room few ∙ rw e;
         fall = stored-fall l k s room few ∙ rw e;
@@ -113,7 +114,7 @@ device-laid {d} {k} {h} {s} {l₀} {l} w few long narrow e = record {
   kept =
       λ x i less t.
       record {
-        laid = λ g m. still i less (32 + 8 * g + i) (4 + g) (omega arith) ∙ t .laid g m;
+        laid = λ g m. still i less (176 + 8 * g + i) (22 + g) (omega arith) ∙ t .laid g m;
         cap = still i less i 0 (omega arith) ∙ t .cap;
         rise = still i less (8 + i) 1 (omega arith) ∙ t .rise;
         fall = still i less (16 + i) 2 (omega arith) ∙ t .fall;
@@ -133,12 +134,12 @@ device-laid {d} {k} {h} {s} {l₀} {l} w few long narrow e = record {
 -- ---- the first n devices of a recorder
 
 pub record Devices (R : Recorder) (n : ℕ) (l : List ℕ) : Type 0 where
-  pub long : 40 + 8 * R .horizon ≤ length l
+  pub long : 184 + 8 * R .horizon ≤ length l
   pub narrow : (k : ℕ) → k < n → device R k .pw ≤ 65535
   pub stands : (k : ℕ) → k < n → Stands (device R k) k (R .horizon) l
 
 module _ {R : Recorder} where
-  pub devices-none : {l : List ℕ} → 40 + 8 * R .horizon ≤ length l → Devices R 0 l
+  pub devices-none : {l : List ℕ} → 184 + 8 * R .horizon ≤ length l → Devices R 0 l
   devices-none e = record { long = e; narrow = λ k h. absurd (omega arith); stands = λ k h. absurd (omega arith) }
 
   pub devices-next : {n : ℕ} {l l′ : List ℕ} → Devices R n l → LaidDevice (device R n) n (R .horizon) l l′ → Devices R (n + 1) l′
@@ -149,8 +150,26 @@ module _ {R : Recorder} where
         λ k h. ⊎-elim (λ (q : k ≡ n). rw q (w .stands)) (λ q. w .kept (device R k) k q (b .stands k q)) (eq-or-lt-of-le {n = k} {m = n} (omega arith));
   }
 
-  pub devices-all : {l : List ℕ} → Valid R → Devices R (R .devices .count) l → Tabled R l
-  devices-all {l} ok b = record {
+  -- The devices of the jobs listed after them.
+  pub devices-listed : {n : ℕ} {l l′ : List ℕ} → n ≤ 8 → Devices R n l → LaidJobs R 16 l l′ → Devices R n l′
+  unfolding extraAt capAt riseAt fallAt footAt
+  devices-listed {n} {l} {l′} few b w = record {
+    long = omega (arith, b .long, w .long);
+    narrow = b .narrow;
+    stands =
+        λ k h.
+        let t = b .stands k h in
+        record {
+          laid = λ g m. w .kept (176 + 8 * g + k) (λ p q. absurd (omega arith)) ∙ t .laid g m;
+          cap = w .kept k (λ p q. absurd (omega arith)) ∙ t .cap;
+          rise = w .kept (8 + k) (λ p q. absurd (omega arith)) ∙ t .rise;
+          fall = w .kept (16 + k) (λ p q. absurd (omega arith)) ∙ t .fall;
+          foot = w .kept (24 + k) (λ p q. absurd (omega arith)) ∙ t .foot;
+        };
+  }
+
+  pub devices-all : {l : List ℕ} → Valid R → Devices R (R .devices .count) l → ((j : ℕ) → j < 16 → Lists R j l) → Tabled R l
+  devices-all {l} ok b lists = record {
     valid = ok;
     narrow = b .narrow;
     long = b .long;
@@ -163,6 +182,7 @@ module _ {R : Recorder} where
     falls = λ k h. subst (λ (n : ℕ). Falls (device R k) (R .horizon) n) (sym (b .stands k h .fall)) (shaped k h .fall);
     fall-most = λ k h. omega (arith, b .stands k h .fall, shaped k h .fall-most);
     climbs = λ k h. subst (λ (n : ℕ). Climbs (device R k) (R .horizon) n) (sym (b .stands k h .foot)) (shaped k h .foot);
+    lists = lists;
   }
     where
       most : (k g : ℕ) → k < R .devices .count → g ≤ R .horizon → extra (device R k) g ≤ 268431360

@@ -1,3 +1,5 @@
 pub mod Bounds
 pub mod Laid
+pub mod Listed
 pub mod Shaping
+pub mod Uses

@@ -1,3 +1,4 @@
 pub mod Parts
 pub mod Shapes
 pub mod Tabled
+pub mod Uses

@@ -1,6 +1,7 @@
-// The table filled, device by device: each gap by what it costs, and with them the device's cap, rise, fall and foot.
+// The table filled, device by device: each gap by what it costs, and with them the device's cap, rise, fall and foot; then the devices of each job.
 use crate::shape::Shape;
 use crate::shape::shape_with;
+use crate::used::lay_jobs;
 use base::wide;
 use device::Device;
 use device::gap_energy;
@@ -21,7 +22,7 @@ ghost use Rattle.extras.specs.inside.Parts.{LaidGaps, LaidDevice};
 
 // The extras of device k, which is d and has the power `sleep` in its deepest sleep, up to h ticks.
 fn lay_gaps(d: Device, sleep: u32, k: usize, h: u16, extras: &mut [u32]) -> Shape
-    requires { ⌜ Sound d × ((sleep ≡ deep d) × ((k < 8) × ((h ≤ 4096) × (40 + 8 * h ≤ length (now extras))))) ⌝ }
+    requires { ⌜ Sound d × ((sleep ≡ deep d) × ((k < 8) × ((h ≤ 4096) × (184 + 8 * h ≤ length (now extras))))) ⌝ }
     ensures { λ s. ⌜ LaidGaps d k h (now (extras .entry)) (now (extras .exit)) × (s ≡ shapeOf d (suc h)) ⌝ }
 {
     let mut shape = Shape {
@@ -34,7 +35,7 @@ fn lay_gaps(d: Device, sleep: u32, k: usize, h: u16, extras: &mut [u32]) -> Shap
     let mut g: u16 = 0;
     while g <= h {
         let extra = gap_energy(d, g) - sleep * wide(g);
-        extras[32 + 8 * g as usize + k] = extra;
+        extras[176 + 8 * g as usize + k] = extra;
         shape = shape_with(shape, wide(g), last, extra);
         last = extra;
         g += 1;
@@ -44,7 +45,7 @@ fn lay_gaps(d: Device, sleep: u32, k: usize, h: u16, extras: &mut [u32]) -> Shap
 
 // All of device k.
 fn lay_device(r: &Flat, k: usize, extras: &mut [u32])
-    requires { ⌜ Valid (recorderOf (now r)) × ((k < recorderOf (now r) .devices .count) × (40 + 8 * recorderOf (now r) .horizon ≤ length (now extras))) ⌝ }
+    requires { ⌜ Valid (recorderOf (now r)) × ((k < recorderOf (now r) .devices .count) × (184 + 8 * recorderOf (now r) .horizon ≤ length (now extras))) ⌝ }
     ensures { λ _. ⌜ LaidDevice (device (recorderOf (now (r .entry))) k) k (recorderOf (now (r .entry)) .horizon) (now (extras .entry)) (now (extras .exit)) ⌝ }
 {
     let shape = lay_gaps(
@@ -61,7 +62,7 @@ fn lay_device(r: &Flat, k: usize, extras: &mut [u32])
 }
 
 pub fn lay_extras(r: &Flat, extras: &mut [u32])
-    requires { ⌜ Valid (recorderOf (now r)) × (40 + 8 * recorderOf (now r) .horizon ≤ length (now extras)) ⌝ }
+    requires { ⌜ Valid (recorderOf (now r)) × (184 + 8 * recorderOf (now r) .horizon ≤ length (now extras)) ⌝ }
     ensures { λ _. ⌜ Tabled (recorderOf (now (r .entry))) (now (extras .exit)) ⌝ }
 {
     let m = device_count(r);
@@ -70,4 +71,5 @@ pub fn lay_extras(r: &Flat, extras: &mut [u32])
         lay_device(r, k, extras);
         k += 1;
     }
+    lay_jobs(r, extras);
 }

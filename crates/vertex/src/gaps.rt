@@ -3,6 +3,8 @@ use crate::cells::Cells;
 use base::wide;
 use extras::extra_of;
 use extras::foot_of;
+use extras::used_at;
+use extras::used_count;
 use flat::Flat;
 use flat::deep_power;
 use flat::device_count;
@@ -20,7 +22,7 @@ ghost use Rattle.base.specs.Sums.{sum};
 ghost use Rattle.schedule.specs.Quantities.{device, run, uses};
 ghost use Rattle.flat.specs.inside.Flat.{recorderOf};
 ghost use Rattle.keys.specs.inside.Keys.{extra};
-ghost use Rattle.extras.specs.inside.Tabled.{Tabled, footAt};
+ghost use Rattle.extras.specs.inside.Tabled.{Tabled, extraAt, footAt};
 ghost use Rattle.vertex.specs.inside.Shown.{unused, aheadAt, leadsBy, closesBy, endsBy, idleFloor, Ordered};
 
 // Whether a device whose last use ended at `end` has none yet in a round. (A use ends after tick 0.)
@@ -37,33 +39,31 @@ fn chosen(test: bool, x: u32, y: u32) -> u32
     if test { x } else { y }
 }
 
-// What device k pays for the gap before job j, if it uses the device, where it starts at s. The table is read before the tests, so that no jump hangs on them.
-fn lead_with(r: &Flat, extras: &[u32], round: bool, k: usize, j: usize, end: u32, s: u32) -> u32
-    requires { ⌜ Tabled (recorderOf (now r)) (now extras) × ((k < recorderOf (now r) .devices .count) × ((j < 16) × ((end ≤ s) × (s ≤ recorderOf (now r) .horizon)))) ⌝ }
-    ensures { λ x. ⌜ (x ≡ cond (uses (recorderOf (now (r .entry))) k j) (cond (unused round end) 0 (extra (device (recorderOf (now (r .entry))) k) (s - end))) 0) × (x ≤ 268431360) ⌝ }
+// What device k pays for the gap before a job that uses it and starts at s. The table is read before the test, so that no jump hangs on it.
+fn lead_with(extras: &[u32], round: bool, k: usize, end: u32, s: u32) -> u32
+    requires { ⌜ (k < 8) × ((end ≤ s) × ((s ≤ 4096) × (184 + 8 * s ≤ length (now extras)))) ⌝ }
+    ensures { λ x. ⌜ x ≡ cond (unused round end) 0 (extraAt (now (extras .entry)) k (s - end)) ⌝ }
 {
     let lead = extra_of(extras, k, s - end);
-    if is_used(r, k, j) {
-        if is_unused(round, end) {
-            return 0;
-        }
-        return lead;
+    if is_unused(round, end) {
+        return 0;
     }
-    0
+    lead
 }
 
-// What all devices pay for the gaps before job j, where it starts at s.
+// What all devices pay for the gaps before job j, where it starts at s. Those that it does not use pay nothing.
 pub fn lead_of(r: &Flat, extras: &[u32], v: &Cells, j: usize, s: u32) -> u32
     requires { ⌜ Tabled (recorderOf (now r)) (now extras) × ((j < 16) × Ordered (recorderOf (now r)) (now v) s) ⌝ }
     ensures { λ x. ⌜ (x ≡ leadsBy (recorderOf (now (r .entry))) (now (v .entry)) j s) × (x ≤ 2147450880) ⌝ }
 {
     let round = is_round(r);
-    let m = device_count(r);
+    let n = used_count(extras, j);
     let mut sum: u32 = 0;
-    let mut k: usize = 0;
-    while k < m {
-        sum += lead_with(r, extras, round, k, j, v[k], s);
-        k += 1;
+    let mut i: u32 = 0;
+    while i < n {
+        let k = used_at(extras, j, i);
+        sum += lead_with(extras, round, k, v[k], s);
+        i += 1;
     }
     sum
 }
@@ -137,18 +137,15 @@ pub fn end_of(r: &Flat, extras: &[u32], v: &Cells, j: usize, s: u32) -> u32
     sum
 }
 
-// Whether the gap before job j, where it starts at s, is shorter than the foot of device k, which pays for it.
-fn is_short(r: &Flat, extras: &[u32], round: bool, k: usize, j: usize, end: u32, s: u32) -> bool
-    requires { ⌜ (k < 8) × ((j < 16) × ((end ≤ s) × (40 ≤ length (now extras)))) ⌝ }
-    ensures { λ x. ⌜ x ≡ cond (uses (recorderOf (now (r .entry))) k j) (cond (unused round end) false (ltb (s - end) (footAt (now (extras .entry)) k))) false ⌝ }
+// Whether the gap before a job that uses device k and starts at s is shorter than the device's foot, and the device pays for it.
+fn is_short(extras: &[u32], round: bool, k: usize, end: u32, s: u32) -> bool
+    requires { ⌜ (k < 8) × ((end ≤ s) × (40 ≤ length (now extras))) ⌝ }
+    ensures { λ x. ⌜ x ≡ cond (unused round end) false (ltb (s - end) (footAt (now (extras .entry)) k)) ⌝ }
 {
-    if is_used(r, k, j) {
-        if is_unused(round, end) {
-            return false;
-        }
-        return s - end < foot_of(extras, k);
+    if is_unused(round, end) {
+        return false;
     }
-    false
+    s - end < foot_of(extras, k)
 }
 
 // Whether every gap before job j, where it starts at s, has reached the foot: then no later start adds less.
@@ -157,13 +154,14 @@ pub fn is_climbing(r: &Flat, extras: &[u32], v: &Cells, j: usize, s: u32) -> boo
     ensures { λ x. ⌜ (x ≡ true → (t : ℕ) → s ≤ t → t ≤ recorderOf (now (r .entry)) .horizon → leadsBy (recorderOf (now (r .entry))) (now (v .entry)) j s ≤ leadsBy (recorderOf (now (r .entry))) (now (v .entry)) j t) ⌝ }
 {
     let round = is_round(r);
-    let m = device_count(r);
-    let mut k: usize = 0;
-    while k < m {
-        if is_short(r, extras, round, k, j, v[k], s) {
+    let n = used_count(extras, j);
+    let mut i: u32 = 0;
+    while i < n {
+        let k = used_at(extras, j, i);
+        if is_short(extras, round, k, v[k], s) {
             return false;
         }
-        k += 1;
+        i += 1;
     }
     true
 }

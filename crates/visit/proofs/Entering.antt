@@ -9,12 +9,13 @@ use lib.Dec.{eqb, ltb}
 use lib.ListN.{set, length}
 use lib.Pow.{pow-pos}
 use borrow.Author.Tests.{lt-ltb, le-ltb}
-use Rattle.base.specs.Lists.{In, remove}
+use Rattle.base.specs.Lists.{In, remove, upFrom}
+use Rattle.base.specs.Loops.{through}
 use Rattle.base.specs.Sums.{total}
 use Rattle.base.proofs.Numbers.{length-nil, total-remove}
 use Rattle.schedule.specs.declared.Recorder.{Recorder}
 use Rattle.schedule.specs.Quantities.{Valid, jobs, release, run, deadline, device}
-use Rattle.schedule.specs.Visiting.{Vertex, Visited, child, starts, startsOf, cutA, counted, floor, planEnergy, choices}
+use Rattle.schedule.specs.Visiting.{Vertex, Visited, child, earliest, starts, startsOf, cutA, counted, floor, planEnergy, choices}
 use Rattle.schedule.proofs.Tree.{Reached, child-reached}
 use Rattle.latest.specs.inside.Sets.{has}
 use Rattle.latest.specs.inside.Latest.{jobsOf}
@@ -29,10 +30,11 @@ use Rattle.vertex.specs.inside.Sums.{limitFor}
 use Rattle.vertex.proofs.Lasting.{cut-limit}
 use Rattle.vertex.proofs.Most.{floor-most, uncut-room}
 use Rattle.vertex.proofs.Showing.{some-suc, ordered-later, shown-ordered, leads-shown, ends-shown, child-shown, job-in, in-job}
-use Rattle.visit.specs.inside.Lent.{countAt, energyAt, stopAt, Tells, Came, done, over, Stands, Starts, Tries, Drops, Enters}
+use Rattle.recall.specs.inside.Slack.{more}
+use Rattle.visit.specs.inside.Lent.{countAt, energyAt, stopAt, Bests, Tells, Came, done, over, Stands, Starts, Tries, Enters}
 use Rattle.visit.specs.inside.Stops.{visitBy, entered}
 use Rattle.visit.specs.inside.Offers.{Offered}
-use Rattle.visit.proofs.Visits.{visit-one, visit-dropped, visit-entered, cutB-spared}
+use Rattle.visit.proofs.Visits.{through-counts, visit-one, visit-dropped, visit-entered, cutB-spared}
 use Rattle.visit.proofs.Telling.{tells-none, tells-counted, tells-noted, came-back, came-offered}
 
 -- From the start `cut` on every child is dropped: from x on by cut A, and before it by cut B.
@@ -130,26 +132,17 @@ module _ (R : Recorder) (valid : Valid R) (narrow : (k : ℕ) → k < R .devices
               spared = λ q. let e = cut-early s by (omega (arith, q, below)) in (e, floor-child-is e ∙ sym f-is);
             }
 
-  -- ---- where all are dropped
-
-  pub drops-of :
-      (l : List ℕ) (a from best j s cut x : ℕ) (d : Dues) → TwoLeast R a (jobs R) d → x ≡ min (limitFor (R .horizon) (loadAt l - run R j) d j) (deadline R j) + 1 - run R j
-      → Cuts R l best from j x cut → cut ≤ s → Drops R l a from best j s
-  unfolding Drops
-  drops-of l a from best j s cut x d two x-is cuts q m v stands t low o =
-      dropped-of l a from m v stands j (o .job) d two x x-is t o best cut cuts (omega arith)
-
-  pub tries-dropped :
-      (l : List ℕ) (a from best best′ j start s m : ℕ) (v : Vertex) → Drops R l a from best j start → best′ ≤ best → start ≤ s → Stands R l a from m v → Starts R v j s
-      → Tries R l best′ a from 0 0 j s m v
-  unfolding Drops
-  tries-dropped l a from best best′ j start s m v drops less low stands o =
-      record {
-        stands = stands;
-        starts = o;
-        dropped = λ q. ⊎-elim inl (λ k. inr (omega (arith, k, less))) (drops m v stands s low o);
-        spared = λ q. absurd (omega arith);
-      }
+      -- Where all from the start s on are dropped, they are merely counted.
+      pub starts-dropped :
+          (stop : Bool) (budget cut s : ℕ) (tally : List ℕ) (st : Visited) → Cuts R l (energyAt tally) from j x cut → cut ≤ s → earliest R (v .time) j ≤ s
+          → Tells R stop budget tally v st
+          → through (λ (y : ℕ). visitBy R stop m (child R v j y)) (upFrom s (suc (deadline R j) - (s + run R j))) st ≡ more (suc (deadline R j) - (s + run R j)) st
+      starts-dropped stop budget cut s tally st cuts q early tells =
+          through-counts (λ (y : ℕ). visitBy R stop m (child R v j y)) (st .best) s (suc (deadline R j) - (s + run R j)) st refl
+          (λ t w low high e.
+          let o : Starts R v j t = record { job = i; early = omega (arith, early, low); late = omega (arith, high) } in
+          visit-dropped R stop valid narrow m (child R v j t) (starts-reached m v j t o (h .reached)) tally w (λ z. e ∙ tells .going z) (subst (Bests R tally) (sym e) (tells .best))
+          (dropped-of t o (energyAt tally) cut cuts (omega (arith, q, low))))
 
   -- ---- the visit of it
 

@@ -89,9 +89,6 @@ up-next s c d h =
     let e : suc d - (s + c) ≡ suc (suc d - (s + 1 + c)) = omega arith in
     ap (upFrom s) e ∙ ap (λ (n : ℕ). s ∷ upFrom n (suc d - (s + 1 + c))) (sym (add-one s))
 
-pub up-done : (s c d : ℕ) → d < s + c → upFrom s (suc d - (s + c)) ≡ []
-up-done s c d h = let e : suc d - (s + c) ≡ 0 = omega arith in ap (upFrom s) e
-
 -- ---- the jobs of a set
 
 members-next :

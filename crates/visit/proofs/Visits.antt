@@ -1,13 +1,14 @@
 -- The visit of a vertex (specs/inside/Stops): it only adds to the count; where a cut drops the vertex it counts it alone; and else it enters it.
-use mathlib.Core.Path.{_≡_, refl, sym, _∙_}
+use mathlib.Core.Path.{_≡_, refl, sym, ap, _∙_}
 use mathlib.Core.Bool.{Bool, true, false, true≢false}
 use mathlib.Core.List.{List, [], _∷_}
 use mathlib.Core.Logic.{_⊎_, inl, inr, ⊎-elim}
 use mathlib.Core.Option.{Option, none, some}
-use Prim.Native.Nat.{ℕ, zero, suc, _≤_, _<_}
+use Prim.Native.Nat.{ℕ, zero, suc, _+_, _≤_, _<_}
 use native.Mathlib.Nat.{le-refl, le-trans}
 use native.Mathlib.Omega.{arith}
 use borrow.Author.Tests.{le-leb, lt-leb, le-ltb}
+use Rattle.base.specs.Lists.{upFrom}
 use Rattle.base.specs.Loops.{through}
 use Rattle.base.proofs.Cases.{cond-cases}
 use Rattle.schedule.specs.declared.Recorder.{Recorder}
@@ -16,6 +17,7 @@ use Rattle.schedule.specs.Visiting.{Vertex, Visited, Walk, child, starts, start
 use Rattle.schedule.proofs.Tree.{Reached}
 use Rattle.keys.proofs.Rises.{energy-complete}
 use Rattle.vertex.proofs.Most.{floor-most}
+use Rattle.recall.specs.inside.Slack.{more}
 use Rattle.visit.specs.inside.Lent.{energyAt, Bests}
 use Rattle.visit.specs.inside.Stops.{Open, visitBy, entered}
 use Rattle.visit.proofs.Stopping.{unless-going, visit-ended}
@@ -31,6 +33,16 @@ pub through-ended :
     (g : ℕ → Walk) (s : List ℕ) → ((k : ℕ) (st : Visited) → st .best ≡ some s → g k st ≡ st) → (u : List ℕ) (st : Visited) → st .best ≡ some s → through g u st ≡ st
 through-ended g s h [] st e = refl
 through-ended g s h (k ∷ u) st e = rw (h k st e) (through-ended g s h u st e)
+
+-- Where every turn counts one vertex and leaves the best, so many are counted.
+pub through-counts :
+    (g : ℕ → Walk) (o : Option (List ℕ)) (s n : ℕ) (st : Visited) → st .best ≡ o → ((t : ℕ) (w : Visited) → s ≤ t → t < s + n → w .best ≡ o → g t w ≡ counted w)
+    → through g (upFrom s n) st ≡ more n st
+through-counts g o s zero st e h = ap (λ (c : ℕ). record { count = c; best = st .best }) (omega arith)
+through-counts g o s (suc n) st e h =
+    ap (through g (upFrom (suc s) n)) (h s st (le-refl _) (omega arith) e)
+    ∙ through-counts g o (suc s) n (counted st) e (λ t w low high. h t w (omega (arith, low)) (omega (arith, high)))
+    ∙ ap (λ (c : ℕ). record { count = c; best = st .best }) (omega arith)
 
 module _ (R : Recorder) (stop : Bool) where
   -- The starts of job j at v, in turn.

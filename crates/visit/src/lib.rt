@@ -35,11 +35,11 @@ ghost use mathlib.Core.Path.{_≡_};
 ghost use mathlib.Core.Bool.{Bool, true, false, cond};
 ghost use mathlib.Core.Logic.{_⊎_};
 ghost use mathlib.Core.List.{_++_};
-ghost use Prim.Native.Nat.{ℕ, _+_, _-_, _*_, _^_, _<_, _≤_, min};
+ghost use Prim.Native.Nat.{ℕ, suc, _+_, _-_, _*_, _^_, _<_, _≤_, min};
 ghost use lib.ListN.{length, drop};
 ghost use Rattle.base.specs.Lists.{upTo};
 ghost use Rattle.schedule.specs.Quantities.{Valid, jobs, deadline, run};
-ghost use Rattle.schedule.specs.Visiting.{child, earliest, starts, visited};
+ghost use Rattle.schedule.specs.Visiting.{visited};
 ghost use Rattle.schedule.specs.Visiting as order;
 ghost use Rattle.flat.specs.inside.Flat.{recorderOf};
 ghost use Rattle.latest.specs.inside.Sets.{has};
@@ -49,7 +49,7 @@ ghost use Rattle.vertex.specs.inside.Shown.{loadAt, leadsBy, Ordered};
 ghost use Rattle.vertex.specs.inside.Sums.{limitFor};
 ghost use Rattle.recall.specs.inside.Asks.{Asks};
 ghost use Rattle.visit.specs.inside.Stops.{visitedBy};
-ghost use Rattle.visit.specs.inside.Lent.{Leaves, StandsAt, VisitCame, EnterCame, ChoicesCame, StartsCame, DropsCame, countAt, energyAt, bestAt, stopAt, slackBy, Lends, Came, Ran, Stands, Tries, Drops, Enters, Some, Finds};
+ghost use Rattle.visit.specs.inside.Lent.{Leaves, StandsAt, VisitCame, EnterCame, ChoicesCame, StartsCame, countAt, energyAt, bestAt, stopAt, slackBy, Lends, Came, Ran, Added, Tries, Enters, Some, Finds};
 
 mod tally; // tally.rt: the count, the best so far and the starts of the placed jobs
 
@@ -106,6 +106,16 @@ fn cut_at(
         }
     }
     cut
+}
+
+// The starts of job j from `start` on, at which every child is dropped: they are counted at once. Answers whether the budget does not have them.
+fn drops(r: &Flat, tally: &mut Tally, budget: u32, j: JobNumber, start: u32) -> bool
+    requires { ⌜ (j .0 < 16) × ((start ≤ 65536) × ((length (now tally) ≡ 35) × (countAt (now tally) ≤ budget))) ⌝ }
+    ensures { λ x. ⌜ Added budget (suc (deadline (recorderOf (now (r .entry))) (j .0)) - (start + run (recorderOf (now (r .entry))) (j .0))) (now (tally .entry)) (now (tally .exit)) x ⌝ }
+{
+    let c = wide(run_of(r, j.0));
+    let d = wide(deadline_of(r, j.0));
+    add_count(tally, budget, lessened(d + 1, start + c))
 }
 
 // Whether a set has two jobs or more, and a memory of so many words an entry. Below a vertex with one job the work is less than looking for it.
@@ -348,51 +358,7 @@ fn tries(
         }
         s += 1;
     }
-    drops(r, extras, memory, v, tally, budget, set, p, from, j, s)
-}
-
-// The starts of job j from `start` on, at which every child is dropped: each is counted.
-fn drops(
-    r: &Flat,
-    extras: &[u32],
-    memory: &mut [u64],
-    v: &Cells,
-    tally: &mut Tally,
-    budget: u32,
-    set: usize,
-    p: usize,
-    from: u32,
-    j: JobNumber,
-    start: u32,
-) -> bool
-    requires { ⌜ Lends (recorderOf (now r)) (now extras) (now memory) × ((j .0 < jobs (recorderOf (now r))) × ((has set (j .0) ≡ true) × ((p ≡ 2 ^ j .0) × ((start ≤ 65536) × (Drops (recorderOf (now r)) (now v) set from (energyAt (now tally)) (j .0) start × Some (recorderOf (now r)) budget (now tally) (λ m u. Stands (recorderOf (now r)) (now v) set from m u × (earliest (recorderOf (now r)) (u .time) (j .0) ≤ start))))))) ⌝ }
-    ensures kept { λ _. ⌜ Leaves (recorderOf (now (r .entry))) (now (extras .entry)) (now (memory .exit)) (now (tally .entry)) (now (tally .exit)) ⌝ }
-    ensures came { λ x. ⌜ DropsCame (recorderOf (now (r .entry))) budget (now (v .entry)) (now (tally .entry)) (now (tally .exit)) x set from (j .0) start ⌝ }
-{
-    let c = wide(run_of(r, j.0));
-    let d = wide(deadline_of(r, j.0));
-    let mut s = start;
-    while s + c <= d {
-        if visit(
-            r,
-            extras,
-            memory,
-            v,
-            tally,
-            budget,
-            set,
-            p,
-            from,
-            0,
-            0,
-            j,
-            s,
-        ) {
-            return true;
-        }
-        s += 1;
-    }
-    false
+    drops(r, tally, budget, j, s)
 }
 
 // The root and all below it.
@@ -505,7 +471,7 @@ fn laid_visit(
     stop: bool,
     budget: u32,
 ) -> bool
-    requires { ⌜ Valid (recorderOf (now r)) × ((40 + 8 * recorderOf (now r) .horizon ≤ length (now extras)) × (length (now tally) ≡ 35)) ⌝ }
+    requires { ⌜ Valid (recorderOf (now r)) × ((184 + 8 * recorderOf (now r) .horizon ≤ length (now extras)) × (length (now tally) ≡ 35)) ⌝ }
     ensures { λ x. ⌜ Ran (recorderOf (now (r .entry))) stop budget (now (tally .exit)) x ⌝ }
 {
     lay_extras(r, extras);
@@ -525,10 +491,10 @@ fn placed_visit(
     ensures { λ x. ⌜ Ran (recorderOf (now (r .entry))) stop budget (now (tally .exit)) x ⌝ }
 {
     if horizon_of(r) <= 127 {
-        let mut extras = [0u32; 1056];
+        let mut extras = [0u32; 1200];
         return laid_visit(r, &mut extras, memory, own, tally, stop, budget);
     }
-    let mut extras = [0u32; 32808];
+    let mut extras = [0u32; 32952];
     laid_visit(r, &mut extras, memory, own, tally, stop, budget)
 }
 

@@ -15,7 +15,7 @@ use Rattle.cheapest.proofs.find.Tie as tie
 lay-extras-requires : tie.Need-lay-extras-requires
 lay-extras-requires c κs =
     let s = c .before .before in
-    (s .pre .0, omega (arith, s .pre .0 .few-ticks, length-replicate {A = ℕ} 32808 0))
+    (s .pre .0, omega (arith, s .pre .0 .few-ticks, length-replicate {A = ℕ} 32952 0))
 
 least-starts-requires : tie.Need-least-starts-requires
 least-starts-requires c κs =

@@ -1,18 +1,20 @@
--- One device in the table of extras: what stands there of it, and what laying it leaves as it was.
+-- One device in the table of extras, and one job: what stands there of it, and what laying it leaves as it was.
 use mathlib.Core.Path.{_≡_}
 use mathlib.Core.List.{List}
 use Prim.Native.Nat.{ℕ, suc, _+_, _*_, _<_, _≤_}
 use lib.ListN.{getD, length}
 use Rattle.device.specs.declared.Device.{Device}
+use Rattle.schedule.specs.declared.Recorder.{Recorder}
 use Rattle.keys.specs.inside.Keys.{extra}
 use Rattle.extras.specs.inside.Shapes.{shapeOf}
 use Rattle.extras.specs.inside.Tabled.{extraAt, capAt, riseAt, fallAt, footAt}
+use Rattle.extras.specs.inside.Uses.{Lists}
 
 -- The extras of d up to h ticks were laid as those of device k: but for their places l is as l₀.
 pub record LaidGaps (d : Device) (k h : ℕ) (l₀ l : List ℕ) : Type 0 where
   pub long : length l ≡ length l₀
   pub laid : (g : ℕ) → g ≤ h → extraAt l k g ≡ extra d g
-  pub kept : (i : ℕ) → ((g : ℕ) → i ≡ 32 + 8 * g + k → ⊥) → getD l i 0 ≡ getD l₀ i 0
+  pub kept : (i : ℕ) → ((g : ℕ) → i ≡ 176 + 8 * g + k → ⊥) → getD l i 0 ≡ getD l₀ i 0
 
 -- All of d stands in the table as device k.
 pub record Stands (d : Device) (k h : ℕ) (l : List ℕ) : Type 0 where
@@ -28,3 +30,15 @@ pub record LaidDevice (d : Device) (k h : ℕ) (l₀ l : List ℕ) : Type 0 wher
   pub narrow : d .pw ≤ 65535
   pub stands : Stands d k h l
   pub kept : (e : Device) (i : ℕ) → i < k → Stands e i h l₀ → Stands e i h l
+
+-- The devices of job j were listed: but for their places l is as l₀.
+pub record LaidJob (R : Recorder) (j : ℕ) (l₀ l : List ℕ) : Type 0 where
+  pub long : length l ≡ length l₀
+  pub lists : Lists R j l
+  pub kept : (i : ℕ) → (i ≡ 32 + j → ⊥) → (48 + 8 * j ≤ i → i < 56 + 8 * j → ⊥) → getD l i 0 ≡ getD l₀ i 0
+
+-- Those of the first n jobs were.
+pub record LaidJobs (R : Recorder) (n : ℕ) (l₀ l : List ℕ) : Type 0 where
+  pub long : length l ≡ length l₀
+  pub lists : (j : ℕ) → j < n → Lists R j l
+  pub kept : (i : ℕ) → (32 ≤ i → i < 176 → ⊥) → getD l i 0 ≡ getD l₀ i 0

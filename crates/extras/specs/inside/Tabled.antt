@@ -1,4 +1,5 @@
--- The lent table of extras: what each gap of each device costs above the deepest sleep, and with it cap, steepest rise, steepest fall and foot.
+-- The lent table of extras: what each gap of each device costs above the deepest sleep, and with it cap, steepest rise, steepest fall and foot; and which devices each
+-- job uses.
 use mathlib.Core.Path.{_≡_}
 use mathlib.Core.List.{List}
 use Prim.Native.Nat.{ℕ, _+_, _*_, _<_, _≤_}
@@ -8,6 +9,7 @@ use Rattle.schedule.specs.Quantities.{Valid, device}
 use Rattle.keys.specs.inside.Keys.{extra, Caps}
 use Rattle.value.specs.inside.Leasts.{Rises, Falls}
 use Rattle.extras.specs.inside.Shapes.{Climbs}
+use Rattle.extras.specs.inside.Uses.{Lists}
 
 unfoldable pub capAt : List ℕ → ℕ → ℕ
 capAt l k = getD l k 0
@@ -22,13 +24,13 @@ unfoldable pub footAt : List ℕ → ℕ → ℕ
 footAt l k = getD l (24 + k) 0
 
 unfoldable pub extraAt : List ℕ → ℕ → ℕ → ℕ
-extraAt l k g = getD l (32 + 8 * g + k) 0
+extraAt l k g = getD l (176 + 8 * g + k) 0
 
 -- A valid recorder, whose powers at work fit sixteen bits, and its table: none of its numbers is more than 4,096 ticks at the largest power.
 pub record Tabled (R : Recorder) (l : List ℕ) : Type 0 where
   pub valid : Valid R
   pub narrow : (k : ℕ) → k < R .devices .count → device R k .pw ≤ 65535
-  pub long : 40 + 8 * R .horizon ≤ length l
+  pub long : 184 + 8 * R .horizon ≤ length l
   pub extras : (k g : ℕ) → k < R .devices .count → g ≤ R .horizon → extraAt l k g ≡ extra (device R k) g
   pub extra-most : (k g : ℕ) → k < R .devices .count → g ≤ R .horizon → extra (device R k) g ≤ 268431360
   pub caps : Caps R (capAt l)
@@ -38,3 +40,4 @@ pub record Tabled (R : Recorder) (l : List ℕ) : Type 0 where
   pub falls : (k : ℕ) → k < R .devices .count → Falls (device R k) (R .horizon) (fallAt l k)
   pub fall-most : (k : ℕ) → k < R .devices .count → fallAt l k ≤ 268431360
   pub climbs : (k : ℕ) → k < R .devices .count → Climbs (device R k) (R .horizon) (footAt l k)
+  pub lists : (j : ℕ) → j < 16 → Lists R j l

@@ -9,7 +9,7 @@ use Rattle.visit.proofs.placed_visit.Tie as tie
 laid-visit-requires-2 : tie.Need-laid-visit-requires-2
 laid-visit-requires-2 c κs =
     let s = c .before .before .before .before .before .before in
-    (s .pre .0, (omega (arith, s .pre .0 .few-ticks, length-replicate {A = ℕ} 32808 0), s .pre .1))
+    (s .pre .0, (omega (arith, s .pre .0 .few-ticks, length-replicate {A = ℕ} 32952 0), s .pre .1))
 
 pub placed-visit-spec : {M : Type 1} → statement M
 placed-visit-spec =

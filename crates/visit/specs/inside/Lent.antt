@@ -8,7 +8,7 @@ use mathlib.Core.Option.{Option, none, some}
 use Prim.Native.Nat.{ℕ, suc, _+_, _-_, _^_, _≤_, _<_}
 use lib.Dec.{eqb}
 use lib.ListN.{getD, set, length, drop}
-use Rattle.base.specs.Lists.{In, upFrom}
+use Rattle.base.specs.Lists.{In}
 use Rattle.base.specs.Loops.{through}
 use Rattle.schedule.specs.declared.Recorder.{Recorder}
 use Rattle.schedule.specs.Quantities.{jobs, run, deadline}
@@ -116,11 +116,6 @@ pub record Tries (R : Recorder) (l : List ℕ) (best set from cut f j s m : ℕ)
   pub dropped : cut ≤ s → (cutA R (child R v j s) ≡ true) ⊎ (best ≤ floor R (child R v j s))
   pub spared : s < cut → (cutA R (child R v j s) ≡ false) × (floor R (child R v j s) ≡ f)
 
--- From the start s on every child that places job j is dropped.
-unfoldable pub Drops : Recorder → List ℕ → ℕ → ℕ → ℕ → ℕ → ℕ → Type 0
-Drops R l set from best j s =
-    (m : ℕ) (v : Vertex) → Stands R l set from m v → (t : ℕ) → s ≤ t → Starts R v j t → (cutA R (child R v j t) ≡ true) ⊎ (best ≤ floor R (child R v j t))
-
 -- The child that places job j at s and that no cut drops; f is its floor, and `left` the set of the jobs that it leaves unplaced.
 pub record Enters (R : Recorder) (l : List ℕ) (left f j s m : ℕ) (v : Vertex) : Type 0 where
   pub shows : Shows R l (left + 2 ^ j) (suc m) v
@@ -161,7 +156,7 @@ module _ (R : Recorder) (budget : ℕ) (v l l′ : List ℕ) (x : Bool) where
       (stop : Bool) (m : ℕ) (u : Vertex) (st : Visited) → Enters R v left f j s m u → Tells R stop budget l u st
       → Came R stop budget l′ u (entered R stop m (child R u j s) st) x
 
-  -- All children; those that place job j; and of these those from `start` on.
+  -- All children; and those that place job j.
   abbrev pub ChoicesCame : ℕ → ℕ → ℕ → Type 0
   ChoicesCame set from t =
       (stop : Bool) (m : ℕ) (u : Vertex) (st : Visited) → Stands R v set from m u → u .time ≡ t → Tells R stop budget l u st
@@ -171,11 +166,6 @@ module _ (R : Recorder) (budget : ℕ) (v l l′ : List ℕ) (x : Bool) where
   StartsCame set from t j =
       (stop : Bool) (m : ℕ) (u : Vertex) (st : Visited) → Stands R v set from m u → u .time ≡ t → Tells R stop budget l u st
       → Came R stop budget l′ u (through (λ (y : ℕ). visitBy R stop m (child R u j y)) (starts R (u .time) j) st) x
-
-  abbrev pub DropsCame : ℕ → ℕ → ℕ → ℕ → Type 0
-  DropsCame set from j start =
-      (stop : Bool) (m : ℕ) (u : Vertex) (st : Visited) → Stands R v set from m u → earliest R (u .time) j ≤ start → Tells R stop budget l u st
-      → Came R stop budget l′ u (through (λ (y : ℕ). visitBy R stop m (child R u j y)) (upFrom start (suc (deadline R j) - (start + run R j))) st) x
 
 -- ---- the answer
 

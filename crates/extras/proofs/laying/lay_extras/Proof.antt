@@ -5,7 +5,7 @@ use lib.ListN.{length}
 use native.Mathlib.Omega.{arith}
 use borrow.Author.Needs.{needs}
 use Rattle.flat.specs.inside.Flat.{recorderOf}
-use Rattle.extras.proofs.Laid.{Devices, devices-none, devices-next, devices-all}
+use Rattle.extras.proofs.Laid.{Devices, devices-none, devices-next, devices-listed, devices-all}
 use Rattle.extras.proofs.laying.lay_extras.Statement.{statement}
 use Rattle.extras.proofs.laying.lay_extras.Tie as tie
 
@@ -30,12 +30,20 @@ loop-again c =
     let l = c .before .before .before .before .before .loop .inv in
     (omega arith, devices-next (l .1) w, w .long ∙ l .2)
 
+lay-jobs-requires : tie.Need-lay-jobs-requires Inv-loop μ-loop
+lay-jobs-requires c κs =
+    let l = c .before .before in
+    (l .before .before .before .pre .0, omega (arith, l .loop .inv .1 .long))
+
 returns : tie.Need-returns Inv-loop μ-loop
 returns c =
-    let s = c .before .before .before .before in
+    let w = c .before .before .lay-jobs .ensures in
+    let l = c .before .before .before .before .before in
+    let s = l .before .before .before in
     let R = recorderOf (s .args .r .now) in
-    let all : c .before .loop .k ≡ R .devices .count = omega (arith, c .before .before .device-count .ensures) in
-    devices-all (s .pre .0) (subst (λ (n : ℕ). Devices R n (c .before .loop .extras)) all (c .before .loop .inv .1))
+    let all : l .loop .k ≡ R .devices .count = omega (arith, c .before .before .before .before .loop-test .left, l .loop .inv .0, l .before .device-count .ensures) in
+    let laid = subst (λ (n : ℕ). Devices R n (l .loop .extras)) all (l .loop .inv .1) in
+    devices-all (s .pre .0) (devices-listed (s .pre .0 .few-devices) laid w) (w .lists)
 
 pub lay-extras-spec : {M : Type 1} → statement M
 lay-extras-spec =
@@ -49,5 +57,6 @@ lay-extras-spec =
     (λ c. search needs)
     (λ c. search needs)
     loop-again
-    (λ c. c .before .loop .inv .2)
+    lay-jobs-requires
+    (λ c. c .before .before .lay-jobs .ensures .long ∙ c .before .before .before .before .before .loop .inv .2)
     returns)

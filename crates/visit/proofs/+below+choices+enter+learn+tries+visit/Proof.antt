@@ -24,34 +24,29 @@ use Rattle.vertex.proofs.Showing.{jobs-shown, job-in, load-shown, ticks-shown}
 use Rattle.visit.specs.inside.Lent.{countAt, energyAt, Lends, Tells, Stands, Starts, Tries}
 use Rattle.visit.proofs.Visits.{jobWalk, choices-grow}
 use Rattle.visit.proofs.Telling.{counted-less, noted-less, offered-less}
-use Rattle.visit.proofs.Going.{came-done, start-steady, job-steady, Going, going-from, going-as, going-end, going-next, going-over, up-next, up-done, members-one, members-not, members-over, going-rest}
-use Rattle.visit.proofs.Entering.{Cuts, starts-of, starts-known, starts-end, starts-ordered, cuts-less, cuts-at, from-small, load-room, tries-of, visit-over, tells-more, visit-drops, visit-enters, bit-room, enters-of, left-some, enters-small, enters-noted, enters-complete, stands-child, enters-came, drops-of, tries-dropped}
-use Rattle.base.specs.Loops.{through}
-use Rattle.visit.proofs.drops.Reads as drops
-use Rattle.visit.proofs.drops.Kinds as drops-kinds
-use Rattle.visit.proofs.+below+choices+drops+enter+learn+tries+visit.Lts-drops as drops-lts
+use Rattle.visit.proofs.Going.{came-done, start-steady, job-steady, Going, going-from, going-as, going-end, going-next, going-over, up-next, members-one, members-not, members-over, going-rest}
+use Rattle.visit.proofs.Entering.{Cuts, starts-of, starts-known, starts-end, starts-ordered, cuts-less, cuts-at, from-small, load-room, tries-of, visit-over, tells-more, visit-drops, visit-enters, bit-room, enters-of, left-some, enters-small, enters-noted, enters-complete, stands-child, enters-came, starts-dropped}
 use Rattle.vertex.proofs.gaps.lead_of.Reads as lead-of-reads
 use borrow.Fn.Kinds.{In}
 use borrow.Fn.PlainCycle.{Measures, is, falls, and}
 use Rattle.visit.proofs.below.Reads as below
 use Rattle.visit.proofs.below.Kinds as below-kinds
-use Rattle.visit.proofs.+below+choices+drops+enter+learn+tries+visit.Lts-below as below-lts
+use Rattle.visit.proofs.+below+choices+enter+learn+tries+visit.Lts-below as below-lts
 use Rattle.visit.proofs.choices.Reads as choices
 use Rattle.visit.proofs.choices.Kinds as choices-kinds
-use Rattle.visit.proofs.+below+choices+drops+enter+learn+tries+visit.Lts-choices as choices-lts
+use Rattle.visit.proofs.+below+choices+enter+learn+tries+visit.Lts-choices as choices-lts
 use Rattle.visit.proofs.enter.Reads as enter
 use Rattle.visit.proofs.enter.Kinds as enter-kinds
-use Rattle.visit.proofs.+below+choices+drops+enter+learn+tries+visit.Lts-enter as enter-lts
+use Rattle.visit.proofs.+below+choices+enter+learn+tries+visit.Lts-enter as enter-lts
 use Rattle.visit.proofs.learn.Reads as learn
 use Rattle.visit.proofs.learn.Kinds as learn-kinds
-use Rattle.visit.proofs.+below+choices+drops+enter+learn+tries+visit.Lts-learn as learn-lts
+use Rattle.visit.proofs.+below+choices+enter+learn+tries+visit.Lts-learn as learn-lts
 use Rattle.visit.proofs.tries.Reads as tries
 use Rattle.visit.proofs.tries.Kinds as tries-kinds
-use Rattle.visit.proofs.+below+choices+drops+enter+learn+tries+visit.Lts-tries as tries-lts
+use Rattle.visit.proofs.+below+choices+enter+learn+tries+visit.Lts-tries as tries-lts
 use Rattle.visit.proofs.visit.Reads as visit
 use Rattle.visit.proofs.visit.Kinds as visit-kinds
-use Rattle.visit.proofs.+below+choices+drops+enter+learn+tries+visit.Lts-visit as visit-lts
-use Rattle.flat.proofs.deadline_of.Reads as deadline-of-reads
+use Rattle.visit.proofs.+below+choices+enter+learn+tries+visit.Lts-visit as visit-lts
 use Rattle.flat.proofs.job_count.Reads as job-count-reads
 use Rattle.base.proofs.larger.Reads as larger-reads
 use Rattle.base.proofs.wide.Reads as wide-reads
@@ -63,6 +58,7 @@ use Rattle.vertex.proofs.cells.place.Reads as place-reads
 use Rattle.vertex.proofs.dues.dues_in.Reads as dues-in-reads
 use Rattle.vertex.proofs.gaps.end_of.Reads as end-of-reads
 use Rattle.visit.proofs.cut_at.Reads as cut-at-reads
+use Rattle.visit.proofs.drops.Reads as drops-reads
 use Rattle.visit.proofs.first_cut.Reads as first-cut-reads
 use Rattle.visit.proofs.is_many.Reads as is-many-reads
 use Rattle.visit.proofs.is_whole.Reads as is-whole-reads
@@ -72,29 +68,26 @@ use Rattle.visit.proofs.tally.count_one.Reads as count-one-reads
 use Rattle.visit.proofs.tally.note.Reads as note-reads
 use Rattle.visit.proofs.tally.offer.Reads as offer-reads
 use Rattle.visit.proofs.tally.stops.Reads as stops-reads
-use Rattle.visit.proofs.+below+choices+drops+enter+learn+tries+visit.{statement}
-use Rattle.visit.proofs.+below+choices+drops+enter+learn+tries+visit.Tie.{close}
+use Rattle.visit.proofs.+below+choices+enter+learn+tries+visit.{statement}
+use Rattle.visit.proofs.+below+choices+enter+learn+tries+visit.Tie.{close}
 
 abbrev μ-below : Measures 5 below-kinds.ps ℕ
-μ-below κs a = 7 * (a .1 .1 .1 .1 .1 .1 .0) + 5
+μ-below κs a = 6 * (a .1 .1 .1 .1 .1 .1 .0) + 4
 
 abbrev μ-choices : Measures 5 choices-kinds.ps ℕ
-μ-choices κs a = 7 * (a .1 .1 .1 .1 .1 .1 .0) + 3
-
-abbrev μ-drops : Measures 5 drops-kinds.ps ℕ
-μ-drops κs a = 7 * (a .1 .1 .1 .1 .1 .1 .0) + 1
+μ-choices κs a = 6 * (a .1 .1 .1 .1 .1 .1 .0) + 2
 
 abbrev μ-enter : Measures 5 enter-kinds.ps ℕ
-μ-enter κs a = 7 * (a .1 .1 .1 .1 .1 .1 .0) + 6
+μ-enter κs a = 6 * (a .1 .1 .1 .1 .1 .1 .0) + 5
 
 abbrev μ-learn : Measures 5 learn-kinds.ps ℕ
-μ-learn κs a = 7 * (a .1 .1 .1 .1 .1 .1 .0) + 4
+μ-learn κs a = 6 * (a .1 .1 .1 .1 .1 .1 .0) + 3
 
 abbrev μ-tries : Measures 5 tries-kinds.ps ℕ
-μ-tries κs a = 7 * (a .1 .1 .1 .1 .1 .1 .0) + 2
+μ-tries κs a = 6 * (a .1 .1 .1 .1 .1 .1 .0) + 1
 
 abbrev μ-visit : Measures 5 visit-kinds.ps ℕ
-μ-visit κs a = 7 * (a .1 .1 .1 .1 .1 .1 .0)
+μ-visit κs a = 6 * (a .1 .1 .1 .1 .1 .1 .0)
 
 abbrev below-at : ℕ → In 5 below-kinds.ps
 below-at t = and 5 below-kinds.ps (is 5 below-kinds.ps μ-below t) below.Pre
@@ -107,12 +100,6 @@ choices-at t = and 5 choices-kinds.ps (is 5 choices-kinds.ps μ-choices t) choic
 
 abbrev choices-below : ℕ → In 5 choices-kinds.ps
 choices-below t = and 5 choices-kinds.ps (falls 5 choices-kinds.ps _<_ μ-choices t) choices.Pre
-
-abbrev drops-at : ℕ → In 5 drops-kinds.ps
-drops-at t = and 5 drops-kinds.ps (is 5 drops-kinds.ps μ-drops t) drops.Pre
-
-abbrev drops-below : ℕ → In 5 drops-kinds.ps
-drops-below t = and 5 drops-kinds.ps (falls 5 drops-kinds.ps _<_ μ-drops t) drops.Pre
 
 abbrev enter-at : ℕ → In 5 enter-kinds.ps
 enter-at t = and 5 enter-kinds.ps (is 5 enter-kinds.ps μ-enter t) enter.Pre
@@ -144,9 +131,6 @@ below-calls t = (is-many-reads.Asked, is-many-reads.Learnt, choices-below t, cho
 abbrev choices-calls : ℕ → choices-lts.Claims
 choices-calls t = (job-count-reads.Asked, job-count-reads.Learnt, dues-in-reads.Asked, dues-in-reads.Learnt, tries-below t, tries.Post)
 
-abbrev drops-calls : ℕ → drops-lts.Claims
-drops-calls t = (run-of-reads.Asked, run-of-reads.Learnt, wide-reads.Asked, wide-reads.Learnt, deadline-of-reads.Asked, deadline-of-reads.Learnt, visit-below t, visit.Post)
-
 abbrev enter-calls : ℕ → enter-lts.Claims
 enter-calls t = (note-reads.Asked, note-reads.Learnt, end-of-reads.Asked, end-of-reads.Learnt, offer-reads.Asked, offer-reads.Learnt, stops-reads.Asked, stops-reads.Learnt, place-reads.Asked, place-reads.Learnt, run-of-reads.Asked, run-of-reads.Learnt, wide-reads.Asked, wide-reads.Learnt, below-below t, below.Post)
 
@@ -154,7 +138,7 @@ abbrev learn-calls : ℕ → learn-lts.Claims
 learn-calls t = (choices-below t, choices.Post, is-whole-reads.Asked, is-whole-reads.Learnt, keep-reads.Asked, keep-reads.Learnt)
 
 abbrev tries-calls : ℕ → tries-lts.Claims
-tries-calls t = (first-cut-reads.Asked, first-cut-reads.Learnt, release-of-reads.Asked, release-of-reads.Learnt, wide-reads.Asked, wide-reads.Learnt, larger-reads.Asked, larger-reads.Learnt, lead-of-reads.Asked, lead-of-reads.Learnt, cut-at-reads.Asked, cut-at-reads.Learnt, visit-below t, visit.Post, drops-below t, drops.Post)
+tries-calls t = (first-cut-reads.Asked, first-cut-reads.Learnt, release-of-reads.Asked, release-of-reads.Learnt, wide-reads.Asked, wide-reads.Learnt, larger-reads.Asked, larger-reads.Learnt, lead-of-reads.Asked, lead-of-reads.Learnt, cut-at-reads.Asked, cut-at-reads.Learnt, visit-below t, visit.Post, drops-reads.Asked, drops-reads.Learnt)
 
 abbrev visit-calls : ℕ → visit-lts.Claims
 visit-calls t = (count-one-reads.Asked, count-one-reads.Learnt, enter-below t, enter.Post)
@@ -692,181 +676,33 @@ tries-after t c u time = omega (arith, time, tries-from t (c .before), c .loop .
 
 tries-drops-requires : (t : ℕ) → tries-lts.Need-drops-requires (tries-calls t) (tries-at t) tries.Post tries-Inv-loop tries-μ-loop
 tries-drops-requires t c κs =
-    let l = c .before .before .before in
+    let l = c .before .before in
     let s = l .before .before .before .before .before .before .before in
-    let x = s .pre .1 .0 .tabled in
-    let R = recorderOf (s .args .r .now) in
     let o = s .pre .1 .1 .1 .1 .1 .1 in
-    let g = l .loop .inv .5 (o .stop) (o .left) (o .vertex) (o .state) (o .holds .0) (o .holds .1) (o .tells) in (
-      omega arith,
-      (
-        l .loop .inv .7,
-        (
-          s .pre .1 .1 .0,
-          (
-            s .pre .1 .1 .1 .0,
-            (
-              s .pre .1 .1 .1 .1 .0,
-              (
-                l .loop .inv .6,
-                (
-                  drops-of R (x .valid) (x .narrow) _ _ _ _ _ _ _ _ _ (s .pre .1 .1 .1 .1 .1 .0) (l .before .before .before .before .first-cut .ensures) (l .loop .inv .3) (omega (arith, c .before .before .loop-test .left)),
-                  record { stop = o .stop; left = o .left; vertex = o .vertex; state = g .state; holds = (o .holds .0, tries-after t l (o .vertex) (o .holds .1)); tells = g .tells },
-                ),
-              ),
-            ),
-          ),
-        ),
-      ),
-    )
+    let g = l .loop .inv .5 (o .stop) (o .left) (o .vertex) (o .state) (o .holds .0) (o .holds .1) (o .tells) in
+    (omega (arith, s .pre .1 .1 .0, s .pre .1 .0 .tabled .valid .few-jobs), (l .loop .inv .6, (l .loop .inv .1, omega (arith, g .tells .count, g .tells .within))))
 
 tries-returns-2 : (t : ℕ) → tries-lts.Need-returns-2 (tries-calls t) (tries-at t) tries.Post tries-Inv-loop tries-μ-loop
 tries-returns-2 t c =
-    let l = c .before .before .before .before .before .before in
-    let a = l .before .before .before .before .before .before .before .args in
-    let R = recorderOf (a .r .now) in
-    let e = c .before .before .drops in (
-      (e .ensures .0 .0, (e .ensures .0 .1 .0, omega (arith, e .ensures .0 .1 .1, l .loop .inv .2))),
-      λ stop m u st stands time tells.
-          let g = l .loop .inv .5 stop m u st stands time tells in
-          going-rest R stop (a .budget) u (λ (x : ℕ). visitBy R stop m (child R u (a .j .0) x)) (l .loop .tally) _ _ g _ _ (e .ensures .1 stop m u (g .state) stands (tries-after t l u time) (g .tells)),
-    )
-
--- ---- drops
-
-abbrev drops-Inv-loop : drops-lts.InvT-loop
-drops-Inv-loop r extras memory₀ v tally₀ budget set p from j start c d s₀ memory tally s =
-    (start ≤ s) × (length tally ≡ 35) × (energyAt tally ≤ energyAt tally₀)
-    × ((stop : Bool) (m : ℕ) (u : Vertex) (st : Visited) → Stands (recorderOf r) v set from m u → earliest (recorderOf r) (u .time) (j .0) ≤ start → Tells (recorderOf r) stop budget tally₀ u st
-    → Going (recorderOf r) stop budget u (λ (x : ℕ). visitBy (recorderOf r) stop m (child (recorderOf r) u (j .0) x)) tally (upFrom s (suc (deadline (recorderOf r) (j .0)) - (s + run (recorderOf r) (j .0))))
-    (through (λ (x : ℕ). visitBy (recorderOf r) stop m (child (recorderOf r) u (j .0) x)) (upFrom start (suc (deadline (recorderOf r) (j .0)) - (start + run (recorderOf r) (j .0)))) st))
-    × (s ≤ 65536) × Lends (recorderOf r) extras memory × (length memory ≡ length memory₀)
-
-abbrev drops-μ-loop : drops-lts.MeasureT-loop
-drops-μ-loop r extras memory₀ v tally₀ budget set p from j start c d s₀ memory tally s = 65536 - s
-
--- The start at hand meets the deadline.
-drops-due : (t : ℕ) (c : drops-lts.In-loop (drops-calls t) (drops-at t) drops.Post drops-Inv-loop drops-μ-loop) → let a = c .before .before .before .before .before .before .before .before .args in let R = recorderOf (a .r .now) in
-    (c .before .loop .s + run R (a .j .0) ≤ deadline R (a .j .0)) × (c .before .loop .s < 65536)
-drops-due t c =
-    let l = c .before in
-    let run-is = l .before .before .before .wide .ensures .0 ∙ l .before .before .before .before .run-of .ensures in
-    let due-is = l .before .wide2 .ensures .0 ∙ l .before .before .deadline-of .ensures in
-    (omega (arith, c .loop-test .taken, run-is, due-is), omega (arith, c .loop-test .taken, l .before .wide2 .ensures .1))
-
-drops-tries :
-    (t : ℕ) (c : drops-lts.In-loop (drops-calls t) (drops-at t) drops.Post drops-Inv-loop drops-μ-loop) → let a = c .before .before .before .before .before .before .before .before .args in let R = recorderOf (a .r .now) in
-    (m : ℕ) (u : Vertex) → Stands R (a .v .now) (a .set) (a .from) m u → earliest R (u .time) (a .j .0) ≤ a .start
-    → Tries R (a .v .now) (energyAt (c .before .loop .tally)) (a .set) (a .from) 0 0 (a .j .0) (c .before .loop .s) m u
-drops-tries t c m u stands early =
-    let l = c .before in
-    let s = l .before .before .before .before .before .before .before in
-    let x = s .pre .1 .0 .tabled in
-    let R = recorderOf (s .args .r .now) in
-    tries-dropped R (x .valid) (x .narrow) _ _ _ _ _ _ _ _ m u (s .pre .1 .1 .1 .1 .1 .1 .0) (l .loop .inv .2) (l .loop .inv .0) stands
-    (record { job = job-in R (x .valid) _ _ _ u (stands .shows) _ (s .pre .1 .1 .0) (s .pre .1 .1 .1 .0); early = omega (arith, early, l .loop .inv .0); late = drops-due t c .0 })
-
-drops-run-of-requires : (t : ℕ) → drops-lts.Need-run-of-requires (drops-calls t) (drops-at t) drops.Post drops-Inv-loop drops-μ-loop
-drops-run-of-requires t c κs = omega (arith, c .before .before .pre .1 .1 .0, c .before .before .pre .1 .0 .tabled .valid .few-jobs)
-
-drops-deadline-of-requires : (t : ℕ) → drops-lts.Need-deadline-of-requires (drops-calls t) (drops-at t) drops.Post drops-Inv-loop drops-μ-loop
-drops-deadline-of-requires t c κs = omega (arith, c .before .before .before .before .pre .1 .1 .0, c .before .before .before .before .pre .1 .0 .tabled .valid .few-jobs)
-
-drops-loop-holds : (t : ℕ) → drops-lts.Need-loop-holds (drops-calls t) (drops-at t) drops.Post drops-Inv-loop drops-μ-loop
-drops-loop-holds t c =
-    let s = c .before .before .before .before .before .before in
-    let R = recorderOf (s .args .r .now) in (
-      le-refl _,
-      s .pre .1 .1 .1 .1 .1 .1 .1 .tells .long,
-      le-refl _,
-      (λ stop m u st stands early tells.
-          going-from R stop (s .args .budget) u (λ (x : ℕ). visitBy R stop m (child R u (s .args .j .0) x)) (s .args .tally .now) _ st tells),
-      s .pre .1 .1 .1 .1 .1 .0,
-      s .pre .1 .0,
-      refl,
-    )
-
-drops-add-loop : (t : ℕ) → drops-lts.Need-add-loop (drops-calls t) (drops-at t) drops.Post drops-Inv-loop drops-μ-loop
-drops-add-loop t c = omega (arith, c .loop .inv .4, c .before .before .before .wide .ensures .1)
-
-drops-visit-requires : (t : ℕ) → drops-lts.Need-visit-requires (drops-calls t) (drops-at t) drops.Post drops-Inv-loop drops-μ-loop
-drops-visit-requires t c κs =
-    let k = c .before .before in
-    let l = k .before in
-    let s = l .before .before .before .before .before .before .before in
-    let o = s .pre .1 .1 .1 .1 .1 .1 .1 in
-    let g = l .loop .inv .3 (o .stop) (o .left) (o .vertex) (o .state) (o .holds .0) (o .holds .1) (o .tells) in
-    (omega arith, (l .loop .inv .5, (s .pre .1 .1 .1 .1 .0, record { stop = o .stop; left = o .left; vertex = o .vertex; state = g .state; holds = drops-tries t k (o .left) (o .vertex) (o .holds .0) (o .holds .1); tells = g .tells })))
-
--- The walk with the start at hand in front.
-drops-first :
-    (t : ℕ) (c : drops-lts.In-loop (drops-calls t) (drops-at t) drops.Post drops-Inv-loop drops-μ-loop) → let l = c .before in
-    let a = l .before .before .before .before .before .before .before .args in let R = recorderOf (a .r .now) in
-    (stop : Bool) (m : ℕ) (u : Vertex) (st : Visited) → Stands R (a .v .now) (a .set) (a .from) m u → earliest R (u .time) (a .j .0) ≤ a .start → Tells R stop (a .budget) (a .tally .now) u st
-    → Going R stop (a .budget) u (λ (x : ℕ). visitBy R stop m (child R u (a .j .0) x)) (l .loop .tally)
-    (l .loop .s ∷ upFrom (l .loop .s + 1) (suc (deadline R (a .j .0)) - (l .loop .s + 1 + run R (a .j .0))))
-    (through (λ (x : ℕ). visitBy R stop m (child R u (a .j .0) x)) (upFrom (a .start) (suc (deadline R (a .j .0)) - (a .start + run R (a .j .0)))) st)
-drops-first t c stop m u st stands early tells =
-    let l = c .before in
-    let a = l .before .before .before .before .before .before .before .args in
-    going-as (recorderOf (a .r .now)) stop (a .budget) u _ (l .loop .tally) _ _ _ (up-next (l .loop .s) _ _ (drops-due t c .0)) (l .loop .inv .3 stop m u st stands early tells)
-
-drops-returns : (t : ℕ) → drops-lts.Need-returns (drops-calls t) (drops-at t) drops.Post drops-Inv-loop drops-μ-loop
-drops-returns t c =
-    let k = c .before .before .before .before .before .before in
-    let l = k .before in
-    let a = l .before .before .before .before .before .before .before .args in
-    let R = recorderOf (a .r .now) in
-    let e = c .before .before .before .visit in (
-      (e .ensures .0 .0, (e .ensures .0 .1 .0, omega (arith, e .ensures .0 .1 .1, l .loop .inv .2))),
-      λ stop m u st stands early tells.
-          let g = drops-first t k stop m u st stands early tells in
-          going-over R stop (a .budget) u (λ (x : ℕ). visitBy R stop m (child R u (a .j .0) x)) (l .loop .tally) _ _ _ g _ _ (e .ensures .1 stop m u (g .state) (drops-tries t k m u stands early) (g .tells)) (start-steady R stop _ m u (a .j .0)) (c .if1 .taken),
-    )
-
-drops-add-s : (t : ℕ) → drops-lts.Need-add-s (drops-calls t) (drops-at t) drops.Post drops-Inv-loop drops-μ-loop
-drops-add-s t c = omega (arith, drops-due t (c .before .before .before .before .before .before) .1)
-
-drops-loop-less : (t : ℕ) → drops-lts.Need-loop-less (drops-calls t) (drops-at t) drops.Post drops-Inv-loop drops-μ-loop
-drops-loop-less t c = omega (arith, drops-due t (c .before .before .before .before .before .before) .1)
-
-drops-loop-again : (t : ℕ) → drops-lts.Need-loop-again (drops-calls t) (drops-at t) drops.Post drops-Inv-loop drops-μ-loop
-drops-loop-again t c =
-    let k = c .before .before .before .before .before .before in
-    let l = k .before in
-    let a = l .before .before .before .before .before .before .before .args in
-    let R = recorderOf (a .r .now) in
-    let e = c .before .before .before .visit in (
-      omega (arith, l .loop .inv .0),
-      e .ensures .0 .1 .0,
-      omega (arith, e .ensures .0 .1 .1, l .loop .inv .2),
-      (λ stop m u st stands early tells.
-          let g = drops-first t k stop m u st stands early tells in
-          going-next R stop (a .budget) u (λ (x : ℕ). visitBy R stop m (child R u (a .j .0) x)) (l .loop .tally) _ _ _ g _ _ (e .ensures .1 stop m u (g .state) (drops-tries t k m u stands early) (g .tells)) (c .if1 .left)),
-      omega (arith, drops-due t k .1),
-      e .ensures .0 .0,
-      omega arith,
-    )
-
-drops-returns-2 : (t : ℕ) → drops-lts.Need-returns-2 (drops-calls t) (drops-at t) drops.Post drops-Inv-loop drops-μ-loop
-drops-returns-2 t c =
-    let l = c .before in
+    let e = c .drops in
+    let l = c .before .before .before in
     let s = l .before .before .before .before .before .before .before in
     let a = s .args in
+    let x = s .pre .1 .0 .tabled in
     let R = recorderOf (a .r .now) in
-    let run-is = l .before .before .before .wide .ensures .0 ∙ l .before .before .before .before .run-of .ensures in
-    let due-is = l .before .wide2 .ensures .0 ∙ l .before .before .deadline-of .ensures in (
-      (l .loop .inv .5, (l .loop .inv .1, l .loop .inv .2)),
-      λ stop m u st stands early tells.
-          going-end R stop (a .budget) u (λ (x : ℕ). visitBy R stop m (child R u (a .j .0) x)) (l .loop .tally) _
-          (going-as R stop (a .budget) u _ (l .loop .tally) _ _ _ (up-done (l .loop .s) _ _ (omega (arith, c .loop-test .left, run-is, due-is))) (l .loop .inv .3 stop m u st stands early tells)),
+    let kept = added-kept R false (a .budget) _ _ _ _ (l .loop .inv .1) (e .ensures) in (
+      (l .loop .inv .7, (kept .0, omega (arith, kept .1, l .loop .inv .2))),
+      λ stop m u st stands time tells.
+          let g = l .loop .inv .5 stop m u st stands time tells in
+          going-rest R stop (a .budget) u (λ (y : ℕ). visitBy R stop m (child R u (a .j .0) y)) (l .loop .tally) _ _ g _ _
+          (added-comes R stop (a .budget) _ _ _ _ (e .ensures) u (g .state) _
+          (starts-dropped R (x .valid) (x .narrow) _ _ _ m u stands _ (job-in R (x .valid) _ _ _ u (stands .shows) _ (s .pre .1 .1 .0) (s .pre .1 .1 .1 .0)) _ (s .pre .1 .1 .1 .1 .1 .0) _ (l .before .before .before .before .first-cut .ensures)
+          stop (a .budget) _ _ _ (g .state) (l .loop .inv .3) (omega (arith, c .before .before .loop-test .left)) (tries-after t l u time) (g .tells))
+          (g .tells)),
     )
 
 tries-same-length-2 : (t : ℕ) → tries-lts.Need-same-length-2 (tries-calls t) (tries-at t) tries.Post tries-Inv-loop tries-μ-loop
-tries-same-length-2 t c = omega (arith, c .before .before .before .before .before .before .loop .inv .8)
-
-drops-same-length-2 : (t : ℕ) → drops-lts.Need-same-length-2 (drops-calls t) (drops-at t) drops.Post drops-Inv-loop drops-μ-loop
-drops-same-length-2 t c = c .before .loop .inv .6
+tries-same-length-2 t c = omega (arith, c .before .before .before .loop .inv .8)
 
 visit-element-copy-out-if1 : (t : ℕ) → visit-lts.Need-element-copy-out-if1 (visit-calls t) (visit-at t) visit.Post
 visit-element-copy-out-if1 t c = omega (arith, c .before .before .pre .1 .1 .1 .tells .long)
@@ -965,9 +801,9 @@ visit-returns-4 t c =
           (tells-more R (x .valid) (x .narrow) _ _ _ _ _ _ _ _ _ _ _ _ _ tries tells (visit-less t b) _ (k .count-one .ensures))),
     )
 
-pub +below+choices+drops+enter+learn+tries+visit-spec : {M : Type 1} → statement M
-+below+choices+drops+enter+learn+tries+visit-spec =
-    close μ-below μ-choices μ-drops μ-enter μ-learn μ-tries μ-visit (λ t. below-lts.spec (
+pub +below+choices+enter+learn+tries+visit-spec : {M : Type 1} → statement M
++below+choices+enter+learn+tries+visit-spec =
+    close μ-below μ-choices μ-enter μ-learn μ-tries μ-visit (λ t. below-lts.spec (
       is-many-reads.Asked,
       is-many-reads.Learnt,
       choices-below t,
@@ -1020,25 +856,6 @@ pub +below+choices+drops+enter+learn+tries+visit-spec : {M : Type 1} → stateme
     (choices-loop-again t)
     (choices-same-length-2 t)
     (choices-returns-2 t))
-    (λ t. drops-lts.spec (drops-calls t)
-    (drops-at t)
-    drops.Post
-    drops-Inv-loop
-    drops-μ-loop
-    (drops-run-of-requires t)
-    (λ c κs. search needs)
-    (drops-deadline-of-requires t)
-    (λ c κs. search needs)
-    (drops-loop-holds t)
-    (drops-add-loop t)
-    (drops-visit-requires t)
-    (λ c. omega arith)
-    (drops-returns t)
-    (drops-add-s t)
-    (drops-loop-less t)
-    (drops-loop-again t)
-    (drops-same-length-2 t)
-    (drops-returns-2 t))
     (λ t. enter-lts.spec (
       note-reads.Asked,
       note-reads.Learnt,

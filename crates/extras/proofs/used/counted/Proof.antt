@@ -1,0 +1,14 @@
+-- `extras::used::counted` meets its contract.
+use native.Mathlib.Omega.{arith}
+use borrow.Author.Needs.{needs}
+use Rattle.extras.proofs.used.counted.Statement.{statement}
+use Rattle.extras.proofs.used.counted.Tie as tie
+
+returns : tie.Need-returns
+returns c = rw (c .if1 .taken)
+
+returns-2 : tie.Need-returns-2
+returns-2 c = rw (c .if1 .left) (omega arith)
+
+pub counted-spec : {M : Type 1} → statement M
+counted-spec = tie.close (tie.spec (λ c. search needs) returns returns-2)
