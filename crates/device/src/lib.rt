@@ -2,8 +2,10 @@
 mod energy;
 mod writer;
 
+pub use crate::energy::Trip;
 pub use crate::energy::energy_of;
 pub use crate::energy::gap_energy;
+pub use crate::energy::gap_trip;
 pub use crate::writer::write_row;
 
 // A device, of whatever kind: the ticks of a move down and of one up, by one level; the powers at work, going down and coming up; and the powers of its sleep

@@ -1,4 +1,5 @@
 pub mod Bounds
+pub mod Deepest
 pub mod Laid
 pub mod Listed
 pub mod Shaping

@@ -4,21 +4,47 @@ use crate::shape::shape_with;
 use crate::used::lay_jobs;
 use base::wide;
 use device::Device;
-use device::gap_energy;
+use device::gap_trip;
 use flat::Flat;
 use flat::deep_power;
 use flat::device_count;
 use flat::device_of;
 use flat::horizon_of;
 ghost use mathlib.Core.Path.{_≡_};
+ghost use mathlib.Core.Bool.{true};
 ghost use Prim.Native.Nat.{suc, _+_, _*_, _<_, _≤_};
 ghost use lib.ListN.{length};
 ghost use Rattle.device.specs.Row.{Sound, deep};
+ghost use Rattle.keys.specs.inside.Keys.{extra};
 ghost use Rattle.schedule.specs.Quantities.{Valid, device};
 ghost use Rattle.flat.specs.inside.Flat.{recorderOf};
-ghost use Rattle.extras.specs.inside.Shapes.{shapeOf};
+ghost use Rattle.extras.specs.inside.Shapes.{Stays, shapeOf};
 ghost use Rattle.extras.specs.inside.Tabled.{Tabled};
 ghost use Rattle.extras.specs.inside.Parts.{LaidGaps, LaidDevice};
+
+// A gap's extra, and whether the gap is slept through at the deepest level: then every longer one is, and has the same extra.
+struct Gap {
+    extra: u32,
+    deepest: bool,
+}
+
+// The gap of g ticks, where `last` is the extra of the one before it and `deepest` whether that one is slept through at the deepest level.
+fn next_gap(d: Device, sleep: u32, g: u16, last: u32, deepest: bool) -> Gap
+    requires { ⌜ Sound d × ((sleep ≡ deep d) × ((g ≤ 4096) × (deepest ≡ true → Stays d g last))) ⌝ }
+    ensures { λ x. ⌜ (x .extra ≡ extra d g) × (x .deepest ≡ true → Stays d (g + 1) (x .extra)) ⌝ }
+{
+    if deepest {
+        return Gap {
+            extra: last,
+            deepest: true,
+        };
+    }
+    let trip = gap_trip(d, g);
+    Gap {
+        extra: trip.cost - sleep * wide(g),
+        deepest: trip.level == d.levels as usize,
+    }
+}
 
 // The extras of device k, which is d and has the power `sleep` in its deepest sleep, up to h ticks.
 fn lay_gaps(d: Device, sleep: u32, k: usize, h: u16, extras: &mut [u32]) -> Shape
@@ -32,12 +58,14 @@ fn lay_gaps(d: Device, sleep: u32, k: usize, h: u16, extras: &mut [u32]) -> Shap
         foot: 0,
     };
     let mut last: u32 = 0;
+    let mut deepest = false;
     let mut g: u16 = 0;
     while g <= h {
-        let extra = gap_energy(d, g) - sleep * wide(g);
-        extras[176 + 8 * g as usize + k] = extra;
-        shape = shape_with(shape, wide(g), last, extra);
-        last = extra;
+        let gap = next_gap(d, sleep, g, last, deepest);
+        extras[176 + 8 * g as usize + k] = gap.extra;
+        shape = shape_with(shape, wide(g), last, gap.extra);
+        last = gap.extra;
+        deepest = gap.deepest;
         g += 1;
     }
     shape

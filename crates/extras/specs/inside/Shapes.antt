@@ -1,4 +1,5 @@
 -- How the extras of a device run with the length of its gaps: cap, steepest rise, steepest fall and foot, read off gap by gap.
+use mathlib.Core.Path.{_≡_}
 use mathlib.Core.Bool.{cond}
 use Prim.Native.Nat.{ℕ, zero, suc, _-_, _≤_, _<_, max}
 use lib.Dec.{ltb}
@@ -10,6 +11,10 @@ use Rattle.extras.specs.declared.shape.Shape.{Shape}
 -- From n ticks on, and up to h, one tick more never lowers the extra.
 abbrev pub Climbs : Device → ℕ → ℕ → Type 0
 Climbs d h n = (g : ℕ) → n ≤ g → g < h → extra d g ≤ extra d (suc g)
+
+-- From n ticks on every gap has the extra x.
+abbrev pub Stays : Device → ℕ → ℕ → Type 0
+Stays d n x = (g : ℕ) → n ≤ g → extra d g ≡ x
 
 -- What a shape says of the gaps of up to h ticks, none of which has more than `most`.
 pub record Shaped (d : Device) (most h : ℕ) (s : Shape) : Type 0 where
