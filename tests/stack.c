@@ -24,6 +24,7 @@ static void check(void) { floe_check(file, size, result, sizeof result); }
 static void sizes(void) { floe_sizes(file, size, out, sizeof out, result, sizeof result); }
 static void fault(void) { floe_fault(file, size - 1, out, sizeof out); }
 static void search(void) { floe_search(file, size, BUDGET, out, sizeof starts, result, sizeof result); }
+static void search_in(void) { floe_search_in(file, size, BUDGET, memory, WORDS, out, sizeof starts, result, sizeof result); }
 static void least(void) { floe_least(file, size, BUDGET, memory, WORDS, out, sizeof starts, result, sizeof result); }
 static void first(void) { floe_first(file, size, out, sizeof starts, result, sizeof result); }
 static void rows(void) { floe_rows(file, size, starts, given, out, sizeof out, result, sizeof result); }
@@ -52,7 +53,7 @@ static void step(void) { door_step(file, size, starts, given, out, sizeof out, r
 static const struct {
     const char *name;
     void (*call)(void);
-} CALLS[] = {CALL(nothing), CALL(check), CALL(sizes), CALL(fault), CALL(search), CALL(least), CALL(first), CALL(rows), CALL(verdict), CALL(margins), {"write", write_}, {"door_fault", fault_of_tables}, {"tables", tables_},
+} CALLS[] = {CALL(nothing), CALL(check), CALL(sizes), CALL(fault), CALL(search), CALL(search_in), CALL(least), CALL(first), CALL(rows), CALL(verdict), CALL(margins), {"write", write_}, {"door_fault", fault_of_tables}, {"tables", tables_},
              CALL(build), CALL(order_fault), CALL(possible), CALL(mend), CALL(import_devices), CALL(devices_fault), CALL(export_devices), CALL(import_jobs), CALL(jobs_fault), CALL(export_jobs), CALL(export_plan), CALL(step)};
 
 static void *thread(void *call) {

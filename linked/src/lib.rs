@@ -56,6 +56,16 @@ mod c {
             r: *mut u8,
             r_len: usize,
         ) -> u8;
+        #[cfg(feature = "before_any")]
+        pub fn before_any(
+            f: *const u8,
+            f_len: usize,
+            budget: u32,
+            s: *mut u8,
+            s_len: usize,
+            r: *mut u8,
+            r_len: usize,
+        ) -> u8;
         pub fn floe_first(
             f: *const u8,
             f_len: usize,
@@ -283,6 +293,22 @@ pub fn search_in(
 pub fn before_search(file: &[u8], budget: u32, starts: &mut [u8], result: &mut [u8]) -> u8 {
     unsafe {
         c::before_search(
+            file.as_ptr(),
+            file.len(),
+            budget,
+            starts.as_mut_ptr(),
+            starts.len(),
+            result.as_mut_ptr(),
+            result.len(),
+        )
+    }
+}
+
+/// Whether there is any plan, by an earlier commit.
+#[cfg(feature = "before_any")]
+pub fn before_any(file: &[u8], budget: u32, starts: &mut [u8], result: &mut [u8]) -> u8 {
+    unsafe {
+        c::before_any(
             file.as_ptr(),
             file.len(),
             budget,

@@ -19,39 +19,39 @@ use Rattle.extras.proofs.Uses.{used-most, used-before}
 pub record ListedTo (R : Recorder) (j n : ℕ) (l₀ l : List ℕ) : Type 0 where
   pub long : length l ≡ length l₀
   pub at : (k : ℕ) → k < n → uses R k j ≡ true → usedAt l j (usedBelow R j k) ≡ k
-  pub kept : (i : ℕ) → (48 + 8 * j ≤ i → i < 56 + 8 * j → ⊥) → getD l i 0 ≡ getD l₀ i 0
+  pub kept : (i : ℕ) → (56 + 8 * j ≤ i → i < 64 + 8 * j → ⊥) → getD l i 0 ≡ getD l₀ i 0
 
 module _ {R : Recorder} {j : ℕ} {l₀ : List ℕ} where
   pub listed-none : ListedTo R j 0 l₀ l₀
   listed-none = record { long = refl; at = λ k h u. absurd (omega arith); kept = λ i h. refl }
 
-  module _ (job : j < 16) (room : 184 ≤ length l₀) where
-    pub listed-next : {n i : ℕ} {l : List ℕ} → ListedTo R j n l₀ l → n < 8 → i ≡ usedBelow R j n → ListedTo R j (n + 1) l₀ (set l (48 + 8 * j + i) n)
+  module _ (job : j < 16) (room : 192 ≤ length l₀) where
+    pub listed-next : {n i : ℕ} {l : List ℕ} → ListedTo R j n l₀ l → n < 8 → i ≡ usedBelow R j n → ListedTo R j (n + 1) l₀ (set l (56 + 8 * j + i) n)
     unfolding usedAt
     listed-next {n} {i} {l} b few e = record {
-      long = length-set l (48 + 8 * j + i) n ∙ b .long;
+      long = length-set l (56 + 8 * j + i) n ∙ b .long;
       at =
           λ k h u. ⊎-elim (λ (q : k ≡ n). rw (q, ← e) here)
-          (λ q. other (48 + 8 * j + usedBelow R j k) (λ p. absurd (omega (arith, e, used-before R j n k q u))) ∙ b .at k q u)
+          (λ q. other (56 + 8 * j + usedBelow R j k) (λ p. absurd (omega (arith, e, used-before R j n k q u))) ∙ b .at k q u)
           (eq-or-lt-of-le {n = k} {m = n} (omega arith));
       kept = λ p h. other p (λ q. h (omega arith) (omega (arith, e, used-most R j n))) ∙ b .kept p h;
     }
       where
-        here : getD (set l (48 + 8 * j + i) n) (48 + 8 * j + i) 0 ≡ n
-        here = getD-set-same l (48 + 8 * j + i) n 0 (omega (arith, b .long, e, used-most R j n))
+        here : getD (set l (56 + 8 * j + i) n) (56 + 8 * j + i) 0 ≡ n
+        here = getD-set-same l (56 + 8 * j + i) n 0 (omega (arith, b .long, e, used-most R j n))
 
-        other : (p : ℕ) → (p ≡ 48 + 8 * j + i → ⊥) → getD (set l (48 + 8 * j + i) n) p 0 ≡ getD l p 0
-        other p h = getD-set-other l (48 + 8 * j + i) p n 0 h
+        other : (p : ℕ) → (p ≡ 56 + 8 * j + i → ⊥) → getD (set l (56 + 8 * j + i) n) p 0 ≡ getD l p 0
+        other p h = getD-set-other l (56 + 8 * j + i) p n 0 h
 
-    pub listed-all : {n i : ℕ} {l : List ℕ} → ListedTo R j n l₀ l → n ≡ R .devices .count → n ≤ 8 → i ≡ usedBelow R j n → LaidJob R j l₀ (set l (32 + j) i)
+    pub listed-all : {n i : ℕ} {l : List ℕ} → ListedTo R j n l₀ l → n ≡ R .devices .count → n ≤ 8 → i ≡ usedBelow R j n → LaidJob R j l₀ (set l (40 + j) i)
     unfolding usedAt usedCountAt
     listed-all {n} {i} {l} b all few e = record {
-      long = length-set l (32 + j) i ∙ b .long;
+      long = length-set l (40 + j) i ∙ b .long;
       lists = record {
-        count = getD-set-same l (32 + j) i 0 (omega (arith, b .long)) ∙ e ∙ ap (usedBelow R j) all;
-        at = λ k h u. getD-set-other l (32 + j) (48 + 8 * j + usedBelow R j k) i 0 (λ q. absurd (omega arith)) ∙ b .at k (omega (arith, all)) u;
+        count = getD-set-same l (40 + j) i 0 (omega (arith, b .long)) ∙ e ∙ ap (usedBelow R j) all;
+        at = λ k h u. getD-set-other l (40 + j) (56 + 8 * j + usedBelow R j k) i 0 (λ q. absurd (omega arith)) ∙ b .at k (omega (arith, all)) u;
       };
-      kept = λ p ne h. getD-set-other l (32 + j) p i 0 ne ∙ b .kept p h;
+      kept = λ p ne h. getD-set-other l (40 + j) p i 0 ne ∙ b .kept p h;
     }
 
 -- ---- the first n jobs
@@ -70,9 +70,9 @@ module _ {R : Recorder} {l₀ : List ℕ} where
     where
       still : (j : ℕ) → j < n → Lists R j l → Lists R j l′
       still j less t = record {
-        count = w .kept (32 + j) (λ q. absurd (omega arith)) (λ p q. absurd (omega arith)) ∙ t .count;
+        count = w .kept (40 + j) (λ q. absurd (omega arith)) (λ p q. absurd (omega arith)) ∙ t .count;
         at =
             λ k h u.
             let m = used-most R j k in
-            w .kept (48 + 8 * j + usedBelow R j k) (λ q. absurd (omega arith)) (λ p q. absurd (omega (arith, m, few))) ∙ t .at k h u;
+            w .kept (56 + 8 * j + usedBelow R j k) (λ q. absurd (omega arith)) (λ p q. absurd (omega (arith, m, few))) ∙ t .at k h u;
       }

@@ -1,4 +1,10 @@
-// The table filled, device by device: each gap by what it costs, and with them the device's cap, rise, fall and foot; then the devices of each job.
+// The table filled, device by device: each gap by what it costs, and with them the device's cap, rise, fall, foot and low; then the devices of each job.
+use crate::EXTRAS;
+use crate::FALLS;
+use crate::FEET;
+use crate::LOWS;
+use crate::RISES;
+use crate::shape::NO_FALL;
 use crate::shape::Shape;
 use crate::shape::shape_with;
 use crate::used::lay_jobs;
@@ -19,7 +25,7 @@ ghost use Rattle.keys.specs.inside.Keys.{extra};
 ghost use Rattle.schedule.specs.Quantities.{Valid, device};
 ghost use Rattle.flat.specs.inside.Flat.{recorderOf};
 ghost use Rattle.extras.specs.inside.Shapes.{Stays, shapeOf};
-ghost use Rattle.extras.specs.inside.Tabled.{Tabled};
+ghost use Rattle.extras.specs.inside.Tabled.{Room, Tabled};
 ghost use Rattle.extras.specs.inside.Parts.{LaidGaps, LaidDevice};
 
 // A gap's extra, and whether the gap is slept through at the deepest level: then every longer one is, and has the same extra.
@@ -48,7 +54,7 @@ fn next_gap(d: Device, sleep: u32, g: u16, last: u32, deepest: bool) -> Gap
 
 // The extras of device k, which is d and has the power `sleep` in its deepest sleep, up to h ticks.
 fn lay_gaps(d: Device, sleep: u32, k: usize, h: u16, extras: &mut [u32]) -> Shape
-    requires { ⌜ Sound d × ((sleep ≡ deep d) × ((k < 8) × ((h ≤ 4096) × (184 + 8 * h ≤ length (now extras))))) ⌝ }
+    requires { ⌜ Sound d × ((sleep ≡ deep d) × ((k < 8) × ((h ≤ 4096) × (192 + 8 * h ≤ length (now extras))))) ⌝ }
     ensures { λ s. ⌜ LaidGaps d k h (now (extras .entry)) (now (extras .exit)) × (s ≡ shapeOf d (suc h)) ⌝ }
 {
     let mut shape = Shape {
@@ -56,13 +62,14 @@ fn lay_gaps(d: Device, sleep: u32, k: usize, h: u16, extras: &mut [u32]) -> Shap
         rise: 0,
         fall: 0,
         foot: 0,
+        low: NO_FALL,
     };
     let mut last: u32 = 0;
     let mut deepest = false;
     let mut g: u16 = 0;
     while g <= h {
         let gap = next_gap(d, sleep, g, last, deepest);
-        extras[176 + 8 * g as usize + k] = gap.extra;
+        extras[EXTRAS + 8 * g as usize + k] = gap.extra;
         shape = shape_with(shape, wide(g), last, gap.extra);
         last = gap.extra;
         deepest = gap.deepest;
@@ -73,7 +80,7 @@ fn lay_gaps(d: Device, sleep: u32, k: usize, h: u16, extras: &mut [u32]) -> Shap
 
 // All of device k.
 fn lay_device(r: &Flat, k: usize, extras: &mut [u32])
-    requires { ⌜ Valid (recorderOf (now r)) × ((k < recorderOf (now r) .devices .count) × (184 + 8 * recorderOf (now r) .horizon ≤ length (now extras))) ⌝ }
+    requires { ⌜ Valid (recorderOf (now r)) × ((k < recorderOf (now r) .devices .count) × (192 + 8 * recorderOf (now r) .horizon ≤ length (now extras))) ⌝ }
     ensures { λ _. ⌜ LaidDevice (device (recorderOf (now (r .entry))) k) k (recorderOf (now (r .entry)) .horizon) (now (extras .entry)) (now (extras .exit)) ⌝ }
 {
     let shape = lay_gaps(
@@ -84,13 +91,14 @@ fn lay_device(r: &Flat, k: usize, extras: &mut [u32])
         extras,
     );
     extras[k] = shape.cap;
-    extras[8 + k] = shape.rise;
-    extras[16 + k] = shape.fall;
-    extras[24 + k] = shape.foot;
+    extras[RISES + k] = shape.rise;
+    extras[FALLS + k] = shape.fall;
+    extras[FEET + k] = shape.foot;
+    extras[LOWS + k] = shape.low;
 }
 
 pub fn lay_extras(r: &Flat, extras: &mut [u32])
-    requires { ⌜ Valid (recorderOf (now r)) × (184 + 8 * recorderOf (now r) .horizon ≤ length (now extras)) ⌝ }
+    requires { ⌜ Valid (recorderOf (now r)) × Room (recorderOf (now r)) (now extras) ⌝ }
     ensures { λ _. ⌜ Tabled (recorderOf (now (r .entry))) (now (extras .exit)) ⌝ }
 {
     let m = device_count(r);

@@ -1,25 +1,43 @@
 // What each gap of each device costs above the deepest sleep, worked out once before a search; with it from which length on that stays the same, from which on it no
-// longer falls, and by how much one tick more changes it at most; and which devices each job uses.
+// longer falls and to what it falls, and by how much one tick more changes it at most; and which devices each job uses.
+use base::smaller;
 ghost use mathlib.Core.Path.{_≡_};
 ghost use Prim.Native.Nat.{_+_, _*_, _<_, _≤_};
 ghost use lib.ListN.{length};
-ghost use Rattle.extras.specs.inside.Tabled.{extraAt, capAt, riseAt, fallAt, footAt};
+ghost use Rattle.extras.specs.inside.Tabled.{extraAt, capAt, riseAt, fallAt, leastFrom};
 ghost use Rattle.extras.specs.inside.Uses.{usedCountAt, usedAt};
 
 pub mod laying; // laying.rt: the table filled
 mod used; // used.rt: the devices of each job
-mod shape; // shape.rt: cap, rise, fall and foot, gap by gap
+mod shape; // shape.rt: cap, rise, fall, foot and low, gap by gap
 
-// The table is lent as rows of eight numbers, one for each device: the caps, the steepest rises, the steepest falls, the feet; then two rows for how many devices
-// each of sixteen jobs uses, and a row a job for which they are; then the extras of the gaps of no tick, of one tick and so on. So no place depends on the horizon,
-// and 184 + 8 * H numbers are enough.
+// The table is lent as rows of eight numbers, one for each device. The caps stand first; then, each from its place on, the steepest rises,
+const RISES: usize = 8;
+
+// the steepest falls,
+const FALLS: usize = 16;
+
+// the feet,
+const FEET: usize = 24;
+
+// what falls lead to at least,
+const LOWS: usize = 32;
+
+// how many devices each of sixteen jobs uses,
+const COUNTS: usize = 40;
+
+// which they are, in a row a job,
+const LISTS: usize = 56;
+
+// and the extras of the gaps of no tick, of one tick and so on. So no place depends on the horizon: 192 + 8 * H numbers are enough, or 192 where there is no device.
+const EXTRAS: usize = 184;
 
 // The extra of a gap of g ticks.
 pub fn extra_of(extras: &[u32], k: usize, g: u32) -> u32
-    requires { ⌜ (k < 8) × ((g ≤ 4096) × (184 + 8 * g ≤ length (now extras))) ⌝ }
+    requires { ⌜ (k < 8) × ((g ≤ 4096) × (192 + 8 * g ≤ length (now extras))) ⌝ }
     ensures { λ x. ⌜ x ≡ extraAt (now (extras .entry)) k g ⌝ }
 {
-    extras[176 + 8 * g as usize + k]
+    extras[EXTRAS + 8 * g as usize + k]
 }
 
 // From which length on the extra stays the same.
@@ -35,7 +53,7 @@ pub fn rise_of(extras: &[u32], k: usize) -> u32
     requires { ⌜ (k < 8) × (40 ≤ length (now extras)) ⌝ }
     ensures { λ x. ⌜ x ≡ riseAt (now (extras .entry)) k ⌝ }
 {
-    extras[8 + k]
+    extras[RISES + k]
 }
 
 // By how much it lowers it at most.
@@ -43,30 +61,34 @@ pub fn fall_of(extras: &[u32], k: usize) -> u32
     requires { ⌜ (k < 8) × (40 ≤ length (now extras)) ⌝ }
     ensures { λ x. ⌜ x ≡ fallAt (now (extras .entry)) k ⌝ }
 {
-    extras[16 + k]
+    extras[FALLS + k]
 }
 
-// From which length on the extra no longer falls.
-pub fn foot_of(extras: &[u32], k: usize) -> u32
-    requires { ⌜ (k < 8) × (40 ≤ length (now extras)) ⌝ }
-    ensures { λ x. ⌜ x ≡ footAt (now (extras .entry)) k ⌝ }
+// What no gap of g ticks or more has less than: from the foot on its own extra, and before it no more than what a fall leads to.
+pub fn least_from(extras: &[u32], k: usize, g: u32) -> u32
+    requires { ⌜ (k < 8) × ((g ≤ 4096) × (192 + 8 * g ≤ length (now extras))) ⌝ }
+    ensures { λ x. ⌜ x ≡ leastFrom (now (extras .entry)) k g ⌝ }
 {
-    extras[24 + k]
+    let extra = extra_of(extras, k, g);
+    if g < extras[FEET + k] {
+        return smaller(extra, extras[LOWS + k]);
+    }
+    extra
 }
 
 // How many devices job j uses.
 pub fn used_count(extras: &[u32], j: usize) -> u32
-    requires { ⌜ (j < 16) × (184 ≤ length (now extras)) ⌝ }
+    requires { ⌜ (j < 16) × (192 ≤ length (now extras)) ⌝ }
     ensures { λ x. ⌜ x ≡ usedCountAt (now (extras .entry)) j ⌝ }
 {
-    extras[32 + j]
+    extras[COUNTS + j]
 }
 
 // The one of them before which there are i.
 pub fn used_at(extras: &[u32], j: usize, i: u32) -> usize
-    requires { ⌜ (j < 16) × ((i < 8) × (184 ≤ length (now extras))) ⌝ }
+    requires { ⌜ (j < 16) × ((i < 8) × (192 ≤ length (now extras))) ⌝ }
     ensures { λ x. ⌜ x ≡ usedAt (now (extras .entry)) j i ⌝ }
 {
-    let device = &extras[48 + 8 * j + i as usize];
+    let device = &extras[LISTS + 8 * j + i as usize];
     *device as usize
 }

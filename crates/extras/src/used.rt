@@ -1,4 +1,6 @@
 // The devices that each job uses, in a list a job: a start asks no device that its job does not use.
+use crate::COUNTS;
+use crate::LISTS;
 use flat::Flat;
 use flat::device_count;
 use flat::is_used;
@@ -20,23 +22,23 @@ fn counted(n: u32, used: bool) -> u32
 
 // The devices of job j. Every device is written down, and the next one in its place unless the job uses it.
 fn lay_job(r: &Flat, j: usize, extras: &mut [u32])
-    requires { ⌜ Valid (recorderOf (now r)) × ((j < 16) × (184 ≤ length (now extras))) ⌝ }
+    requires { ⌜ Valid (recorderOf (now r)) × ((j < 16) × (192 ≤ length (now extras))) ⌝ }
     ensures { λ _. ⌜ LaidJob (recorderOf (now (r .entry))) j (now (extras .entry)) (now (extras .exit)) ⌝ }
 {
     let m = device_count(r);
     let mut n: u32 = 0;
     let mut k: u32 = 0;
     while (k as usize) < m {
-        extras[48 + 8 * j + n as usize] = k;
+        extras[LISTS + 8 * j + n as usize] = k;
         n = counted(n, is_used(r, k as usize, j));
         k += 1;
     }
-    extras[32 + j] = n;
+    extras[COUNTS + j] = n;
 }
 
 // Those of all jobs.
 pub fn lay_jobs(r: &Flat, extras: &mut [u32])
-    requires { ⌜ Valid (recorderOf (now r)) × (184 ≤ length (now extras)) ⌝ }
+    requires { ⌜ Valid (recorderOf (now r)) × (192 ≤ length (now extras)) ⌝ }
     ensures { λ _. ⌜ LaidJobs (recorderOf (now (r .entry))) 16 (now (extras .entry)) (now (extras .exit)) ⌝ }
 {
     let mut j: usize = 0;

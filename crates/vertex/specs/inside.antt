@@ -1,3 +1,4 @@
 pub mod Sums
 pub mod Lasts
 pub mod Shown
+pub mod Gaps

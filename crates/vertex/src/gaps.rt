@@ -1,8 +1,8 @@
-// The extras that a job adds before it starts, and those that the end adds; from where on no later start adds less; and the floor with nothing added.
+// The extras that a job adds before it starts, and those that the end adds; what no later start adds less than; and the floor with nothing added.
 use crate::cells::Cells;
 use base::wide;
 use extras::extra_of;
-use extras::foot_of;
+use extras::least_from;
 use extras::used_at;
 use extras::used_count;
 use flat::Flat;
@@ -14,15 +14,15 @@ use flat::is_used;
 use flat::run_of;
 use flat::work_power;
 ghost use mathlib.Core.Path.{_≡_};
-ghost use mathlib.Core.Bool.{true, false, cond};
+ghost use mathlib.Core.Bool.{cond};
 ghost use Prim.Native.Nat.{ℕ, _+_, _-_, _*_, _<_, _≤_};
-ghost use lib.Dec.{ltb};
 ghost use lib.ListN.{length};
 ghost use Rattle.base.specs.Sums.{sum};
 ghost use Rattle.schedule.specs.Quantities.{device, run, uses};
 ghost use Rattle.flat.specs.inside.Flat.{recorderOf};
 ghost use Rattle.keys.specs.inside.Keys.{extra};
-ghost use Rattle.extras.specs.inside.Tabled.{Tabled, extraAt, footAt};
+ghost use Rattle.extras.specs.inside.Tabled.{Tabled};
+ghost use Rattle.vertex.specs.inside.Gaps.{gapAt, gapsBy};
 ghost use Rattle.vertex.specs.inside.Shown.{unused, aheadAt, leadsBy, closesBy, endsBy, idleFloor, Ordered};
 
 // Whether a device whose last use ended at `end` has none yet in a round. (A use ends after tick 0.)
@@ -39,22 +39,34 @@ fn chosen(test: bool, x: u32, y: u32) -> u32
     if test { x } else { y }
 }
 
-// What device k pays for the gap before a job that uses it and starts at s. The table is read before the test, so that no jump hangs on it.
-fn lead_with(extras: &[u32], round: bool, k: usize, end: u32, s: u32) -> u32
-    requires { ⌜ (k < 8) × ((end ≤ s) × ((s ≤ 4096) × (184 + 8 * s ≤ length (now extras)))) ⌝ }
-    ensures { λ x. ⌜ x ≡ cond (unused round end) 0 (extraAt (now (extras .entry)) k (s - end)) ⌝ }
+// The extra of a gap of g ticks; or, if later starts count too, what neither it nor a longer one has less than.
+fn gap_at(extras: &[u32], later: bool, k: usize, g: u32) -> u32
+    requires { ⌜ (k < 8) × ((g ≤ 4096) × (192 + 8 * g ≤ length (now extras))) ⌝ }
+    ensures { λ x. ⌜ x ≡ gapAt (now (extras .entry)) later k g ⌝ }
 {
-    let lead = extra_of(extras, k, s - end);
+    if later {
+        return least_from(extras, k, g);
+    }
+    extra_of(extras, k, g)
+}
+
+// What device k pays for the gap before a job that uses it and starts at s; or at least, where it starts at s or later. The table is read before the test, so that
+// no jump hangs on it.
+fn gap_with(extras: &[u32], later: bool, round: bool, k: usize, end: u32, s: u32) -> u32
+    requires { ⌜ (k < 8) × ((end ≤ s) × ((s ≤ 4096) × (192 + 8 * s ≤ length (now extras)))) ⌝ }
+    ensures { λ x. ⌜ x ≡ cond (unused round end) 0 (gapAt (now (extras .entry)) later k (s - end)) ⌝ }
+{
+    let gap = gap_at(extras, later, k, s - end);
     if is_unused(round, end) {
         return 0;
     }
-    lead
+    gap
 }
 
-// What all devices pay for the gaps before job j, where it starts at s. Those that it does not use pay nothing.
-pub fn lead_of(r: &Flat, extras: &[u32], v: &Cells, j: usize, s: u32) -> u32
+// What all devices pay for the gaps before job j. Those that it does not use pay nothing.
+fn gaps_of(r: &Flat, extras: &[u32], v: &Cells, j: usize, s: u32, later: bool) -> u32
     requires { ⌜ Tabled (recorderOf (now r)) (now extras) × ((j < 16) × Ordered (recorderOf (now r)) (now v) s) ⌝ }
-    ensures { λ x. ⌜ (x ≡ leadsBy (recorderOf (now (r .entry))) (now (v .entry)) j s) × (x ≤ 2147450880) ⌝ }
+    ensures { λ x. ⌜ (x ≡ gapsBy (recorderOf (now (r .entry))) (now (extras .entry)) (now (v .entry)) later j s) × (x ≤ 2147450880) ⌝ }
 {
     let round = is_round(r);
     let n = used_count(extras, j);
@@ -62,10 +74,26 @@ pub fn lead_of(r: &Flat, extras: &[u32], v: &Cells, j: usize, s: u32) -> u32
     let mut i: u32 = 0;
     while i < n {
         let k = used_at(extras, j, i);
-        sum += lead_with(extras, round, k, v[k], s);
+        sum += gap_with(extras, later, round, k, v[k], s);
         i += 1;
     }
     sum
+}
+
+// What they pay where it starts at s.
+pub fn lead_of(r: &Flat, extras: &[u32], v: &Cells, j: usize, s: u32) -> u32
+    requires { ⌜ Tabled (recorderOf (now r)) (now extras) × ((j < 16) × Ordered (recorderOf (now r)) (now v) s) ⌝ }
+    ensures { λ x. ⌜ (x ≡ leadsBy (recorderOf (now (r .entry))) (now (v .entry)) j s) × (x ≤ 2147450880) ⌝ }
+{
+    gaps_of(r, extras, v, j, s, false)
+}
+
+// What they pay at least where it starts at s or later.
+pub fn least_of(r: &Flat, extras: &[u32], v: &Cells, j: usize, s: u32) -> u32
+    requires { ⌜ Tabled (recorderOf (now r)) (now extras) × ((j < 16) × Ordered (recorderOf (now r)) (now v) s) ⌝ }
+    ensures { λ x. ⌜ ((t : ℕ) → s ≤ t → t ≤ recorderOf (now (r .entry)) .horizon → x ≤ leadsBy (recorderOf (now (r .entry))) (now (v .entry)) j t) × (x ≤ 2147450880) ⌝ }
+{
+    gaps_of(r, extras, v, j, s, true)
 }
 
 // What device k pays for the gap that closes its round.
@@ -135,35 +163,6 @@ pub fn end_of(r: &Flat, extras: &[u32], v: &Cells, j: usize, s: u32) -> u32
         k += 1;
     }
     sum
-}
-
-// Whether the gap before a job that uses device k and starts at s is shorter than the device's foot, and the device pays for it.
-fn is_short(extras: &[u32], round: bool, k: usize, end: u32, s: u32) -> bool
-    requires { ⌜ (k < 8) × ((end ≤ s) × (40 ≤ length (now extras))) ⌝ }
-    ensures { λ x. ⌜ x ≡ cond (unused round end) false (ltb (s - end) (footAt (now (extras .entry)) k)) ⌝ }
-{
-    if is_unused(round, end) {
-        return false;
-    }
-    s - end < foot_of(extras, k)
-}
-
-// Whether every gap before job j, where it starts at s, has reached the foot: then no later start adds less.
-pub fn is_climbing(r: &Flat, extras: &[u32], v: &Cells, j: usize, s: u32) -> bool
-    requires { ⌜ Tabled (recorderOf (now r)) (now extras) × ((j < 16) × Ordered (recorderOf (now r)) (now v) s) ⌝ }
-    ensures { λ x. ⌜ (x ≡ true → (t : ℕ) → s ≤ t → t ≤ recorderOf (now (r .entry)) .horizon → leadsBy (recorderOf (now (r .entry))) (now (v .entry)) j s ≤ leadsBy (recorderOf (now (r .entry))) (now (v .entry)) j t) ⌝ }
-{
-    let round = is_round(r);
-    let n = used_count(extras, j);
-    let mut i: u32 = 0;
-    while i < n {
-        let k = used_at(extras, j, i);
-        if is_short(extras, round, k, v[k], s) {
-            return false;
-        }
-        i += 1;
-    }
-    true
 }
 
 // The floor of a device without a use so far, by its powers at work and in its deepest sleep, with `ahead` ticks to come.

@@ -75,11 +75,11 @@ module _ (R : Recorder) (valid : Valid R) (narrow : (k : ℕ) → k < R .devices
 
   -- What `cut_at` answers.
   pub cuts-at :
-      (l : List ℕ) (best from f j x cut s y : ℕ) → j < jobs R → Cuts R l best from j x cut → s < cut → cut ≤ x → f ≡ from + leadsBy R l j s
-      → (y ≡ cut) ⊎ ((y ≡ s) × (best ≤ f) × ((t : ℕ) → s ≤ t → t ≤ R .horizon → leadsBy R l j s ≤ leadsBy R l j t)) → Cuts R l best from j x y × (y ≤ x)
-  cuts-at l best from f j x cut s y known h at below f-is =
+      (l : List ℕ) (best from j x cut s y : ℕ) → j < jobs R → Cuts R l best from j x cut → s < cut → cut ≤ x
+      → (y ≡ cut) ⊎ ((y ≡ s) × ((t : ℕ) → s ≤ t → t ≤ R .horizon → best ≤ from + leadsBy R l j t)) → Cuts R l best from j x y × (y ≤ x)
+  cuts-at l best from j x cut s y known h at below =
       ⊎-elim (λ (e : y ≡ cut). (subst (Cuts R l best from j x) (sym e) h, omega (arith, e, below)))
-      (λ w. (λ t a b. inr (omega (arith, w .1, f-is, w .2 t (omega (arith, w .0, a)) (omega (arith, b, valid .ends j known)))), omega (arith, w .0, at, below)))
+      (λ w. (λ t a b. inr (w .1 t (omega (arith, w .0, a)) (omega (arith, b, valid .ends j known))), omega (arith, w .0, at, below)))
 
   module _ (l : List ℕ) (a from m : ℕ) (v : Vertex) (stands : Stands R l a from m v) where
     abbrev h : Shows R l a (suc m) v

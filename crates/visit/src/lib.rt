@@ -28,8 +28,8 @@ use vertex::dues::dues_in;
 use vertex::dues::limit_of;
 use vertex::gaps::close_of;
 use vertex::gaps::end_of;
-use vertex::gaps::is_climbing;
 use vertex::gaps::lead_of;
+use vertex::gaps::least_of;
 use vertex::gaps::root_floor;
 ghost use mathlib.Core.Path.{_≡_};
 ghost use mathlib.Core.Bool.{Bool, true, false, cond};
@@ -43,7 +43,7 @@ ghost use Rattle.schedule.specs.Visiting.{visited};
 ghost use Rattle.schedule.specs.Visiting as order;
 ghost use Rattle.flat.specs.inside.Flat.{recorderOf};
 ghost use Rattle.latest.specs.inside.Sets.{has};
-ghost use Rattle.extras.specs.inside.Tabled.{Tabled, capAt};
+ghost use Rattle.extras.specs.inside.Tabled.{Room, Tabled, capAt};
 ghost use Rattle.vertex.specs.inside.Lasts.{TwoLeast};
 ghost use Rattle.vertex.specs.inside.Shown.{loadAt, leadsBy, Ordered};
 ghost use Rattle.vertex.specs.inside.Sums.{limitFor};
@@ -86,22 +86,25 @@ fn first_cut(r: &Flat, v: &Cells, dues: Dues, j: JobNumber) -> u32
     lessened(smaller(limit, wide(deadline_of(r, j.0))) + 1, c)
 }
 
-// The same, once the child that places job j at s has the floor `floor`: where cut B drops it and no later start adds less, it drops all from here on.
+// The same, once the child that places job j at s has the floor `floor`: where cut B drops it, and would drop it at the least floor of all from here on too, it
+// drops them all.
 fn cut_at(
     r: &Flat,
     extras: &[u32],
     v: &Cells,
     best: u32,
+    from: u32,
     floor: u32,
     cut: u32,
     j: usize,
     s: u32,
 ) -> u32
-    requires { ⌜ Tabled (recorderOf (now r)) (now extras) × ((j < 16) × Ordered (recorderOf (now r)) (now v) s) ⌝ }
-    ensures { λ x. ⌜ (x ≡ cut) ⊎ ((x ≡ s) × (best ≤ floor) × ((t : ℕ) → s ≤ t → t ≤ recorderOf (now (r .entry)) .horizon → leadsBy (recorderOf (now (r .entry))) (now (v .entry)) j s ≤ leadsBy (recorderOf (now (r .entry))) (now (v .entry)) j t)) ⌝ }
+    requires { ⌜ Tabled (recorderOf (now r)) (now extras) × ((from ≤ 2147450880) × ((j < 16) × Ordered (recorderOf (now r)) (now v) s)) ⌝ }
+    ensures { λ x. ⌜ (x ≡ cut) ⊎ ((x ≡ s) × ((t : ℕ) → s ≤ t → t ≤ recorderOf (now (r .entry)) .horizon → best ≤ from + leadsBy (recorderOf (now (r .entry))) (now (v .entry)) j t)) ⌝ }
 {
     if best <= floor {
-        if is_climbing(r, extras, v, j, s) {
+        let least = from + least_of(r, extras, v, j, s);
+        if best <= least {
             return s;
         }
     }
@@ -338,7 +341,7 @@ fn tries(
     let mut s = larger(time, wide(release_of(r, j.0)));
     while s < cut {
         let floor = from + lead_of(r, extras, v, j.0, s);
-        cut = cut_at(r, extras, v, tally[ENERGY], floor, cut, j.0, s);
+        cut = cut_at(r, extras, v, tally[ENERGY], from, floor, cut, j.0, s);
         if visit(
             r,
             extras,
@@ -471,31 +474,11 @@ fn laid_visit(
     stop: bool,
     budget: u32,
 ) -> bool
-    requires { ⌜ Valid (recorderOf (now r)) × ((184 + 8 * recorderOf (now r) .horizon ≤ length (now extras)) × (length (now tally) ≡ 35)) ⌝ }
+    requires { ⌜ Valid (recorderOf (now r)) × (Room (recorderOf (now r)) (now extras) × (length (now tally) ≡ 35)) ⌝ }
     ensures { λ x. ⌜ Ran (recorderOf (now (r .entry))) stop budget (now (tally .exit)) x ⌝ }
 {
     lay_extras(r, extras);
     staged_visit(r, extras, memory, own, tally, stop, budget)
-}
-
-// The same with a place for it: a short one, which is ready sooner, where the horizon lets it.
-fn placed_visit(
-    r: &Flat,
-    memory: &mut [u64],
-    own: bool,
-    tally: &mut Tally,
-    stop: bool,
-    budget: u32,
-) -> bool
-    requires { ⌜ Valid (recorderOf (now r)) × (length (now tally) ≡ 35) ⌝ }
-    ensures { λ x. ⌜ Ran (recorderOf (now (r .entry))) stop budget (now (tally .exit)) x ⌝ }
-{
-    if horizon_of(r) <= 127 {
-        let mut extras = [0u32; 1200];
-        return laid_visit(r, &mut extras, memory, own, tally, stop, budget);
-    }
-    let mut extras = [0u32; 32952];
-    laid_visit(r, &mut extras, memory, own, tally, stop, budget)
 }
 
 // Writes the first n starts of the best into the lent list.
@@ -516,11 +499,12 @@ fn found_by(
     r: Recorder,
     stop: bool,
     budget: u32,
+    extras: &mut [u32],
     memory: &mut [u64],
     own: bool,
     out: &mut [u16],
 ) -> Found
-    requires { ⌜ Valid r ⌝ }
+    requires { ⌜ Valid r × Room r (now extras) ⌝ }
     ensures { λ x. ⌜ Finds r (visitedBy r stop) budget (now (out .entry)) x (now (out .exit)) ⌝ }
 {
     let jobs = r.jobs;
@@ -534,7 +518,7 @@ fn found_by(
     }
     let flat = flat_of(r);
     let mut tally = [0u32; 35];
-    if placed_visit(&flat, memory, own, &mut tally, stop, budget) {
+    if laid_visit(&flat, extras, memory, own, &mut tally, stop, budget) {
         return Found {
             number: 20,
             energy: 0,
@@ -556,13 +540,26 @@ fn found_by(
     }
 }
 
+// The first of the cheapest schedules, by a table with room for the horizon: a short one of 192 + 8 * 127 numbers, which is ready sooner, where that will do.
+fn found_within(r: Recorder, budget: u32, memory: &mut [u64], own: bool, out: &mut [u16]) -> Found
+    requires { ⌜ Valid r ⌝ }
+    ensures { λ x. ⌜ Finds r (visited r) budget (now (out .entry)) x (now (out .exit)) ⌝ }
+{
+    if r.horizon <= 127 {
+        let mut extras = [0u32; 1208];
+        return found_by(r, false, budget, &mut extras, memory, own, out);
+    }
+    let mut extras = [0u32; 32960];
+    found_by(r, false, budget, &mut extras, memory, own, out)
+}
+
 // The first of the cheapest schedules.
 pub fn search(r: Recorder, budget: u32, out: &mut [u16]) -> Found
     requires { ⌜ Valid r ⌝ }
     ensures { λ x. ⌜ Finds r (visited r) budget (now (out .entry)) x (now (out .exit)) ⌝ }
 {
     let mut none = [0u64; 1];
-    found_by(r, false, budget, &mut none, true, out)
+    found_within(r, budget, &mut none, true, out)
 }
 
 // The same with a memory that is lent, of any length and whatever it holds: the more, the faster.
@@ -570,14 +567,15 @@ pub fn search_in(r: Recorder, budget: u32, memory: &mut [u64], out: &mut [u16]) 
     requires { ⌜ Valid r ⌝ }
     ensures { λ x. ⌜ Finds r (visited r) budget (now (out .entry)) x (now (out .exit)) ⌝ }
 {
-    found_by(r, false, budget, memory, false, out)
+    found_within(r, budget, memory, false, out)
 }
 
-// The first of all schedules, whatever it costs.
+// The first of all schedules of a recorder that has no device: nothing costs anything, and the table holds no extras.
 pub fn first(r: Recorder, budget: u32, out: &mut [u16]) -> Found
-    requires { ⌜ Valid r ⌝ }
+    requires { ⌜ Valid r × (r .devices .count ≡ 0) ⌝ }
     ensures { λ x. ⌜ Finds r (visitedBy r true) budget (now (out .entry)) x (now (out .exit)) ⌝ }
 {
     let mut none = [0u64; 1];
-    found_by(r, true, budget, &mut none, true, out)
+    let mut extras = [0u32; 192];
+    found_by(r, true, budget, &mut extras, &mut none, true, out)
 }

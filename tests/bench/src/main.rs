@@ -1,7 +1,7 @@
 //! Plans requests of some million vertices with four plain searches in Rust and with the proved search,
 //! and prints vertices per second of each and the proved one's ratio to each plain one. Then what a call
-//! takes on requests of few vertices; how long it takes to say whether there is any plan, by a visit and by sets of jobs, beside the search for the
-//! cheapest; and of both by the number of jobs.
+//! takes on requests of few vertices, of the search and of the word whether there is any plan; how long that
+//! takes, by a visit and by sets of jobs, beside the search; and of both by the number of jobs.
 //!
 //! `./bench` at the top builds the proved library and runs all; `./bench COMMIT` races that commit's
 //! proved search as well; `./bench recorders` runs the least plans of recorders instead (`recorders`).
@@ -43,10 +43,13 @@ impl From<rivals::Found> for Outcome {
     }
 }
 
+/// A file and a budget: what comes out.
+type Call = fn(&[u8], u32) -> Outcome;
+
 /// A search, and over all requests its vertices and the best times it has had.
 struct Racer {
     name: &'static str,
-    search: fn(&[u8], u32) -> Outcome,
+    search: Call,
     total: Run,
 }
 
@@ -147,36 +150,45 @@ fn bench() -> Result<(), String> {
     Ok(())
 }
 
-/// Requests of few vertices: what one call takes, in the best of some rounds in which the proved
-/// searches take turns.
+/// The proved calls, each after that of an earlier commit, if one is raced and has it.
+fn calls() -> Vec<(&'static str, Call)> {
+    vec![
+        #[cfg(feature = "before")]
+        ("search before", proved::before as Call),
+        ("search", proved::search),
+        #[cfg(feature = "before_any")]
+        ("any plan before", proved::before_any),
+        ("any plan", proved::possible),
+    ]
+}
+
+/// Requests of few vertices: what one call takes, in the best of some rounds in which the calls take
+/// turns.
 fn small() {
     for request in requests::small() {
         let mut line = format!("{:30}", request.name);
-        let proved: Vec<_> = racers()
-            .into_iter()
-            .filter(|racer| ["before", "proved"].contains(&racer.name))
-            .collect();
-        let mut best = vec![Duration::MAX; proved.len()];
-        let mut count = 0;
+        let calls = calls();
+        let mut best = vec![Duration::MAX; calls.len()];
         for _ in 0..QUICK_ROUNDS {
-            for (racer, best) in proved.iter().zip(&mut best) {
+            for ((_, call), best) in calls.iter().zip(&mut best) {
                 let begin = Instant::now();
                 for _ in 0..CALLS {
-                    count = (racer.search)(&request.file, BUDGET).count;
+                    call(&request.file, BUDGET);
                 }
                 *best = (*best).min(begin.elapsed() / CALLS);
             }
         }
+        let count = proved::search(&request.file, BUDGET).count;
         line += &format!(" {count:>11} vertices");
-        for (racer, best) in proved.iter().zip(best) {
-            line += &format!("  {} {best:.1?}", racer.name);
+        for ((name, _), best) in calls.iter().zip(best) {
+            line += &format!("  {name} {best:.1?}");
         }
         println!("{line}");
     }
 }
 
 /// The best time of some rounds, and what came out.
-fn timed(answer: fn(&[u8], u32) -> Outcome, file: &[u8], rounds: usize) -> (Outcome, Duration) {
+fn timed(answer: Call, file: &[u8], rounds: usize) -> (Outcome, Duration) {
     let round = |_| {
         let begin = Instant::now();
         (answer(file, BUDGET), begin.elapsed())

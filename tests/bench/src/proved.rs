@@ -16,6 +16,12 @@ pub fn before(file: &[u8], budget: u32) -> Outcome {
     outcome(|starts, result| linked::before_search(file, budget, starts, result))
 }
 
+/// Its word whether there is any plan.
+#[cfg(feature = "before_any")]
+pub fn before_any(file: &[u8], budget: u32) -> Outcome {
+    outcome(|starts, result| linked::before_any(file, budget, starts, result))
+}
+
 pub fn possible(file: &[u8], budget: u32) -> Outcome {
     outcome(|starts, result| linked::possible(file, budget, starts, result))
 }

@@ -44,9 +44,9 @@ struct Dues {
 struct Search<'a> {
     problem: &'a Problem,
     tasks: [Task; MOST_JOBS],
-    /// Of each device the extra of each gap, and the gap from which on it no longer falls.
+    /// Of each device the extra of each gap, and the least of all from that gap on.
     extras: Vec<u32>,
-    feet: [u32; DEVICES],
+    leasts: Vec<u32>,
     tally: &'a mut Tally,
     /// The energy of the best.
     best: u32,
@@ -58,24 +58,16 @@ impl Search<'_> {
         self.problem.round && vertex.ends[k] == 0
     }
 
-    /// What a job adds to the floor where it starts at `start`.
+    /// Over the devices that a job uses, the sum of what a table has for the gaps before `start`.
     #[inline(always)]
-    fn lead(&self, vertex: &Vertex, task: &Task, start: u32) -> u32 {
+    fn sum(&self, table: &[u32], vertex: &Vertex, task: &Task, start: u32) -> u32 {
         let mut sum = 0;
         for &k in &task.devices[..task.count] {
             if !self.is_fresh(vertex, k) {
-                sum += self.extras[GAPS * k + (start - vertex.ends[k]) as usize];
+                sum += table[GAPS * k + (start - vertex.ends[k]) as usize];
             }
         }
         sum
-    }
-
-    /// Whether no later start adds less.
-    #[inline(always)]
-    fn is_climbing(&self, vertex: &Vertex, task: &Task, start: u32) -> bool {
-        task.devices[..task.count]
-            .iter()
-            .all(|&k| self.is_fresh(vertex, k) || start - vertex.ends[k] >= self.feet[k])
     }
 
     /// The child that places a job at `start`; from `cut` on every start of it is cut.
@@ -156,9 +148,12 @@ impl Search<'_> {
         let mut cut = (limit.min(task.last + task.running) + 1).saturating_sub(task.running);
         let mut start = time.max(task.release);
         while start < cut {
-            let child = floor + self.lead(vertex, &task, start);
-            if self.best <= child && self.is_climbing(vertex, &task, start) {
-                cut = start;
+            let child = floor + self.sum(&self.extras, vertex, &task, start);
+            if self.best <= child {
+                let least = floor + self.sum(&self.leasts, vertex, &task, start);
+                if self.best <= least {
+                    cut = start;
+                }
             }
             self.visit(vertex, left, child, cut, number, start);
             if self.tally.over {
@@ -256,7 +251,7 @@ pub fn search(file: &[u8], budget: u32) -> Found {
         }
         let horizon = problem.horizon;
         let mut extras = vec![0; GAPS * DEVICES];
-        let mut feet = [0; DEVICES];
+        let mut leasts = extras.clone();
         let mut floor = 0;
         for (k, device) in problem.devices.iter().enumerate() {
             root.aheads[k] = problem.ahead(all, k);
@@ -265,16 +260,17 @@ pub fn search(file: &[u8], budget: u32) -> Found {
             for (gap, extra) in (0..).zip(gaps.iter_mut()) {
                 *extra = extra_of(device, gap);
             }
-            feet[k] = gaps
-                .windows(2)
-                .rposition(|pair| pair[1] < pair[0])
-                .map_or(0, |gap| gap as u32 + 1);
+            let mut least = u32::MAX;
+            for (gap, &extra) in gaps.iter().enumerate().rev() {
+                least = least.min(extra);
+                leasts[GAPS * k + gap] = least;
+            }
         }
         let mut search = Search {
             problem,
             tasks,
             extras,
-            feet,
+            leasts,
             tally,
             best: u32::MAX,
             path: [0; MOST_JOBS],

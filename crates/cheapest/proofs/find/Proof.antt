@@ -15,7 +15,8 @@ use Rattle.cheapest.proofs.find.Tie as tie
 lay-extras-requires : tie.Need-lay-extras-requires
 lay-extras-requires c κs =
     let s = c .before .before in
-    (s .pre .0, omega (arith, s .pre .0 .few-ticks, length-replicate {A = ℕ} 32952 0))
+    let is = length-replicate {A = ℕ} 32960 0 in
+    (s .pre .0, record { long = omega (arith, is); reach = λ q. omega (arith, is, s .pre .0 .few-ticks) })
 
 least-starts-requires : tie.Need-least-starts-requires
 least-starts-requires c κs =

@@ -7,14 +7,14 @@ use Rattle.device.specs.declared.Device.{Device}
 use Rattle.schedule.specs.declared.Recorder.{Recorder}
 use Rattle.keys.specs.inside.Keys.{extra}
 use Rattle.extras.specs.inside.Shapes.{shapeOf}
-use Rattle.extras.specs.inside.Tabled.{extraAt, capAt, riseAt, fallAt, footAt}
+use Rattle.extras.specs.inside.Tabled.{extraAt, capAt, riseAt, fallAt, footAt, lowAt}
 use Rattle.extras.specs.inside.Uses.{Lists}
 
 -- The extras of d up to h ticks were laid as those of device k: but for their places l is as l₀.
 pub record LaidGaps (d : Device) (k h : ℕ) (l₀ l : List ℕ) : Type 0 where
   pub long : length l ≡ length l₀
   pub laid : (g : ℕ) → g ≤ h → extraAt l k g ≡ extra d g
-  pub kept : (i : ℕ) → ((g : ℕ) → i ≡ 176 + 8 * g + k → ⊥) → getD l i 0 ≡ getD l₀ i 0
+  pub kept : (i : ℕ) → ((g : ℕ) → i ≡ 184 + 8 * g + k → ⊥) → getD l i 0 ≡ getD l₀ i 0
 
 -- All of d stands in the table as device k.
 pub record Stands (d : Device) (k h : ℕ) (l : List ℕ) : Type 0 where
@@ -23,6 +23,7 @@ pub record Stands (d : Device) (k h : ℕ) (l : List ℕ) : Type 0 where
   pub rise : riseAt l k ≡ shapeOf d (suc h) .rise
   pub fall : fallAt l k ≡ shapeOf d (suc h) .fall
   pub foot : footAt l k ≡ shapeOf d (suc h) .foot
+  pub low : lowAt l k ≡ shapeOf d (suc h) .low
 
 -- It was laid: what stood of the devices before it stands still. Its power at work fits sixteen bits.
 pub record LaidDevice (d : Device) (k h : ℕ) (l₀ l : List ℕ) : Type 0 where
@@ -35,10 +36,10 @@ pub record LaidDevice (d : Device) (k h : ℕ) (l₀ l : List ℕ) : Type 0 wher
 pub record LaidJob (R : Recorder) (j : ℕ) (l₀ l : List ℕ) : Type 0 where
   pub long : length l ≡ length l₀
   pub lists : Lists R j l
-  pub kept : (i : ℕ) → (i ≡ 32 + j → ⊥) → (48 + 8 * j ≤ i → i < 56 + 8 * j → ⊥) → getD l i 0 ≡ getD l₀ i 0
+  pub kept : (i : ℕ) → (i ≡ 40 + j → ⊥) → (56 + 8 * j ≤ i → i < 64 + 8 * j → ⊥) → getD l i 0 ≡ getD l₀ i 0
 
 -- Those of the first n jobs were.
 pub record LaidJobs (R : Recorder) (n : ℕ) (l₀ l : List ℕ) : Type 0 where
   pub long : length l ≡ length l₀
   pub lists : (j : ℕ) → j < n → Lists R j l
-  pub kept : (i : ℕ) → (32 ≤ i → i < 176 → ⊥) → getD l i 0 ≡ getD l₀ i 0
+  pub kept : (i : ℕ) → (40 ≤ i → i < 184 → ⊥) → getD l i 0 ≡ getD l₀ i 0

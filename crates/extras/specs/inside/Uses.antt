@@ -8,10 +8,10 @@ use Rattle.schedule.specs.declared.Recorder.{Recorder}
 use Rattle.schedule.specs.Quantities.{uses}
 
 unfoldable pub usedCountAt : List ℕ → ℕ → ℕ
-usedCountAt l j = getD l (32 + j) 0
+usedCountAt l j = getD l (40 + j) 0
 
 unfoldable pub usedAt : List ℕ → ℕ → ℕ → ℕ
-usedAt l j i = getD l (48 + 8 * j + i) 0
+usedAt l j i = getD l (56 + 8 * j + i) 0
 
 -- How many of the first n devices job j uses.
 unfoldable pub usedBelow : Recorder → ℕ → ℕ → ℕ

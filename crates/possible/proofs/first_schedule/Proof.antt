@@ -6,7 +6,10 @@ use Rattle.possible.proofs.first_schedule.Statement.{statement}
 use Rattle.possible.proofs.first_schedule.Tie as tie
 
 first-requires : tie.Need-first-requires
-first-requires c κs = let w = c .before in bare-valid _ _ (w .without-devices .ensures) (w .before .before .pre)
+first-requires c κs =
+    let w = c .before in
+    let bare = w .without-devices .ensures in
+    (bare-valid _ _ bare (w .before .before .pre), bare .none)
 
 returns : tie.Need-returns
 returns c =

@@ -566,7 +566,7 @@ tries-cut-at-requires t c κs =
     let x = s .pre .1 .0 .tabled in
     let R = recorderOf (s .args .r .now) in
     let o = s .pre .1 .1 .1 .1 .1 .1 in
-    (x, (omega (arith, s .pre .1 .1 .0, x .valid .few-jobs), starts-ordered R (x .valid) (x .narrow) _ _ _ _ _ _ (o .holds .0 .shows) (tries-starts t (c .before .before) _ _ (o .holds .0) (o .holds .1))))
+    (x, (from-small R (x .valid) (x .narrow) _ _ _ _ _ (o .holds .0), (omega (arith, s .pre .1 .1 .0, x .valid .few-jobs), starts-ordered R (x .valid) (x .narrow) _ _ _ _ _ _ (o .holds .0 .shows) (tries-starts t (c .before .before) _ _ (o .holds .0) (o .holds .1)))))
 
 -- From where on all are dropped.
 tries-cuts :
@@ -577,7 +577,7 @@ tries-cuts t c =
     let l = c .before .before .before .before in
     let s = l .before .before .before .before .before .before .before in
     let x = s .pre .1 .0 .tabled in
-    cuts-at (recorderOf (s .args .r .now)) (x .valid) (x .narrow) _ _ _ _ _ _ _ _ _ (s .pre .1 .1 .0) (l .loop .inv .3) (c .before .before .before .loop-test .taken) (l .loop .inv .4) (ap (λ (y : ℕ). s .args .from + y) (c .before .before .lead-of .ensures .0)) (c .cut-at .ensures)
+    cuts-at (recorderOf (s .args .r .now)) (x .valid) (x .narrow) _ _ _ _ _ _ _ _ (s .pre .1 .1 .0) (l .loop .inv .3) (c .before .before .before .loop-test .taken) (l .loop .inv .4) (c .cut-at .ensures)
 
 -- What is asked of the start at hand.
 tries-tries :

@@ -43,7 +43,7 @@ lay-gaps-requires c κs =
 -- Its columns are in the table.
 room :
     (c : tie.After-slice-known2)
-    → 176 + c .before .before .before .before .before .before .before .before .before .args .k < length (c .before .before .lay-gaps .last .1 .1 .1 .1 .0)
+    → 184 + c .before .before .before .before .before .before .before .before .before .args .k < length (c .before .before .lay-gaps .last .1 .1 .1 .1 .0)
 room c =
     let s = c .before .before .before .before .before .before .before .before .before in
     omega (arith, laid (c .before .before) .0 .long, s .pre .0 .few-devices, s .pre .1)
@@ -59,6 +59,9 @@ slice-write-extras-3 c = simp length-set (omega (arith, room c))
 
 slice-write-extras-4 : tie.Need-slice-write-extras-4
 slice-write-extras-4 c = simp length-set (omega (arith, room c))
+
+slice-write-extras-5 : tie.Need-slice-write-extras-5
+slice-write-extras-5 c = simp length-set (omega (arith, room c))
 
 returns : tie.Need-returns
 returns c =
@@ -87,5 +90,8 @@ lay-device-spec =
     (λ c. search needs)
     (λ c. search needs)
     slice-write-extras-4
+    (λ c. search needs)
+    (λ c. search needs)
+    slice-write-extras-5
     (λ c. search needs)
     returns)

@@ -1,6 +1,6 @@
 -- `extras::laying::lay_extras` meets its contract. The loop's invariant: the devices passed are laid.
 use mathlib.Core.Path.{_≡_, refl, _∙_, subst}
-use Prim.Native.Nat.{ℕ, _-_, _≤_}
+use Prim.Native.Nat.{ℕ, _-_, _<_, _≤_}
 use lib.ListN.{length}
 use native.Mathlib.Omega.{arith}
 use borrow.Author.Needs.{needs}
@@ -22,7 +22,8 @@ lay-device-requires : tie.Need-lay-device-requires Inv-loop μ-loop
 lay-device-requires c κs =
     let l = c .before .before in
     let s = l .before .before .before in
-    (s .pre .0, (omega (arith, c .before .loop-test .taken, l .before .device-count .ensures), l .loop .inv .1 .long))
+    let few : l .loop .k < recorderOf (s .args .r .now) .devices .count = omega (arith, c .before .loop-test .taken, l .before .device-count .ensures) in
+    (s .pre .0, (few, l .loop .inv .1 .room .reach (omega arith)))
 
 loop-again : tie.Need-loop-again Inv-loop μ-loop
 loop-again c =
@@ -33,7 +34,7 @@ loop-again c =
 lay-jobs-requires : tie.Need-lay-jobs-requires Inv-loop μ-loop
 lay-jobs-requires c κs =
     let l = c .before .before in
-    (l .before .before .before .pre .0, omega (arith, l .loop .inv .1 .long))
+    (l .before .before .before .pre .0, l .loop .inv .1 .room .long)
 
 returns : tie.Need-returns Inv-loop μ-loop
 returns c =

@@ -63,7 +63,7 @@ slice-write-extras-2 c =
 same-length : tie.Need-same-length Inv-loop μ-loop
 same-length c =
     let l = c .before in
-    length-set (l .loop .extras) (32 + l .before .before .before .args .j) (l .loop .n) ∙ l .loop .inv .2 .long
+    length-set (l .loop .extras) (40 + l .before .before .before .args .j) (l .loop .n) ∙ l .loop .inv .2 .long
 
 returns : tie.Need-returns Inv-loop μ-loop
 returns c =

@@ -12,7 +12,7 @@ few : (s : tie.Start) → s .args .k < 8
 few s = omega (arith, s .pre .1 .0, s .pre .0 .valid .few-devices)
 
 there : (s : tie.Start) → (s .args .k < 8) × (40 ≤ length (s .args .extras .now))
-there s = (few s, omega (arith, s .pre .0 .long))
+there s = (few s, omega (arith, s .pre .0 .room .long))
 
 most : (s : tie.Start) → (riseAt (s .args .extras .now) (s .args .k) ≤ 268431360) × (fallAt (s .args .extras .now) (s .args .k) ≤ 268431360)
 most s = (s .pre .0 .rise-most (s .args .k) (s .pre .1 .0), s .pre .0 .fall-most (s .args .k) (s .pre .1 .0))

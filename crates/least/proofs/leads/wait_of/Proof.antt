@@ -24,7 +24,7 @@ loop-holds c = (omega arith, omega (arith, c .device-count .ensures, c .before .
 cap-of-requires : tie.Need-cap-of-requires Inv-loop μ-loop
 cap-of-requires c κs =
     let s = c .before .before .before .before .before in
-    (omega (arith, c .loop-test .taken, c .before .loop .inv), omega (arith, s .pre .0 .long))
+    (omega (arith, c .loop-test .taken, c .before .loop .inv), omega (arith, s .pre .0 .room .long))
 
 wait-with-requires : tie.Need-wait-with-requires Inv-loop μ-loop
 wait-with-requires c κs =

@@ -23,7 +23,7 @@ extra-of-requires : tie.Need-extra-of-requires
 extra-of-requires c κs =
     let s = c .before in
     let r = room s .1 in
-    (omega (arith, s .pre .1 .0, s .pre .0 .valid .few-devices), (omega (arith, r, s .pre .0 .valid .few-ticks), omega (arith, r, s .pre .0 .long)))
+    (omega (arith, s .pre .1 .0, s .pre .0 .valid .few-devices), (omega (arith, r, s .pre .0 .valid .few-ticks), omega (arith, r, s .pre .0 .room .reach (omega (arith, s .pre .1 .0)))))
 
 returns : tie.Need-returns
 returns c = (rw (← c .before .is-unused .ensures, c .if1 .taken), omega arith)
