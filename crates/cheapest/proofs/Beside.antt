@@ -6,8 +6,9 @@ use Rattle.schedule.specs.declared.Recorder.{Recorder}
 use Rattle.planner.specs.declared.Answer.{Answer}
 use Rattle.planner.specs.Promises as S
 use Rattle.planner.specs.Promises.{OfFile, SearchOf, Searched}
+use Rattle.planner.proofs.Larger.{Enough}
 use Rattle.cheapest.specs.Promises.{LeastPlanned}
-use Rattle.cheapest.proofs.Only.{Enough, Told, only-told, least-told}
+use Rattle.cheapest.proofs.Only.{Told, only-told, least-told}
 
 -- An answer without its count.
 abbrev pub uncounted : Answer → Answer

@@ -12,15 +12,12 @@ use Rattle.schedule.specs.Listing.{Feasible}
 use Rattle.planner.specs.declared.Answer.{Answer}
 use Rattle.planner.specs.Promises as Frame
 use Rattle.planner.specs.Promises.{refusal, refusalAfter, Unless, stops, passes, Reads, OfFile, GivesLeast, found}
+use Rattle.planner.proofs.Larger.{Enough}
 use Rattle.planner.proofs.Reading.{outcome-of}
 use Rattle.planner.proofs.Refusing.{One, one-unless}
 use Rattle.planner.proofs.Only.{only-of-file, one-least}
 use Rattle.least.specs.Effort.{mostVertices}
 use Rattle.cheapest.specs.Promises.{over, least, LeastOf, LeastPlanned}
-
--- It was not given up.
-abbrev pub Enough : Answer → Type 0
-Enough a = a .number ≡ 20 → ⊥
 
 -- ---- what is not given up
 

@@ -53,7 +53,7 @@ pub fn gap_trip(d: Device, g: u16) -> Trip
 }
 
 // The energy of a gap of g ticks.
-pub fn gap_energy(d: Device, g: u16) -> u32
+fn gap_energy(d: Device, g: u16) -> u32
     requires { ⌜ Sound d ⌝ }
     ensures { λ r. ⌜ (r ≡ gapCost d g) × (r ≤ 65535 * g) ⌝ }
 {

@@ -4,7 +4,6 @@ mod writer;
 
 pub use crate::energy::Trip;
 pub use crate::energy::energy_of;
-pub use crate::energy::gap_energy;
 pub use crate::energy::gap_trip;
 pub use crate::writer::write_row;
 

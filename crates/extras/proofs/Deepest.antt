@@ -1,5 +1,5 @@
 -- A gap that is slept through at the deepest level: every longer one is, and costs just the deepest sleep more.
-use mathlib.Core.Path.{_≡_, ap, sym, _∙_}
+use mathlib.Core.Path.{_≡_, ap, _∙_}
 use Prim.Native.Nat.{ℕ, _+_, _-_, _*_, _≤_}
 use native.Mathlib.Nat.{mul-add, mul-le-mul-right, mul-le-mul-left}
 use native.Mathlib.Omega.{arith}

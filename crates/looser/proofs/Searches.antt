@@ -10,10 +10,10 @@ use Rattle.schedule.specs.Listing.{Feasible, FirstLeast}
 use Rattle.tables.specs.Layout.{tablesOf}
 use Rattle.planner.specs.declared.Answer.{Answer}
 use Rattle.planner.specs.Promises.{stops, passes, gives-such, Reads, Counted, GivesLeast, found, SearchOf, Searched}
+use Rattle.planner.proofs.Larger.{Enough}
 use Rattle.planner.proofs.Reading.{outcome-of}
 use Rattle.possible.specs.TillFound.{verticesTillFound}
 use Rattle.possible.specs.Promises.{GivesFirst, PossibleOf, Possible}
-use Rattle.possible.proofs.Beside.{Enough}
 use Rattle.looser.specs.Windows.{Looser}
 use Rattle.looser.proofs.Helps.{still-feasible, no-dearer}
 use Rattle.looser.proofs.Files.{widened}

@@ -8,15 +8,12 @@ use Rattle.schedule.specs.declared.Recorder.{Recorder}
 use Rattle.schedule.specs.Quantities.{jobs, Valid}
 use Rattle.planner.specs.declared.Answer.{Answer}
 use Rattle.planner.specs.Promises.{stops, passes, gives-such, Reads, found, SearchOf, Searched}
+use Rattle.planner.proofs.Larger.{Enough}
 use Rattle.planner.proofs.Reading.{outcome-of, two-of-file}
 use Rattle.possible.specs.Promises.{PossibleOf, Possible}
 use Rattle.possible.proofs.Counts.{fewer-vertices, same-vertices}
 
 -- ---- where neither budget is too small
-
--- The budget was large enough to tell.
-abbrev pub Enough : Answer → Type 0
-Enough a = a .number ≡ 20 → ⊥
 
 abbrev Agree : Answer → Answer → Type 0
 Agree a a′ = Enough a → Enough a′ → (a .number ≡ a′ .number) × (a .count ≤ a′ .count) × (a .number ≡ 19 → a .count ≡ a′ .count)

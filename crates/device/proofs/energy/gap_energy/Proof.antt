@@ -1,4 +1,4 @@
--- `device::gap_energy` meets its contract. No gap costs more than work throughout.
+-- `device::energy::gap_energy` meets its contract. No gap costs more than work throughout.
 use mathlib.Core.Path.{_≡_, sym, _∙_}
 use Prim.Native.Nat.{_≤_}
 use native.Mathlib.Nat.{mul-le-mul-right}
