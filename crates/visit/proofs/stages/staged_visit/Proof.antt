@@ -1,10 +1,10 @@
--- `visit::staged_visit` meets its contract.
+-- `visit::stages::staged_visit` meets its contract.
 use native.Mathlib.Omega.{arith}
 use borrow.Author.Needs.{needs}
 use borrow.Author.Tests.{not-true, not-false}
 use Rattle.visit.proofs.Finding.{ran-larger, ran-spent}
-use Rattle.visit.proofs.staged_visit.Statement.{statement}
-use Rattle.visit.proofs.staged_visit.Tie as tie
+use Rattle.visit.proofs.stages.staged_visit.Statement.{statement}
+use Rattle.visit.proofs.stages.staged_visit.Tie as tie
 
 few-visit-requires : tie.Need-few-visit-requires
 few-visit-requires c κs = c .before .before .before .pre

@@ -29,24 +29,24 @@ use Rattle.visit.proofs.Entering.{Cuts, starts-of, starts-known, starts
 use Rattle.vertex.proofs.gaps.lead_of.Reads as lead-of-reads
 use borrow.Fn.Kinds.{In}
 use borrow.Fn.PlainCycle.{Measures, is, falls, and}
-use Rattle.visit.proofs.below.Reads as below
-use Rattle.visit.proofs.below.Kinds as below-kinds
-use Rattle.visit.proofs.+below+choices+enter+learn+tries+visit.Lts-below as below-lts
-use Rattle.visit.proofs.choices.Reads as choices
-use Rattle.visit.proofs.choices.Kinds as choices-kinds
-use Rattle.visit.proofs.+below+choices+enter+learn+tries+visit.Lts-choices as choices-lts
-use Rattle.visit.proofs.enter.Reads as enter
-use Rattle.visit.proofs.enter.Kinds as enter-kinds
-use Rattle.visit.proofs.+below+choices+enter+learn+tries+visit.Lts-enter as enter-lts
-use Rattle.visit.proofs.learn.Reads as learn
-use Rattle.visit.proofs.learn.Kinds as learn-kinds
-use Rattle.visit.proofs.+below+choices+enter+learn+tries+visit.Lts-learn as learn-lts
-use Rattle.visit.proofs.tries.Reads as tries
-use Rattle.visit.proofs.tries.Kinds as tries-kinds
-use Rattle.visit.proofs.+below+choices+enter+learn+tries+visit.Lts-tries as tries-lts
-use Rattle.visit.proofs.visit.Reads as visit
-use Rattle.visit.proofs.visit.Kinds as visit-kinds
-use Rattle.visit.proofs.+below+choices+enter+learn+tries+visit.Lts-visit as visit-lts
+use Rattle.visit.proofs.walk.below.Reads as below
+use Rattle.visit.proofs.walk.below.Kinds as below-kinds
+use Rattle.visit.proofs.walk.+below+choices+enter+learn+tries+visit.Lts-below as below-lts
+use Rattle.visit.proofs.walk.choices.Reads as choices
+use Rattle.visit.proofs.walk.choices.Kinds as choices-kinds
+use Rattle.visit.proofs.walk.+below+choices+enter+learn+tries+visit.Lts-choices as choices-lts
+use Rattle.visit.proofs.walk.enter.Reads as enter
+use Rattle.visit.proofs.walk.enter.Kinds as enter-kinds
+use Rattle.visit.proofs.walk.+below+choices+enter+learn+tries+visit.Lts-enter as enter-lts
+use Rattle.visit.proofs.walk.learn.Reads as learn
+use Rattle.visit.proofs.walk.learn.Kinds as learn-kinds
+use Rattle.visit.proofs.walk.+below+choices+enter+learn+tries+visit.Lts-learn as learn-lts
+use Rattle.visit.proofs.walk.tries.Reads as tries
+use Rattle.visit.proofs.walk.tries.Kinds as tries-kinds
+use Rattle.visit.proofs.walk.+below+choices+enter+learn+tries+visit.Lts-tries as tries-lts
+use Rattle.visit.proofs.walk.visit.Reads as visit
+use Rattle.visit.proofs.walk.visit.Kinds as visit-kinds
+use Rattle.visit.proofs.walk.+below+choices+enter+learn+tries+visit.Lts-visit as visit-lts
 use Rattle.flat.proofs.job_count.Reads as job-count-reads
 use Rattle.base.proofs.larger.Reads as larger-reads
 use Rattle.base.proofs.wide.Reads as wide-reads
@@ -57,19 +57,19 @@ use Rattle.recall.proofs.memory.keep.Reads as keep-reads
 use Rattle.vertex.proofs.cells.place.Reads as place-reads
 use Rattle.vertex.proofs.dues.dues_in.Reads as dues-in-reads
 use Rattle.vertex.proofs.gaps.end_of.Reads as end-of-reads
-use Rattle.visit.proofs.cut_at.Reads as cut-at-reads
-use Rattle.visit.proofs.drops.Reads as drops-reads
-use Rattle.visit.proofs.first_cut.Reads as first-cut-reads
-use Rattle.visit.proofs.is_many.Reads as is-many-reads
-use Rattle.visit.proofs.is_whole.Reads as is-whole-reads
-use Rattle.visit.proofs.slack_of.Reads as slack-of-reads
+use Rattle.visit.proofs.cuts.cut_at.Reads as cut-at-reads
+use Rattle.visit.proofs.cuts.drops.Reads as drops-reads
+use Rattle.visit.proofs.cuts.first_cut.Reads as first-cut-reads
+use Rattle.visit.proofs.walk.is_many.Reads as is-many-reads
+use Rattle.visit.proofs.walk.is_whole.Reads as is-whole-reads
+use Rattle.visit.proofs.walk.slack_of.Reads as slack-of-reads
 use Rattle.visit.proofs.tally.add_count.Reads as add-count-reads
 use Rattle.visit.proofs.tally.count_one.Reads as count-one-reads
 use Rattle.visit.proofs.tally.note.Reads as note-reads
 use Rattle.visit.proofs.tally.offer.Reads as offer-reads
 use Rattle.visit.proofs.tally.stops.Reads as stops-reads
-use Rattle.visit.proofs.+below+choices+enter+learn+tries+visit.{statement}
-use Rattle.visit.proofs.+below+choices+enter+learn+tries+visit.Tie.{close}
+use Rattle.visit.proofs.walk.+below+choices+enter+learn+tries+visit.{statement}
+use Rattle.visit.proofs.walk.+below+choices+enter+learn+tries+visit.Tie.{close}
 
 abbrev μ-below : Measures 5 below-kinds.ps ℕ
 μ-below κs a = 6 * (a .1 .1 .1 .1 .1 .1 .0) + 4

@@ -1,9 +1,9 @@
--- `visit::slack_of` meets its contract.
+-- `visit::walk::slack_of` meets its contract.
 use borrow.Author.Needs.{needs}
 use Rattle.base.proofs.Paths.{paths}
 use Rattle.visit.specs.inside.Lent.{slackBy}
-use Rattle.visit.proofs.slack_of.Statement.{statement}
-use Rattle.visit.proofs.slack_of.Tie as tie
+use Rattle.visit.proofs.walk.slack_of.Statement.{statement}
+use Rattle.visit.proofs.walk.slack_of.Tie as tie
 
 returns : tie.Need-returns
 unfolding slackBy

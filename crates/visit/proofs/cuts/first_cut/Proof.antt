@@ -1,9 +1,9 @@
--- `visit::first_cut` meets its contract.
+-- `visit::cuts::first_cut` meets its contract.
 use mathlib.Core.Path.{_∙_}
 use native.Mathlib.Omega.{arith}
 use borrow.Author.Needs.{needs}
-use Rattle.visit.proofs.first_cut.Statement.{statement}
-use Rattle.visit.proofs.first_cut.Tie as tie
+use Rattle.visit.proofs.cuts.first_cut.Statement.{statement}
+use Rattle.visit.proofs.cuts.first_cut.Tie as tie
 
 run-of-requires : tie.Need-run-of-requires
 run-of-requires c κs = c .pre .1 .0

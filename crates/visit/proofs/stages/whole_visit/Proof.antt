@@ -1,8 +1,8 @@
--- `visit::whole_visit` meets its contract.
+-- `visit::stages::whole_visit` meets its contract.
 use borrow.Author.Needs.{needs}
 use Rattle.visit.proofs.Rooted.{came-ran}
-use Rattle.visit.proofs.whole_visit.Statement.{statement}
-use Rattle.visit.proofs.whole_visit.Tie as tie
+use Rattle.visit.proofs.stages.whole_visit.Statement.{statement}
+use Rattle.visit.proofs.stages.whole_visit.Tie as tie
 
 begin-requires : tie.Need-begin-requires
 begin-requires c κs = c .before .before .before .pre .1

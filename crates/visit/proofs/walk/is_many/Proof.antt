@@ -1,9 +1,9 @@
--- `visit::is_many` is safe: it looks at sixteen places at most.
+-- `visit::walk::is_many` is safe: it looks at sixteen places at most.
 use Prim.Native.Nat.{_-_, _≤_}
 use native.Mathlib.Omega.{arith}
 use borrow.Author.Needs.{needs}
-use Rattle.visit.proofs.is_many.Statement.{statement}
-use Rattle.visit.proofs.is_many.Tie as tie
+use Rattle.visit.proofs.walk.is_many.Statement.{statement}
+use Rattle.visit.proofs.walk.is_many.Tie as tie
 
 abbrev Inv-loop : tie.InvT-loop
 Inv-loop set words rest₀ i₀ rest i = i ≤ 16

@@ -1,4 +1,4 @@
--- `visit::drops` meets its contract.
+-- `visit::cuts::drops` meets its contract.
 use mathlib.Core.Path.{_≡_, _∙_, subst}
 use Prim.Native.Nat.{ℕ, suc, _+_, _-_}
 use native.Mathlib.Omega.{arith}
@@ -6,8 +6,8 @@ use borrow.Author.Needs.{needs}
 use Rattle.schedule.specs.Quantities.{deadline, run}
 use Rattle.flat.specs.inside.Flat.{recorderOf}
 use Rattle.visit.specs.inside.Lent.{Added}
-use Rattle.visit.proofs.drops.Statement.{statement}
-use Rattle.visit.proofs.drops.Tie as tie
+use Rattle.visit.proofs.cuts.drops.Statement.{statement}
+use Rattle.visit.proofs.cuts.drops.Tie as tie
 
 returns : tie.Need-returns
 returns c =

@@ -1,8 +1,8 @@
--- `visit::few_visit` meets its contract.
+-- `visit::stages::few_visit` meets its contract.
 use borrow.Author.Needs.{needs}
 use Rattle.visit.proofs.Finding.{lends-clear, getD-zeros, ran-as}
-use Rattle.visit.proofs.few_visit.Statement.{statement}
-use Rattle.visit.proofs.few_visit.Tie as tie
+use Rattle.visit.proofs.stages.few_visit.Statement.{statement}
+use Rattle.visit.proofs.stages.few_visit.Tie as tie
 
 whole-visit-requires : tie.Need-whole-visit-requires
 whole-visit-requires c κs = let s = c .before .before .before .before in (lends-clear _ _ _ (s .pre .0) (getD-zeros 1), s .pre .1)

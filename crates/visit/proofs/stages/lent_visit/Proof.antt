@@ -1,8 +1,8 @@
--- `visit::lent_visit` meets its contract.
+-- `visit::stages::lent_visit` meets its contract.
 use borrow.Author.Needs.{needs}
 use Rattle.visit.proofs.Finding.{lends-clear}
-use Rattle.visit.proofs.lent_visit.Statement.{statement}
-use Rattle.visit.proofs.lent_visit.Tie as tie
+use Rattle.visit.proofs.stages.lent_visit.Statement.{statement}
+use Rattle.visit.proofs.stages.lent_visit.Tie as tie
 
 whole-visit-requires : tie.Need-whole-visit-requires
 whole-visit-requires c κs =

@@ -1,4 +1,4 @@
--- `visit::root_visit` meets its contract.
+-- `visit::walk::root_visit` meets its contract.
 use mathlib.Core.Path.{_≡_, refl, sym, ap, _∙_}
 use Prim.Native.Nat.{ℕ, _+_, _≤_, _<_}
 use native.Mathlib.Omega.{arith}
@@ -10,8 +10,8 @@ use Rattle.vertex.specs.inside.Shown.{loadAt}
 use Rattle.vertex.proofs.Showing.{ordered-later, shown-ordered}
 use Rattle.visit.proofs.Rooted.{bare, root-tells, root-over, root-cut, root-aheads, root-complete, root-some, root-stands, root-one, root-came}
 use Rattle.visit.proofs.Telling.{counted-less, offered-less}
-use Rattle.visit.proofs.root_visit.Statement.{statement}
-use Rattle.visit.proofs.root_visit.Tie as tie
+use Rattle.visit.proofs.walk.root_visit.Statement.{statement}
+use Rattle.visit.proofs.walk.root_visit.Tie as tie
 
 returns : tie.Need-returns
 returns c = let s = c .before .before .before in (s .pre .1 .0, λ stop e. root-over _ stop _ (c .if1 .taken) _ (s .pre .1 .1 .1 .0) e)

@@ -1,9 +1,9 @@
--- `visit::is_whole` meets its contract.
+-- `visit::walk::is_whole` meets its contract.
 use mathlib.Core.Path.{sym}
 use mathlib.Core.Bool.{true≢false}
 use borrow.Author.Tests.{eqb-true}
-use Rattle.visit.proofs.is_whole.Statement.{statement}
-use Rattle.visit.proofs.is_whole.Tie as tie
+use Rattle.visit.proofs.walk.is_whole.Statement.{statement}
+use Rattle.visit.proofs.walk.is_whole.Tie as tie
 
 returns : tie.Need-returns
 returns c e = absurd (true≢false (sym e))

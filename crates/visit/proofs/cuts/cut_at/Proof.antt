@@ -1,10 +1,10 @@
--- `visit::cut_at` meets its contract.
+-- `visit::cuts::cut_at` meets its contract.
 use mathlib.Core.Path.{refl}
 use mathlib.Core.Logic.{inl, inr}
 use native.Mathlib.Omega.{arith}
 use borrow.Author.Needs.{needs}
-use Rattle.visit.proofs.cut_at.Statement.{statement}
-use Rattle.visit.proofs.cut_at.Tie as tie
+use Rattle.visit.proofs.cuts.cut_at.Statement.{statement}
+use Rattle.visit.proofs.cuts.cut_at.Tie as tie
 
 add-least : tie.Need-add-least
 add-least c = omega (arith, c .least-of .ensures .1, c .before .before .before .pre .1 .0)
