@@ -43,7 +43,7 @@ fn find(r: &Flat, latest: &Table, budget: u32, memory: &mut [u64], found: &mut [
     requires { ⌜ Valid (recorderOf (now r)) × (Laid (recorderOf (now r)) (now latest) × ((now found ≡ replicate 16 0) × (0 < latestOf (recorderOf (now r)) (2 ^ jobs (recorderOf (now r)) - 1)))) ⌝ }
     ensures { λ x. ⌜ ReadOff (recorderOf (now (r .entry))) budget (now (found .exit)) x ⌝ }
 {
-    let mut extras = [0u32; 32960];
+    let mut extras = [0u32; 32976];
     lay_extras(r, &mut extras);
     clear(memory);
     least_starts(r, &extras, latest, memory, budget, found)

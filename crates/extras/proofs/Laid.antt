@@ -29,27 +29,27 @@ use Rattle.extras.proofs.Shaping.{climbs-on, lands-on, shape-of}
 pub record Below (d : Device) (k n : ℕ) (l₀ l : List ℕ) : Type 0 where
   pub long : length l ≡ length l₀
   pub laid : (g : ℕ) → g < n → extraAt l k g ≡ extra d g
-  pub kept : (i : ℕ) → ((g : ℕ) → i ≡ 184 + 8 * g + k → ⊥) → getD l i 0 ≡ getD l₀ i 0
+  pub kept : (i : ℕ) → ((g : ℕ) → i ≡ 200 + 8 * g + k → ⊥) → getD l i 0 ≡ getD l₀ i 0
 
 module _ {d : Device} {k : ℕ} {l₀ : List ℕ} where
   pub below-none : Below d k 0 l₀ l₀
   below-none = record { long = refl; laid = λ g h. absurd (omega arith); kept = λ i h. refl }
 
   pub below-next :
-      {n x : ℕ} {l : List ℕ} → Below d k n l₀ l → 184 + 8 * n + k < length l₀ → x ≡ extra d n → Below d k (n + 1) l₀ (set l (184 + 8 * n + k) x)
+      {n x : ℕ} {l : List ℕ} → Below d k n l₀ l → 200 + 8 * n + k < length l₀ → x ≡ extra d n → Below d k (n + 1) l₀ (set l (200 + 8 * n + k) x)
   unfolding extraAt
   below-next {n} {x} {l} b room e = record {
-    long = length-set l (184 + 8 * n + k) x ∙ b .long;
+    long = length-set l (200 + 8 * n + k) x ∙ b .long;
     laid =
-        λ g h. ⊎-elim (λ (q : g ≡ n). rw q (here ∙ e)) (λ q. other (184 + 8 * g + k) (λ p. absurd (omega arith)) ∙ b .laid g q) (eq-or-lt-of-le {n = g} {m = n} (omega arith));
+        λ g h. ⊎-elim (λ (q : g ≡ n). rw q (here ∙ e)) (λ q. other (200 + 8 * g + k) (λ p. absurd (omega arith)) ∙ b .laid g q) (eq-or-lt-of-le {n = g} {m = n} (omega arith));
     kept = λ i h. other i (h n) ∙ b .kept i h;
   }
     where
-      here : getD (set l (184 + 8 * n + k) x) (184 + 8 * n + k) 0 ≡ x
-      here = getD-set-same l (184 + 8 * n + k) x 0 (omega (arith, b .long))
+      here : getD (set l (200 + 8 * n + k) x) (200 + 8 * n + k) 0 ≡ x
+      here = getD-set-same l (200 + 8 * n + k) x 0 (omega (arith, b .long))
 
-      other : (i : ℕ) → (i ≡ 184 + 8 * n + k → ⊥) → getD (set l (184 + 8 * n + k) x) i 0 ≡ getD l i 0
-      other i h = getD-set-other l (184 + 8 * n + k) i x 0 h
+      other : (i : ℕ) → (i ≡ 200 + 8 * n + k → ⊥) → getD (set l (200 + 8 * n + k) x) i 0 ≡ getD l i 0
+      other i h = getD-set-other l (200 + 8 * n + k) i x 0 h
 
   pub below-all : {n h : ℕ} {l : List ℕ} → Below d k n l₀ l → n ≡ h + 1 → LaidGaps d k h l₀ l
   below-all b m = record { long = b .long; laid = λ g s. b .laid g (omega arith); kept = b .kept }
@@ -125,7 +125,7 @@ device-laid {d} {k} {h} {s} {l₀} {l} w few long narrow e = record {
   narrow = narrow;
   stands =
       record {
-        laid = λ g m. stored-other l k s (184 + 8 * g + k) (λ e. absurd (omega arith)) (λ e. absurd (omega arith)) (λ e. absurd (omega arith)) (λ e. absurd (omega arith)) (λ e. absurd (omega arith)) ∙ w .laid g m;
+        laid = λ g m. stored-other l k s (200 + 8 * g + k) (λ e. absurd (omega arith)) (λ e. absurd (omega arith)) (λ e. absurd (omega arith)) (λ e. absurd (omega arith)) (λ e. absurd (omega arith)) ∙ w .laid g m;
         cap = stored-cap l k s room few ∙ rw e;
         rise = stored-rise l k s room few ∙ rw e;
         fall = stored-fall l k s room few ∙ rw e;
@@ -135,7 +135,7 @@ device-laid {d} {k} {h} {s} {l₀} {l} w few long narrow e = record {
   kept =
       λ x i less t.
       record {
-        laid = λ g m. still i less (184 + 8 * g + i) (23 + g) (omega arith) ∙ t .laid g m;
+        laid = λ g m. still i less (200 + 8 * g + i) (25 + g) (omega arith) ∙ t .laid g m;
         cap = still i less i 0 (omega arith) ∙ t .cap;
         rise = still i less (8 + i) 1 (omega arith) ∙ t .rise;
         fall = still i less (16 + i) 2 (omega arith) ∙ t .fall;
@@ -185,7 +185,7 @@ module _ {R : Recorder} where
         λ k h.
         let t = b .stands k h in
         record {
-          laid = λ g m. w .kept (184 + 8 * g + k) (λ p q. absurd (omega arith)) ∙ t .laid g m;
+          laid = λ g m. w .kept (200 + 8 * g + k) (λ p q. absurd (omega arith)) ∙ t .laid g m;
           cap = w .kept k (λ p q. absurd (omega arith)) ∙ t .cap;
           rise = w .kept (8 + k) (λ p q. absurd (omega arith)) ∙ t .rise;
           fall = w .kept (16 + k) (λ p q. absurd (omega arith)) ∙ t .fall;

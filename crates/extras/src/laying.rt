@@ -54,7 +54,7 @@ fn next_gap(d: Device, sleep: u32, g: u16, last: u32, deepest: bool) -> Gap
 
 // The extras of device k, which is d and has the power `sleep` in its deepest sleep, up to h ticks.
 fn lay_gaps(d: Device, sleep: u32, k: usize, h: u16, extras: &mut [u32]) -> Shape
-    requires { ⌜ Sound d × ((sleep ≡ deep d) × ((k < 8) × ((h ≤ 4096) × (192 + 8 * h ≤ length (now extras))))) ⌝ }
+    requires { ⌜ Sound d × ((sleep ≡ deep d) × ((k < 8) × ((h ≤ 4096) × (208 + 8 * h ≤ length (now extras))))) ⌝ }
     ensures { λ s. ⌜ LaidGaps d k h (now (extras .entry)) (now (extras .exit)) × (s ≡ shapeOf d (suc h)) ⌝ }
 {
     let mut shape = Shape {
@@ -80,7 +80,7 @@ fn lay_gaps(d: Device, sleep: u32, k: usize, h: u16, extras: &mut [u32]) -> Shap
 
 // All of device k.
 fn lay_device(r: &Flat, k: usize, extras: &mut [u32])
-    requires { ⌜ Valid (recorderOf (now r)) × ((k < recorderOf (now r) .devices .count) × (192 + 8 * recorderOf (now r) .horizon ≤ length (now extras))) ⌝ }
+    requires { ⌜ Valid (recorderOf (now r)) × ((k < recorderOf (now r) .devices .count) × (208 + 8 * recorderOf (now r) .horizon ≤ length (now extras))) ⌝ }
     ensures { λ _. ⌜ LaidDevice (device (recorderOf (now (r .entry))) k) k (recorderOf (now (r .entry)) .horizon) (now (extras .entry)) (now (extras .exit)) ⌝ }
 {
     let shape = lay_gaps(

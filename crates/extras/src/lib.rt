@@ -1,14 +1,14 @@
 // What each gap of each device costs above the deepest sleep, worked out once before a search; with it from which length on that stays the same, from which on it no
-// longer falls and to what it falls, and by how much one tick more changes it at most; and which devices each job uses.
+// longer falls and to what it falls, and by how much one tick more changes it at most; and of each job its last start, and which devices it uses.
 use base::smaller;
 ghost use mathlib.Core.Path.{_≡_};
 ghost use Prim.Native.Nat.{_+_, _*_, _<_, _≤_};
 ghost use lib.ListN.{length};
 ghost use Rattle.extras.specs.inside.Tabled.{extraAt, capAt, riseAt, fallAt, leastFrom};
-ghost use Rattle.extras.specs.inside.Uses.{usedCountAt, usedAt};
+ghost use Rattle.extras.specs.inside.Uses.{usedCountAt, lastAt, usedAt};
 
 pub mod laying; // laying.rt: the table filled
-mod used; // used.rt: the devices of each job
+mod used; // used.rt: the last start and the devices of each job
 mod shape; // shape.rt: cap, rise, fall, foot and low, gap by gap
 
 // The table is lent as rows of eight numbers, one for each device. The caps stand first; then, each from its place on, the steepest rises,
@@ -26,15 +26,18 @@ const LOWS: usize = 32;
 // how many devices each of sixteen jobs uses,
 const COUNTS: usize = 40;
 
-// which they are, in a row a job,
-const LISTS: usize = 56;
+// the last start from which it meets its deadline,
+const LASTS: usize = 56;
 
-// and the extras of the gaps of no tick, of one tick and so on. So no place depends on the horizon: 192 + 8 * H numbers are enough, or 192 where there is no device.
-const EXTRAS: usize = 184;
+// which devices it uses, in a row a job,
+const LISTS: usize = 72;
+
+// and the extras of the gaps of no tick, of one tick and so on. So no place depends on the horizon: 208 + 8 * H numbers are enough, or 208 where there is no device.
+const EXTRAS: usize = 200;
 
 // The extra of a gap of g ticks.
 pub fn extra_of(extras: &[u32], k: usize, g: u32) -> u32
-    requires { ⌜ (k < 8) × ((g ≤ 4096) × (192 + 8 * g ≤ length (now extras))) ⌝ }
+    requires { ⌜ (k < 8) × ((g ≤ 4096) × (208 + 8 * g ≤ length (now extras))) ⌝ }
     ensures { λ x. ⌜ x ≡ extraAt (now (extras .entry)) k g ⌝ }
 {
     extras[EXTRAS + 8 * g as usize + k]
@@ -66,7 +69,7 @@ pub fn fall_of(extras: &[u32], k: usize) -> u32
 
 // What no gap of g ticks or more has less than: from the foot on its own extra, and before it no more than what a fall leads to.
 pub fn least_from(extras: &[u32], k: usize, g: u32) -> u32
-    requires { ⌜ (k < 8) × ((g ≤ 4096) × (192 + 8 * g ≤ length (now extras))) ⌝ }
+    requires { ⌜ (k < 8) × ((g ≤ 4096) × (208 + 8 * g ≤ length (now extras))) ⌝ }
     ensures { λ x. ⌜ x ≡ leastFrom (now (extras .entry)) k g ⌝ }
 {
     let extra = extra_of(extras, k, g);
@@ -78,15 +81,23 @@ pub fn least_from(extras: &[u32], k: usize, g: u32) -> u32
 
 // How many devices job j uses.
 pub fn used_count(extras: &[u32], j: usize) -> u32
-    requires { ⌜ (j < 16) × (192 ≤ length (now extras)) ⌝ }
+    requires { ⌜ (j < 16) × (208 ≤ length (now extras)) ⌝ }
     ensures { λ x. ⌜ x ≡ usedCountAt (now (extras .entry)) j ⌝ }
 {
     extras[COUNTS + j]
 }
 
-// The one of them before which there are i.
+// The last start from which job j meets its deadline.
+pub fn last_start(extras: &[u32], j: usize) -> u32
+    requires { ⌜ (j < 16) × (208 ≤ length (now extras)) ⌝ }
+    ensures { λ x. ⌜ x ≡ lastAt (now (extras .entry)) j ⌝ }
+{
+    extras[LASTS + j]
+}
+
+// The one of its devices before which there are i.
 pub fn used_at(extras: &[u32], j: usize, i: u32) -> usize
-    requires { ⌜ (j < 16) × ((i < 8) × (192 ≤ length (now extras))) ⌝ }
+    requires { ⌜ (j < 16) × ((i < 8) × (208 ≤ length (now extras))) ⌝ }
     ensures { λ x. ⌜ x ≡ usedAt (now (extras .entry)) j i ⌝ }
 {
     let device = &extras[LISTS + 8 * j + i as usize];

@@ -1,15 +1,14 @@
 // Cut A (rule 43) as one comparison: the latest time at which a child passes it depends on its parent and its job alone. No device plays a part here.
 use base::JobNumber;
 use base::smaller;
-use base::wide;
+use extras::last_start;
 use flat::Flat;
-use flat::deadline_of;
 use flat::job_count;
-use flat::run_of;
 ghost use mathlib.Core.Path.{_≡_};
 ghost use Prim.Native.Nat.{_≤_};
-ghost use Rattle.schedule.specs.Quantities.{Valid, jobs};
+ghost use Rattle.schedule.specs.Quantities.{jobs};
 ghost use Rattle.flat.specs.inside.Flat.{recorderOf};
+ghost use Rattle.extras.specs.inside.Tabled.{Tabled};
 ghost use Rattle.vertex.specs.inside.Lasts.{TwoLeast};
 ghost use Rattle.vertex.specs.inside.Sums.{dueWith, limitFor};
 
@@ -41,8 +40,8 @@ fn due_with(d: Dues, j: JobNumber, x: u32) -> Dues
 }
 
 // The two smallest over the jobs of a set.
-pub fn dues_in(r: &Flat, set: usize) -> Dues
-    requires { ⌜ Valid (recorderOf (now r)) ⌝ }
+pub fn dues_in(r: &Flat, extras: &[u32], set: usize) -> Dues
+    requires { ⌜ Tabled (recorderOf (now r)) (now extras) ⌝ }
     ensures { λ x. ⌜ TwoLeast (recorderOf (now (r .entry))) set (jobs (recorderOf (now (r .entry)))) x ⌝ }
 {
     let n = job_count(r);
@@ -55,8 +54,7 @@ pub fn dues_in(r: &Flat, set: usize) -> Dues
     let mut i = 0;
     while i < n {
         if rest % 2 == 1 {
-            let last = wide(deadline_of(r, i)) - wide(run_of(r, i));
-            dues = due_with(dues, JobNumber(i), last);
+            dues = due_with(dues, JobNumber(i), last_start(extras, i));
         }
         rest = rest / 2;
         i += 1;

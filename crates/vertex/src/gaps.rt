@@ -41,7 +41,7 @@ fn chosen(test: bool, x: u32, y: u32) -> u32
 
 // The extra of a gap of g ticks; or, if later starts count too, what neither it nor a longer one has less than.
 fn gap_at(extras: &[u32], later: bool, k: usize, g: u32) -> u32
-    requires { ⌜ (k < 8) × ((g ≤ 4096) × (192 + 8 * g ≤ length (now extras))) ⌝ }
+    requires { ⌜ (k < 8) × ((g ≤ 4096) × (208 + 8 * g ≤ length (now extras))) ⌝ }
     ensures { λ x. ⌜ x ≡ gapAt (now (extras .entry)) later k g ⌝ }
 {
     if later {
@@ -53,7 +53,7 @@ fn gap_at(extras: &[u32], later: bool, k: usize, g: u32) -> u32
 // What device k pays for the gap before a job that uses it and starts at s; or at least, where it starts at s or later. The table is read before the test, so that
 // no jump hangs on it.
 fn gap_with(extras: &[u32], later: bool, round: bool, k: usize, end: u32, s: u32) -> u32
-    requires { ⌜ (k < 8) × ((end ≤ s) × ((s ≤ 4096) × (192 + 8 * s ≤ length (now extras)))) ⌝ }
+    requires { ⌜ (k < 8) × ((end ≤ s) × ((s ≤ 4096) × (208 + 8 * s ≤ length (now extras)))) ⌝ }
     ensures { λ x. ⌜ x ≡ cond (unused round end) 0 (gapAt (now (extras .entry)) later k (s - end)) ⌝ }
 {
     let gap = gap_at(extras, later, k, s - end);

@@ -90,16 +90,16 @@ fn found_by(
     }
 }
 
-// The first of the cheapest schedules, by a table with room for the horizon: a short one of 192 + 8 * 127 numbers, which is ready sooner, where that will do.
+// The first of the cheapest schedules, by a table with room for the horizon: a short one of 208 + 8 * 127 numbers, which is ready sooner, where that will do.
 fn found_within(r: Recorder, budget: u32, memory: &mut [u64], own: bool, out: &mut [u16]) -> Found
     requires { ⌜ Valid r ⌝ }
     ensures { λ x. ⌜ Finds r (visited r) budget (now (out .entry)) x (now (out .exit)) ⌝ }
 {
     if r.horizon <= 127 {
-        let mut extras = [0u32; 1208];
+        let mut extras = [0u32; 1224];
         return found_by(r, false, budget, &mut extras, memory, own, out);
     }
-    let mut extras = [0u32; 32960];
+    let mut extras = [0u32; 32976];
     found_by(r, false, budget, &mut extras, memory, own, out)
 }
 
@@ -126,6 +126,6 @@ pub fn first(r: Recorder, budget: u32, out: &mut [u16]) -> Found
     ensures { λ x. ⌜ Finds r (visitedBy r true) budget (now (out .entry)) x (now (out .exit)) ⌝ }
 {
     let mut none = [0u64; 1];
-    let mut extras = [0u32; 192];
+    let mut extras = [0u32; 208];
     found_by(r, true, budget, &mut extras, &mut none, true, out)
 }

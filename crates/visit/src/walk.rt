@@ -215,7 +215,7 @@ fn choices(
     ensures came { λ x. ⌜ ChoicesCame (recorderOf (now (r .entry))) budget (now (v .entry)) (now (tally .entry)) (now (tally .exit)) x set from time ⌝ }
 {
     let n = job_count(r);
-    let dues = dues_in(r, set);
+    let dues = dues_in(r, extras, set);
     let mut rest = set;
     let mut p: usize = 1;
     let mut j: usize = 0;

@@ -15,7 +15,7 @@ use Rattle.cheapest.proofs.find.Tie as tie
 lay-extras-requires : tie.Need-lay-extras-requires
 lay-extras-requires c κs =
     let s = c .before .before in
-    let is = length-replicate {A = ℕ} 32960 0 in
+    let is = length-replicate {A = ℕ} 32976 0 in
     (s .pre .0, record { long = omega (arith, is); reach = λ q. omega (arith, is, s .pre .0 .few-ticks) })
 
 least-starts-requires : tie.Need-least-starts-requires

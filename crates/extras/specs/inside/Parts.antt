@@ -14,7 +14,7 @@ use Rattle.extras.specs.inside.Uses.{Lists}
 pub record LaidGaps (d : Device) (k h : ℕ) (l₀ l : List ℕ) : Type 0 where
   pub long : length l ≡ length l₀
   pub laid : (g : ℕ) → g ≤ h → extraAt l k g ≡ extra d g
-  pub kept : (i : ℕ) → ((g : ℕ) → i ≡ 184 + 8 * g + k → ⊥) → getD l i 0 ≡ getD l₀ i 0
+  pub kept : (i : ℕ) → ((g : ℕ) → i ≡ 200 + 8 * g + k → ⊥) → getD l i 0 ≡ getD l₀ i 0
 
 -- All of d stands in the table as device k.
 pub record Stands (d : Device) (k h : ℕ) (l : List ℕ) : Type 0 where
@@ -32,14 +32,14 @@ pub record LaidDevice (d : Device) (k h : ℕ) (l₀ l : List ℕ) : Type 0 wher
   pub stands : Stands d k h l
   pub kept : (e : Device) (i : ℕ) → i < k → Stands e i h l₀ → Stands e i h l
 
--- The devices of job j were listed: but for their places l is as l₀.
+-- Job j was laid: but for its places l is as l₀.
 pub record LaidJob (R : Recorder) (j : ℕ) (l₀ l : List ℕ) : Type 0 where
   pub long : length l ≡ length l₀
   pub lists : Lists R j l
-  pub kept : (i : ℕ) → (i ≡ 40 + j → ⊥) → (56 + 8 * j ≤ i → i < 64 + 8 * j → ⊥) → getD l i 0 ≡ getD l₀ i 0
+  pub kept : (i : ℕ) → (i ≡ 40 + j → ⊥) → (i ≡ 56 + j → ⊥) → (72 + 8 * j ≤ i → i < 80 + 8 * j → ⊥) → getD l i 0 ≡ getD l₀ i 0
 
--- Those of the first n jobs were.
+-- The first n jobs were.
 pub record LaidJobs (R : Recorder) (n : ℕ) (l₀ l : List ℕ) : Type 0 where
   pub long : length l ≡ length l₀
   pub lists : (j : ℕ) → j < n → Lists R j l
-  pub kept : (i : ℕ) → (40 ≤ i → i < 184 → ⊥) → getD l i 0 ≡ getD l₀ i 0
+  pub kept : (i : ℕ) → (40 ≤ i → i < 200 → ⊥) → getD l i 0 ≡ getD l₀ i 0

@@ -1,5 +1,5 @@
--- The lent table of extras: what each gap of each device costs above the deepest sleep, and with it cap, steepest rise, steepest fall, foot and low; and which devices
--- each job uses.
+-- The lent table of extras: what each gap of each device costs above the deepest sleep, and with it cap, steepest rise, steepest fall, foot and low; and of each job
+-- its last start and which devices it uses.
 use mathlib.Core.Path.{_≡_}
 use mathlib.Core.Bool.{cond}
 use mathlib.Core.List.{List}
@@ -28,7 +28,7 @@ unfoldable pub lowAt : List ℕ → ℕ → ℕ
 lowAt l k = getD l (32 + k) 0
 
 unfoldable pub extraAt : List ℕ → ℕ → ℕ → ℕ
-extraAt l k g = getD l (184 + 8 * g + k) 0
+extraAt l k g = getD l (200 + 8 * g + k) 0
 
 -- What no gap of g ticks or more has less than: from the foot on the extra itself, and before it no more than what a fall leads to.
 unfoldable pub leastFrom : List ℕ → ℕ → ℕ → ℕ
@@ -36,8 +36,8 @@ leastFrom l k g = cond (ltb g (footAt l k)) (min (extraAt l k g) (lowAt l k)) (e
 
 -- Room for the table. Without devices it has no extras.
 pub record Room (R : Recorder) (l : List ℕ) : Type 0 where
-  pub long : 192 ≤ length l
-  pub reach : 0 < R .devices .count → 192 + 8 * R .horizon ≤ length l
+  pub long : 208 ≤ length l
+  pub reach : 0 < R .devices .count → 208 + 8 * R .horizon ≤ length l
 
 -- A valid recorder, whose powers at work fit sixteen bits, and its table: none of its numbers is more than 4,096 ticks at the largest power.
 pub record Tabled (R : Recorder) (l : List ℕ) : Type 0 where

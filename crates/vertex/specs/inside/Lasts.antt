@@ -2,15 +2,11 @@
 use mathlib.Core.Path.{_≡_}
 use mathlib.Core.Bool.{true}
 use mathlib.Core.Logic.{_⊎_}
-use Prim.Native.Nat.{ℕ, _-_, _≤_, _<_}
+use Prim.Native.Nat.{ℕ, _≤_, _<_}
 use Rattle.schedule.specs.declared.Recorder.{Recorder}
-use Rattle.schedule.specs.Quantities.{deadline, run}
 use Rattle.latest.specs.inside.Sets.{has}
+use Rattle.extras.specs.inside.Uses.{lastOf}
 use Rattle.vertex.specs.declared.dues.Dues.{Dues}
-
--- The last start from which job j meets its deadline.
-abbrev pub lastOf : Recorder → ℕ → ℕ
-lastOf R j = deadline R j - run R j
 
 -- Of the jobs of the set m below n the two smallest last starts, and the job of the smaller; 65536 where there is none.
 pub record TwoLeast (R : Recorder) (m n : ℕ) (d : Dues) : Type 0 where

@@ -11,7 +11,7 @@ use Rattle.visit.proofs.found_within.Tie as tie
 found-by-requires : tie.Need-found-by-requires
 found-by-requires c κs =
     let test = c .before .before .before in
-    let is = length-replicate {A = ℕ} 1208 0 in
+    let is = length-replicate {A = ℕ} 1224 0 in
     (test .before .before .before .before .pre, record { long = omega (arith, is); reach = λ q. omega (arith, is, test .if1 .taken) })
 
 returns : tie.Need-returns
@@ -21,7 +21,7 @@ returns c = finds-whole _ _ _ _ _ (c .before .before .before .before .before .fo
 found-by-requires-2 : tie.Need-found-by-requires-2
 found-by-requires-2 c κs =
     let s = c .before .before .before .before .before .before .before in
-    let is = length-replicate {A = ℕ} 32960 0 in
+    let is = length-replicate {A = ℕ} 32976 0 in
     (s .pre, record { long = omega (arith, is); reach = λ q. omega (arith, is, s .pre .few-ticks) })
 
 returns-2 : tie.Need-returns-2

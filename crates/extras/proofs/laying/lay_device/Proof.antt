@@ -43,7 +43,7 @@ lay-gaps-requires c κs =
 -- Its columns are in the table.
 room :
     (c : tie.After-slice-known2)
-    → 184 + c .before .before .before .before .before .before .before .before .before .args .k < length (c .before .before .lay-gaps .last .1 .1 .1 .1 .0)
+    → 200 + c .before .before .before .before .before .before .before .before .before .args .k < length (c .before .before .lay-gaps .last .1 .1 .1 .1 .0)
 room c =
     let s = c .before .before .before .before .before .before .before .before .before in
     omega (arith, laid (c .before .before) .0 .long, s .pre .0 .few-devices, s .pre .1)

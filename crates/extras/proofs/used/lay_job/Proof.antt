@@ -60,16 +60,22 @@ slice-write-extras-2 c =
     let s = l .before .before .before in
     omega (arith, l .loop .inv .2 .long, s .pre .1 .0, s .pre .1 .1)
 
+slice-write-extras-3 : tie.Need-slice-write-extras-3 Inv-loop μ-loop
+slice-write-extras-3 c =
+    let l = c .before .before .before .before .before .before in
+    let s = l .before .before .before in
+    simp length-set (omega (arith, l .loop .inv .2 .long, s .pre .1 .0, s .pre .1 .1))
+
 same-length : tie.Need-same-length Inv-loop μ-loop
-same-length c =
-    let l = c .before in
-    length-set (l .loop .extras) (40 + l .before .before .before .args .j) (l .loop .n) ∙ l .loop .inv .2 .long
+same-length c = let l = c .before .before .before .before .before .before in simp length-set (l .loop .inv .2 .long)
 
 returns : tie.Need-returns Inv-loop μ-loop
 returns c =
-    let l = c .before in
+    let e = c .before .before .before .before .before in
+    let l = e .before in
     let s = l .before .before .before in
-    listed-all (s .pre .1 .0) (s .pre .1 .1) (l .loop .inv .2) (omega (arith, c .loop-test .left, l .loop .inv .0, l .before .device-count .ensures)) (omega (arith, l .loop .inv .0, l .loop .inv .1)) (l .loop .inv .3)
+    listed-all (s .pre .1 .0) (s .pre .1 .1) (l .loop .inv .2) (omega (arith, e .loop-test .left, l .loop .inv .0, l .before .device-count .ensures)) (omega (arith, l .loop .inv .0, l .loop .inv .1)) (l .loop .inv .3)
+    (c .lessened .ensures ∙ rw (c .before .before .before .wide .ensures .0, c .before .before .before .before .deadline-of .ensures, c .before .wide2 .ensures .0, c .before .before .run-of .ensures))
 
 pub lay-job-spec : {M : Type 1} → statement M
 lay-job-spec =
@@ -95,5 +101,13 @@ lay-job-spec =
     (λ c. search needs)
     (λ c. search needs)
     slice-write-extras-2
+    (λ c κs. search needs)
+    (λ c κs. search needs)
+    (λ c κs. search needs)
+    (λ c κs. search needs)
+    (λ c κs. search needs)
+    (λ c. search needs)
+    (λ c. search needs)
+    slice-write-extras-3
     same-length
     returns)

@@ -200,7 +200,7 @@ abbrev choices-μ-loop : choices-lts.MeasureT-loop
 choices-μ-loop r extras memory₀ v tally₀ budget set from time n dues rest₀ p₀ j₀ memory tally rest p j = n - j
 
 choices-dues-in-requires : (t : ℕ) → choices-lts.Need-dues-in-requires (choices-calls t) (choices-at t) choices.Post choices-Inv-loop choices-μ-loop
-choices-dues-in-requires t c κs = c .before .before .before .pre .1 .0 .tabled .valid
+choices-dues-in-requires t c κs = c .before .before .before .pre .1 .0 .tabled
 
 choices-loop-holds : (t : ℕ) → choices-lts.Need-loop-holds (choices-calls t) (choices-at t) choices.Post choices-Inv-loop choices-μ-loop
 unfolding order.choices
