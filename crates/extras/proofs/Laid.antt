@@ -19,7 +19,7 @@ use Rattle.value.specs.inside.Leasts.{Rises, Falls}
 use Rattle.extras.specs.declared.shape.Shape.{Shape}
 use Rattle.extras.specs.inside.Shapes.{Climbs, Lands, Shaped, shapeOf}
 use Rattle.extras.specs.inside.Tabled.{extraAt, capAt, riseAt, fallAt, footAt, lowAt, leastFrom, Room, Tabled}
-use Rattle.extras.specs.inside.Uses.{Lists}
+use Rattle.extras.specs.inside.Jobs.{OfJob}
 use Rattle.extras.specs.inside.Parts.{LaidGaps, Stands, LaidDevice, LaidJobs}
 use Rattle.extras.proofs.Bounds.{extra-most}
 use Rattle.extras.proofs.Shaping.{climbs-on, lands-on, shape-of}
@@ -194,7 +194,7 @@ module _ {R : Recorder} where
         };
   }
 
-  pub devices-all : {l : List ℕ} → Valid R → Devices R (R .devices .count) l → ((j : ℕ) → j < 16 → Lists R j l) → Tabled R l
+  pub devices-all : {l : List ℕ} → Valid R → Devices R (R .devices .count) l → ((j : ℕ) → j < 16 → OfJob R j l) → Tabled R l
   unfolding leastFrom
   devices-all {l} ok b lists = record {
     valid = ok;

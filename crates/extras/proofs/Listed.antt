@@ -10,7 +10,7 @@ use lib.ListN.{getD, set, length, length-set}
 use lib.Seq.{getD-set-same, getD-set-other}
 use Rattle.schedule.specs.declared.Recorder.{Recorder}
 use Rattle.schedule.specs.Quantities.{uses}
-use Rattle.extras.specs.inside.Uses.{usedCountAt, lastOf, lastAt, usedAt, usedBelow, Lists}
+use Rattle.extras.specs.inside.Jobs.{usedCountAt, lastOf, lastAt, usedAt, usedBelow, OfJob}
 use Rattle.extras.specs.inside.Parts.{LaidJob, LaidJobs}
 use Rattle.extras.proofs.Uses.{used-most, used-before}
 
@@ -75,7 +75,7 @@ module _ {R : Recorder} {l₀ : List ℕ} where
     kept = λ i h. w .kept i (λ q. h (omega arith) (omega arith)) (λ q. h (omega arith) (omega arith)) (λ p q. h (omega arith) (omega arith)) ∙ b .kept i h;
   }
     where
-      still : (j : ℕ) → j < n → Lists R j l → Lists R j l′
+      still : (j : ℕ) → j < n → OfJob R j l → OfJob R j l′
       still j less t = record {
         last = w .kept (56 + j) (λ q. absurd (omega arith)) (λ q. absurd (omega arith)) (λ p q. absurd (omega arith)) ∙ t .last;
         count = w .kept (40 + j) (λ q. absurd (omega arith)) (λ q. absurd (omega arith)) (λ p q. absurd (omega arith)) ∙ t .count;

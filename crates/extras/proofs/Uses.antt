@@ -10,7 +10,7 @@ use native.Mathlib.Omega.{arith}
 use Rattle.base.specs.Sums.{sum}
 use Rattle.schedule.specs.declared.Recorder.{Recorder}
 use Rattle.schedule.specs.Quantities.{uses}
-use Rattle.extras.specs.inside.Uses.{usedAt, usedBelow, Lists}
+use Rattle.extras.specs.inside.Jobs.{usedAt, usedBelow, OfJob}
 
 module _ (R : Recorder) (j : ℕ) where
   pub used-none : 0 ≡ usedBelow R j 0
@@ -69,7 +69,7 @@ module _ (R : Recorder) (j : ℕ) where
 abbrev pub SumTo : Recorder → ℕ → (ℕ → ℕ) → ℕ → ℕ → Type 0
 SumTo R j f i x = (n : ℕ) → n ≤ R .devices .count → usedBelow R j n ≡ i → x ≡ sum n f
 
-module _ {R : Recorder} {j : ℕ} {l : List ℕ} (w : Lists R j l) where
+module _ {R : Recorder} {j : ℕ} {l : List ℕ} (w : OfJob R j l) where
   -- What stands in the list is a device that is used.
   pub listed : (i : ℕ) → i < usedBelow R j (R .devices .count)
       → (usedAt l j i < R .devices .count) × (uses R (usedAt l j i) j ≡ true) × (usedBelow R j (usedAt l j i) ≡ i)

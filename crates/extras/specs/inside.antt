@@ -1,4 +1,4 @@
 pub mod Parts
 pub mod Shapes
 pub mod Tabled
-pub mod Uses
+pub mod Jobs

@@ -5,10 +5,10 @@ ghost use mathlib.Core.Path.{_≡_};
 ghost use Prim.Native.Nat.{_+_, _*_, _<_, _≤_};
 ghost use lib.ListN.{length};
 ghost use Rattle.extras.specs.inside.Tabled.{extraAt, capAt, riseAt, fallAt, leastFrom};
-ghost use Rattle.extras.specs.inside.Uses.{usedCountAt, lastAt, usedAt};
+ghost use Rattle.extras.specs.inside.Jobs.{usedCountAt, lastAt, usedAt};
 
 pub mod laying; // laying.rt: the table filled
-mod used; // used.rt: the last start and the devices of each job
+mod jobs; // jobs.rt: the last start and the devices of each job
 mod shape; // shape.rt: cap, rise, fall, foot and low, gap by gap
 
 // The table is lent as rows of eight numbers, one for each device. The caps stand first; then, each from its place on, the steepest rises,

@@ -19,17 +19,17 @@ use Rattle.vertex.specs.inside.Shown.{endAt, fresh, leadBy, leadsBy, idl
 module _ (R : Recorder) (l : List ℕ) where
   -- ---- before a job
 
-  module _ (x : List ℕ) (t : Tabled R x) (later : Bool) where
+  module _ (x : List ℕ) (later : Bool) where
     -- A device that the job does not use adds nothing.
     pub gap-none : (j s k : ℕ) → uses R k j ≡ false → gapBy R x l later j s k ≡ 0
     unfolding gapBy
     gap-none j s k u = rw u
 
     -- One that it uses adds what the table says.
-    pub gap-used : (j s k y : ℕ) → k < R .devices .count → uses R k j ≡ true → s ≤ R .horizon
+    pub gap-used : Tabled R x → (j s k y : ℕ) → k < R .devices .count → uses R k j ≡ true → s ≤ R .horizon
         → y ≡ cond (fresh R l k) 0 (gapAt x later k (s - endAt l k)) → (y ≡ gapBy R x l later j s k) × (y ≤ 268431360)
     unfolding gapBy
-    gap-used j s k y b u m e = (rw u e, go (fresh R l k) later e)
+    gap-used t j s k y b u m e = (rw u e, go (fresh R l k) later e)
       where
         go : (f z : Bool) → y ≡ cond f 0 (gapAt x z k (s - endAt l k)) → y ≤ 268431360
         go true z h = omega arith

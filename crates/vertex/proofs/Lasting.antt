@@ -18,7 +18,7 @@ use Rattle.schedule.specs.Quantities.{jobs, deadline, run, Valid}
 use Rattle.schedule.specs.Visiting.{Vertex, child, earliest, late, cutA}
 use Rattle.schedule.proofs.Tree.{Reached}
 use Rattle.latest.specs.inside.Sets.{has}
-use Rattle.extras.specs.inside.Uses.{lastOf}
+use Rattle.extras.specs.inside.Jobs.{lastOf}
 use Rattle.vertex.specs.declared.dues.Dues.{Dues}
 use Rattle.vertex.specs.inside.Sums.{dueWith, dueFor, limitFor}
 use Rattle.vertex.specs.inside.Lasts.{TwoLeast}

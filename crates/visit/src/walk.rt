@@ -83,7 +83,8 @@ fn is_whole(short: bool, best: u32, after: u32) -> bool
     best == after
 }
 
-// The child of v that places job j at s, and all below it. From the start `cut` on it is dropped; before, its floor is `floor`. Answers whether the visit goes no further: the budget is used up, or what it stops at is found.
+// The child of v that places job j at s, and all below it. From the start `cut` on it is dropped; before, its floor is `floor`. Answers whether the visit goes no
+// further: the budget is used up, or what it stops at is found.
 fn visit(
     r: &Flat,
     extras: &[u32],

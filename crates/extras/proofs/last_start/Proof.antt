@@ -1,6 +1,6 @@
 -- `extras::last_start` meets its contract.
 use borrow.Author.Needs.{needs}
-use Rattle.extras.specs.inside.Uses.{lastAt}
+use Rattle.extras.specs.inside.Jobs.{lastAt}
 use Rattle.extras.proofs.last_start.Statement.{statement}
 use Rattle.extras.proofs.last_start.Tie as tie
 

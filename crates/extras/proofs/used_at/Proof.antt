@@ -1,6 +1,6 @@
 -- `extras::used_at` meets its contract.
 use borrow.Author.Needs.{needs}
-use Rattle.extras.specs.inside.Uses.{usedAt}
+use Rattle.extras.specs.inside.Jobs.{usedAt}
 use Rattle.extras.proofs.used_at.Statement.{statement}
 use Rattle.extras.proofs.used_at.Tie as tie
 

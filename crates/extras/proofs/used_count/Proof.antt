@@ -1,6 +1,6 @@
 -- `extras::used_count` meets its contract.
 use borrow.Author.Needs.{needs}
-use Rattle.extras.specs.inside.Uses.{usedCountAt}
+use Rattle.extras.specs.inside.Jobs.{usedCountAt}
 use Rattle.extras.proofs.used_count.Statement.{statement}
 use Rattle.extras.proofs.used_count.Tie as tie
 

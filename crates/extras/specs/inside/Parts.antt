@@ -8,7 +8,7 @@ use Rattle.schedule.specs.declared.Recorder.{Recorder}
 use Rattle.keys.specs.inside.Keys.{extra}
 use Rattle.extras.specs.inside.Shapes.{shapeOf}
 use Rattle.extras.specs.inside.Tabled.{extraAt, capAt, riseAt, fallAt, footAt, lowAt}
-use Rattle.extras.specs.inside.Uses.{Lists}
+use Rattle.extras.specs.inside.Jobs.{OfJob}
 
 -- The extras of d up to h ticks were laid as those of device k: but for their places l is as l₀.
 pub record LaidGaps (d : Device) (k h : ℕ) (l₀ l : List ℕ) : Type 0 where
@@ -35,11 +35,11 @@ pub record LaidDevice (d : Device) (k h : ℕ) (l₀ l : List ℕ) : Type 0 wher
 -- Job j was laid: but for its places l is as l₀.
 pub record LaidJob (R : Recorder) (j : ℕ) (l₀ l : List ℕ) : Type 0 where
   pub long : length l ≡ length l₀
-  pub lists : Lists R j l
+  pub lists : OfJob R j l
   pub kept : (i : ℕ) → (i ≡ 40 + j → ⊥) → (i ≡ 56 + j → ⊥) → (72 + 8 * j ≤ i → i < 80 + 8 * j → ⊥) → getD l i 0 ≡ getD l₀ i 0
 
 -- The first n jobs were.
 pub record LaidJobs (R : Recorder) (n : ℕ) (l₀ l : List ℕ) : Type 0 where
   pub long : length l ≡ length l₀
-  pub lists : (j : ℕ) → j < n → Lists R j l
+  pub lists : (j : ℕ) → j < n → OfJob R j l
   pub kept : (i : ℕ) → (40 ≤ i → i < 200 → ⊥) → getD l i 0 ≡ getD l₀ i 0

@@ -10,7 +10,7 @@ use Rattle.schedule.specs.declared.Recorder.{Recorder}
 use Rattle.schedule.specs.Quantities.{Valid, device}
 use Rattle.keys.specs.inside.Keys.{extra, Caps}
 use Rattle.value.specs.inside.Leasts.{Rises, Falls}
-use Rattle.extras.specs.inside.Uses.{Lists}
+use Rattle.extras.specs.inside.Jobs.{OfJob}
 
 unfoldable pub capAt : List ℕ → ℕ → ℕ
 capAt l k = getD l k 0
@@ -53,4 +53,4 @@ pub record Tabled (R : Recorder) (l : List ℕ) : Type 0 where
   pub falls : (k : ℕ) → k < R .devices .count → Falls (device R k) (R .horizon) (fallAt l k)
   pub fall-most : (k : ℕ) → k < R .devices .count → fallAt l k ≤ 268431360
   pub leasts : (k g i : ℕ) → k < R .devices .count → g ≤ i → i ≤ R .horizon → leastFrom l k g ≤ extra (device R k) i
-  pub lists : (j : ℕ) → j < 16 → Lists R j l
+  pub lists : (j : ℕ) → j < 16 → OfJob R j l

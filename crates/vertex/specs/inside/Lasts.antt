@@ -5,7 +5,7 @@ use mathlib.Core.Logic.{_⊎_}
 use Prim.Native.Nat.{ℕ, _≤_, _<_}
 use Rattle.schedule.specs.declared.Recorder.{Recorder}
 use Rattle.latest.specs.inside.Sets.{has}
-use Rattle.extras.specs.inside.Uses.{lastOf}
+use Rattle.extras.specs.inside.Jobs.{lastOf}
 use Rattle.vertex.specs.declared.dues.Dues.{Dues}
 
 -- Of the jobs of the set m below n the two smallest last starts, and the job of the smaller; 65536 where there is none.

@@ -7,7 +7,7 @@ use borrow.Author.Needs.{needs}
 use Rattle.schedule.specs.Quantities.{uses}
 use Rattle.schedule.proofs.Bounds.{devices-more}
 use Rattle.flat.specs.inside.Flat.{recorderOf}
-use Rattle.extras.specs.inside.Uses.{usedAt, usedBelow}
+use Rattle.extras.specs.inside.Jobs.{usedAt, usedBelow}
 use Rattle.extras.proofs.Uses.{SumTo, used-most, listed, sum-to-none, sum-to-next}
 use Rattle.vertex.specs.inside.Gaps.{gapBy}
 use Rattle.vertex.proofs.Ending.{gap-none, gap-used}
@@ -35,7 +35,7 @@ loop-holds c =
       omega arith,
       all,
       omega (arith, all, used-most R (a .j) (R .devices .count), start .pre .0 .valid .few-devices),
-      sum-to-none w (gapBy R (a .extras .now) (a .v .now) (a .later) (a .j) (a .s)) (gap-none R (a .v .now) (a .extras .now) (start .pre .0) (a .later) (a .j) (a .s)),
+      sum-to-none w (gapBy R (a .extras .now) (a .v .now) (a .later) (a .j) (a .s)) (gap-none R (a .v .now) (a .extras .now) (a .later) (a .j) (a .s)),
       omega arith,
     )
 
@@ -77,7 +77,7 @@ here c =
     let start = at .before .before .before .before .before .before in
     let a = start .args in
     let u = used at in
-    gap-used (recorderOf (a .r .now)) (a .v .now) (a .extras .now) (start .pre .0) (a .later) (a .j) (a .s) (at .used-at .result) (c .gap-with .result) (u .0) (u .1)
+    gap-used (recorderOf (a .r .now)) (a .v .now) (a .extras .now) (a .later) (start .pre .0) (a .j) (a .s) (at .used-at .result) (c .gap-with .result) (u .0) (u .1)
     (start .pre .1 .1 .by) (rw (at .before .before .before .before .is-round .ensures) at (c .gap-with .ensures))
 
 -- The sum with the device at hand.
@@ -104,7 +104,7 @@ loop-again c =
       omega (arith, c .before .before .before .loop-test .taken),
       l .inv .1,
       l .inv .2,
-      (λ n b e. ap (λ (x : ℕ). l .sum + x) is ∙ sum-to-next w f (gap-none R (a .v .now) (a .extras .now) (start .pre .0) (a .later) (a .j) (a .s)) (l .i) (l .sum) (l .inv .3) n b e),
+      (λ n b e. ap (λ (x : ℕ). l .sum + x) is ∙ sum-to-next w f (gap-none R (a .v .now) (a .extras .now) (a .later) (a .j) (a .s)) (l .i) (l .sum) (l .inv .3) n b e),
       more c .0,
     )
 

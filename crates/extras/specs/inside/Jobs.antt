@@ -25,7 +25,7 @@ unfoldable pub usedBelow : Recorder → ℕ → ℕ → ℕ
 usedBelow R j zero = 0
 usedBelow R j (suc n) = usedBelow R j n + cond (uses R n j) 1 0
 
-pub record Lists (R : Recorder) (j : ℕ) (l : List ℕ) : Type 0 where
+pub record OfJob (R : Recorder) (j : ℕ) (l : List ℕ) : Type 0 where
   pub last : lastAt l j ≡ lastOf R j
   pub count : usedCountAt l j ≡ usedBelow R j (R .devices .count)
   pub at : (k : ℕ) → k < R .devices .count → uses R k j ≡ true → usedAt l j (usedBelow R j k) ≡ k

@@ -1,4 +1,4 @@
--- `extras::used::lay_jobs` meets its contract. The loop's invariant: the jobs passed have their lists.
+-- `extras::jobs::lay_jobs` meets its contract. The loop's invariant: the jobs passed have their lists.
 use mathlib.Core.Path.{_≡_, subst}
 use Prim.Native.Nat.{ℕ, _-_, _≤_}
 use native.Mathlib.Omega.{arith}
@@ -6,8 +6,8 @@ use borrow.Author.Needs.{needs}
 use Rattle.flat.specs.inside.Flat.{recorderOf}
 use Rattle.extras.specs.inside.Parts.{LaidJobs}
 use Rattle.extras.proofs.Listed.{jobs-none, jobs-next}
-use Rattle.extras.proofs.used.lay_jobs.Statement.{statement}
-use Rattle.extras.proofs.used.lay_jobs.Tie as tie
+use Rattle.extras.proofs.jobs.lay_jobs.Statement.{statement}
+use Rattle.extras.proofs.jobs.lay_jobs.Tie as tie
 
 abbrev Inv-loop : tie.InvT-loop
 Inv-loop r extras₀ j₀ extras j = (j ≤ 16) × LaidJobs (recorderOf r) j extras₀ extras

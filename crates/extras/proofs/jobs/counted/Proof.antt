@@ -1,8 +1,8 @@
--- `extras::used::counted` meets its contract.
+-- `extras::jobs::counted` meets its contract.
 use native.Mathlib.Omega.{arith}
 use borrow.Author.Needs.{needs}
-use Rattle.extras.proofs.used.counted.Statement.{statement}
-use Rattle.extras.proofs.used.counted.Tie as tie
+use Rattle.extras.proofs.jobs.counted.Statement.{statement}
+use Rattle.extras.proofs.jobs.counted.Tie as tie
 
 returns : tie.Need-returns
 returns c = rw (c .if1 .taken)

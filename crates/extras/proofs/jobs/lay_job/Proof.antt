@@ -1,15 +1,15 @@
--- `extras::used::lay_job` meets its contract. The loop's invariant: those of the devices passed that the job uses are listed, and n is how many.
+-- `extras::jobs::lay_job` meets its contract. The loop's invariant: those of the devices passed that the job uses are listed, and n is how many.
 use mathlib.Core.Path.{_≡_, _∙_}
 use Prim.Native.Nat.{_+_, _-_, _≤_}
 use lib.ListN.{length-set}
 use native.Mathlib.Omega.{arith}
 use borrow.Author.Needs.{needs}
 use Rattle.flat.specs.inside.Flat.{recorderOf}
-use Rattle.extras.specs.inside.Uses.{usedBelow}
+use Rattle.extras.specs.inside.Jobs.{usedBelow}
 use Rattle.extras.proofs.Uses.{used-none, used-next, used-most}
 use Rattle.extras.proofs.Listed.{ListedTo, listed-none, listed-next, listed-all}
-use Rattle.extras.proofs.used.lay_job.Statement.{statement}
-use Rattle.extras.proofs.used.lay_job.Tie as tie
+use Rattle.extras.proofs.jobs.lay_job.Statement.{statement}
+use Rattle.extras.proofs.jobs.lay_job.Tie as tie
 
 abbrev Inv-loop : tie.InvT-loop
 Inv-loop r j extras₀ m n₀ k₀ extras n k =
