@@ -10,7 +10,7 @@ use lib.Seq.{drop-cons, drop-length}
 use lib.Dec.{eqb}
 use borrow.Author.Tests.{eqb-true, eq-eqb, ne_eqb}
 use Rattle.base.specs.Bytes.{same}
-use Rattle.base.proofs.Cases.{test-cases, both, and_right}
+use Rattle.base.proofs.Cases.{test_cases, both, and_right}
 
 -- The test is equality.
 pub same_true : (s t : List ℕ) → same s t ≡ true → s ≡ t
@@ -28,8 +28,8 @@ same_self [] = refl
 same_self (x ∷ s) = rw (eq-eqb x x refl) (same_self s)
 
 -- Bytes that are not the same do not match.
-pub same-only : (s t : List ℕ) → (s ≡ t → ⊥) → same s t ≡ false
-same-only s t h = test-cases (λ b. b ≡ false) (same s t) (λ e. absurd (h (same_true s t e))) (λ e. refl)
+pub same_only : (s t : List ℕ) → (s ≡ t → ⊥) → same s t ≡ false
+same_only s t h = test_cases (λ b. b ≡ false) (same s t) (λ e. absurd (h (same_true s t e))) (λ e. refl)
 
 pub same_end : (a b : List ℕ) (n : ℕ) → length a ≡ n → length b ≡ n → same (drop n a) (drop n b) ≡ true
 same_end a b n e f = rw (← e, drop-length) (rw (e, ← f, drop-length))
@@ -40,8 +40,8 @@ same_next a b i h k e = rw (drop-cons a i 0 h, drop-cons b i 0 k, eq-eqb _ _ e, 
 pub same_stop : (a b : List ℕ) (i : ℕ) → i < length a → i < length b → (get_or a i 0 ≡ get_or b i 0 → ⊥) → same (drop i a) (drop i b) ≡ false
 same_stop a b i h k e = rw (drop-cons a i 0 h, drop-cons b i 0 k, ne_eqb _ _ e)
 
-pub same-lengths : (a b : List ℕ) → (length a ≡ length b → ⊥) → same a b ≡ false
-same-lengths [] [] h = absurd (h refl)
-same-lengths [] (y ∷ b) h = refl
-same-lengths (x ∷ a) [] h = refl
-same-lengths (x ∷ a) (y ∷ b) h = and_right (eqb x y) (same-lengths a b (λ e. h (omega (arith, e))))
+pub same_lengths : (a b : List ℕ) → (length a ≡ length b → ⊥) → same a b ≡ false
+same_lengths [] [] h = absurd (h refl)
+same_lengths [] (y ∷ b) h = refl
+same_lengths (x ∷ a) [] h = refl
+same_lengths (x ∷ a) (y ∷ b) h = and_right (eqb x y) (same_lengths a b (λ e. h (omega (arith, e))))

@@ -8,8 +8,8 @@ use lib.ListN.{length, set, get_or, take, drop, length-append, length-drop}
 use lib.Seq.{take-suc, set_at, drop-cons, length-take-le}
 
 module _ (s l : List ℕ) (i : ℕ) where
-  pub copied-length : i ≤ length s → length s ≤ length l → length (take i s ++ drop i l) ≡ length l
-  copied-length h k = rw (length-append, length-take-le i s h, length-drop) (omega arith)
+  pub copied_length : i ≤ length s → length s ≤ length l → length (take i s ++ drop i l) ≡ length l
+  copied_length h k = rw (length-append, length-take-le i s h, length-drop) (omega arith)
 
   pub copied_more : i < length s → i < length l → set (take i s ++ drop i l) i (get_or s i 0) ≡ take (i + 1) s ++ drop (i + 1) l
   copied_more h k =

@@ -9,20 +9,20 @@ use Rattle.base.specs.Lists.{all, one}
 use Rattle.base.proofs.Cases.{or_right, and_right}
 
 module _ {A : Type 0} (t : A → Bool) (z : A) where
-  pub all-holds : (l : List A) → ((i : ℕ) → i < length l → t (get_or l i z) ≡ true) → all t l ≡ true
-  all-holds [] h = refl
-  all-holds (x ∷ l) h = rw (h 0 (omega arith)) (all-holds l (λ i k. h (suc i) (omega arith)))
+  pub all_holds : (l : List A) → ((i : ℕ) → i < length l → t (get_or l i z) ≡ true) → all t l ≡ true
+  all_holds [] h = refl
+  all_holds (x ∷ l) h = rw (h 0 (omega arith)) (all_holds l (λ i k. h (suc i) (omega arith)))
 
-  pub all-fails : (l : List A) (i : ℕ) → i < length l → t (get_or l i z) ≡ false → all t l ≡ false
-  all-fails [] i h e = absurd (omega arith)
-  all-fails (x ∷ l) zero h e = rw e
-  all-fails (x ∷ l) (suc i) h e = and_right (t x) (all-fails l i (omega arith) e)
+  pub all_fails : (l : List A) (i : ℕ) → i < length l → t (get_or l i z) ≡ false → all t l ≡ false
+  all_fails [] i h e = absurd (omega arith)
+  all_fails (x ∷ l) zero h e = rw e
+  all_fails (x ∷ l) (suc i) h e = and_right (t x) (all_fails l i (omega arith) e)
 
   pub one_holds : (l : List A) (i : ℕ) → i < length l → t (get_or l i z) ≡ true → one t l ≡ true
   one_holds [] i h e = absurd (omega arith)
   one_holds (x ∷ l) zero h e = rw e
   one_holds (x ∷ l) (suc i) h e = or_right (t x) (one_holds l i (omega arith) e)
 
-  pub one-fails : (l : List A) → ((i : ℕ) → i < length l → t (get_or l i z) ≡ false) → one t l ≡ false
-  one-fails [] h = refl
-  one-fails (x ∷ l) h = rw (h 0 (omega arith)) (one-fails l (λ i k. h (suc i) (omega arith)))
+  pub one_fails : (l : List A) → ((i : ℕ) → i < length l → t (get_or l i z) ≡ false) → one t l ≡ false
+  one_fails [] h = refl
+  one_fails (x ∷ l) h = rw (h 0 (omega arith)) (one_fails l (λ i k. h (suc i) (omega arith)))

@@ -6,64 +6,64 @@ use native.Mathlib.Omega.{arith}
 use lib.ListN.{length, take, drop, length-append, length-replicate}
 use lib.Seq.{take_at, length-take-le}
 use Rattle.base.specs.Bytes.{pair_at}
-use Rattle.base.proofs.Arrays.{length-upTo}
+use Rattle.base.proofs.Arrays.{length_up_to}
 use Rattle.schedule.specs.declared.Recorder.{Recorder}
 use Rattle.schedule.specs.Quantities.{jobs}
 use Rattle.planner.specs.declared.Answer.{Answer}
 use Rattle.planner.specs.Promises.{refusal, stops, passes, Reads, OfFile, refused, read, found, SearchOf, KeptUnless}
-use Rattle.planner.proofs.Refusing.{unless-equal, unless-enough}
-use Rattle.calls.specs.Bytes.{spread, startsIn}
-use Rattle.calls.specs.Calls.{told, Roomed, Called, called, CalledIn, called-in, blank, StartsOf, kept, given, RowsCalled}
+use Rattle.planner.proofs.Refusing.{unless_equal, unless_enough}
+use Rattle.calls.specs.Bytes.{spread, starts_in}
+use Rattle.calls.specs.Calls.{told, Roomed, Called, called, CalledIn, called_in, blank, StartsOf, kept, given, RowsCalled}
 use Rattle.calls.specs.inside.Cramped.{Cramped}
 use Rattle.calls.proofs.Digits.{told_none}
 
 -- A call on a result buffer without room, and one with it.
 module _ {L : Type 0} (file result : List ℕ) (lent : L) (X : Recorder → Answer → L → Type 0) where
-  pub cramped-call : {n : ℕ} → length result < 11 → Cramped file n → Called file result lent (λ R a l. Roomed result lent (X R) a l) n result lent
-  cramped-call h (Cramped.refused {n = n} r) =
+  pub cramped_call : {n : ℕ} → length result < 11 → Cramped file n → Called file result lent (λ R a l. Roomed result lent (X R) a l) n result lent
+  cramped_call h (Cramped.refused {n = n} r) =
       subst (λ (m : List ℕ). Called file result lent (λ R a l. Roomed result lent (X R) a l) n m lent) (told_none (refusal n) result h) (called (refused r))
-  cramped-call h (Cramped.read r) =
+  cramped_call h (Cramped.read r) =
       subst (λ (m : List ℕ). Called file result lent (λ R a l. Roomed result lent (X R) a l) 15 m lent) (told_none (refusal 15) result h) (called (read r (stops h)))
 
-  pub roomy-call : {a : Answer} {after : L} → 11 ≤ length result → OfFile file lent X a after
+  pub roomy_call : {a : Answer} {after : L} → 11 ≤ length result → OfFile file lent X a after
       → Called file result lent (λ R b l. Roomed result lent (X R) b l) a.number (told a result) after
-  roomy-call h (refused r) = called (refused r)
-  roomy-call h (read r t) = called (read r (unless-enough h t))
+  roomy_call h (refused r) = called (refused r)
+  roomy_call h (read r t) = called (read r (unless_enough h t))
 
 -- The same with a lent memory.
 module _ {L : Type 0} (Used : Answer → Type 0) (file result memory : List ℕ) (lent : L) (X : Recorder → Answer → L → Type 0) where
-  pub cramped-call-in : {n : ℕ} → length result < 11 → Cramped file n
+  pub cramped_call_in : {n : ℕ} → length result < 11 → Cramped file n
       → CalledIn Used file result memory lent (λ R a l. Roomed result lent (X R) a l) n result memory lent
-  cramped-call-in h (Cramped.refused {n = n} r) =
+  cramped_call_in h (Cramped.refused {n = n} r) =
       subst (λ (m : List ℕ). CalledIn Used file result memory lent (λ R a l. Roomed result lent (X R) a l) n m memory lent) (told_none (refusal n) result h)
-      (called-in (refused r) (λ unused. refl))
-  cramped-call-in h (Cramped.read r) =
+      (called_in (refused r) (λ unused. refl))
+  cramped_call_in h (Cramped.read r) =
       subst (λ (m : List ℕ). CalledIn Used file result memory lent (λ R a l. Roomed result lent (X R) a l) 15 m memory lent) (told_none (refusal 15) result h)
-      (called-in (read r (stops h)) (λ unused. refl))
+      (called_in (read r (stops h)) (λ unused. refl))
 
-  pub roomy-call-in : {a : Answer} {memory' : List ℕ} {after : L} → 11 ≤ length result → OfFile file lent X a after → KeptUnless (Used a) memory memory'
+  pub roomy_call_in : {a : Answer} {memory' : List ℕ} {after : L} → 11 ≤ length result → OfFile file lent X a after → KeptUnless (Used a) memory memory'
       → CalledIn Used file result memory lent (λ R b l. Roomed result lent (X R) b l) a.number (told a result) memory' after
-  roomy-call-in h (refused r) k = called-in (refused r) k
-  roomy-call-in h (read r t) k = called-in (read r (unless-enough h t)) k
+  roomy_call_in h (refused r) k = called_in (refused r) k
+  roomy_call_in h (read r t) k = called_in (read r (unless_enough h t)) k
 
 -- Rows that find no room for their answer.
-pub rows-cramped : (file starts lent result : List ℕ) {R : Recorder} → Reads file R → length starts ≡ jobs R * 2 → length result < 11
+pub rows_cramped : (file starts lent result : List ℕ) {R : Recorder} → Reads file R → length starts ≡ jobs R * 2 → length result < 11
     → RowsCalled file starts lent result 15 lent result
-rows-cramped file starts lent result r e h =
-    subst (λ (m : List ℕ). RowsCalled file starts lent result 15 lent m) (told_none (refusal 15) result h) (called (read r (unless-equal e (stops h))))
+rows_cramped file starts lent result r e h =
+    subst (λ (m : List ℕ). RowsCalled file starts lent result 15 lent m) (told_none (refusal 15) result h) (called (read r (unless_equal e (stops h))))
 
 -- The first n places of a list z come back written: there are still as many.
-pub front-room : {A : Type 0} (z front : List A) (n k : ℕ) → n ≤ length z → k ≤ n → length front ≡ length (take n z) → k ≤ length (front ++ drop n z)
-front-room z front n k h l e = omega (arith, length-append front (drop n z), e, length-take-le n z h)
+pub front_room : {A : Type 0} (z front : List A) (n k : ℕ) → n ≤ length z → k ≤ n → length front ≡ length (take n z) → k ≤ length (front ++ drop n z)
+front_room z front n k h l e = omega (arith, length-append front (drop n z), e, length-take-le n z h)
 
 -- The start times read into the front of a list z, and taken from it.
-pub own_room : (bytes z own : List ℕ) (n : ℕ) → n ≤ length z → own ≡ startsIn bytes (length (take n z)) → n ≤ length (own ++ drop n z)
-own_room bytes z own n h e = front-room z own n n h (omega arith) (ap length e ∙ length-upTo (λ j. pair_at bytes (j * 2)) (length (take n z)))
+pub own_room : (bytes z own : List ℕ) (n : ℕ) → n ≤ length z → own ≡ starts_in bytes (length (take n z)) → n ≤ length (own ++ drop n z)
+own_room bytes z own n h e = front_room z own n n h (omega arith) (ap length e ∙ length_up_to (λ j. pair_at bytes (j * 2)) (length (take n z)))
 
-pub own-starts : (bytes z own : List ℕ) (n : ℕ) → n ≤ length z → own ≡ startsIn bytes (length (take n z)) → take n (own ++ drop n z) ≡ startsIn bytes n
-own-starts bytes z own n h e =
-    let whole : own ≡ startsIn bytes n = e ∙ ap (startsIn bytes) (length-take-le n z h) in
-    take_at own (drop n z) n (ap length whole ∙ length-upTo (λ j. pair_at bytes (j * 2)) n) ∙ whole
+pub own_starts : (bytes z own : List ℕ) (n : ℕ) → n ≤ length z → own ≡ starts_in bytes (length (take n z)) → take n (own ++ drop n z) ≡ starts_in bytes n
+own_starts bytes z own n h e =
+    let whole : own ≡ starts_in bytes n = e ∙ ap (starts_in bytes) (length-take-le n z h) in
+    take_at own (drop n z) n (ap length whole ∙ length_up_to (λ j. pair_at bytes (j * 2)) n) ∙ whole
 
 -- What is planned is written to a list of its own, which has room for every job: what it leaves there goes to the bytes that are lent, if they have room too.
 -- `alike`: any list with room gets the same answer and the same starts.
@@ -76,22 +76,22 @@ module _
     places : jobs R ≤ length (blank lent)
     places = rw length-replicate (omega arith)
 
-    pub starts-kept : (own : List ℕ) {a : Answer} {after : List ℕ} → jobs R ≤ length own → (a.number ≡ 0 → ⊥) → Plans own R a after → StartsOf Plans lent R a lent
+    pub starts_kept : (own : List ℕ) {a : Answer} {after : List ℕ} → jobs R ≤ length own → (a.number ≡ 0 → ⊥) → Plans own R a after → StartsOf Plans lent R a lent
     unfolding StartsOf
-    starts-kept own h n p = kept n (alike own (blank lent) _ _ h places p).1
+    starts_kept own h n p = kept n (alike own (blank lent) _ _ h places p).1
 
-    pub starts-given : (own : List ℕ) {a : Answer} {after : List ℕ} → jobs R ≤ length own → a.number ≡ 0 → Plans own R a after
+    pub starts_given : (own : List ℕ) {a : Answer} {after : List ℕ} → jobs R ≤ length own → a.number ≡ 0 → Plans own R a after
         → StartsOf Plans lent R a (spread (take (jobs R) after) ++ drop (jobs R * 2) lent)
     unfolding StartsOf
-    starts-given own {a = a} h z p =
+    starts_given own {a = a} h z p =
         let q = alike own (blank lent) a _ h places p in
         subst (λ (x : List ℕ). StartsOf Plans lent R a (spread x ++ drop (jobs R * 2) lent)) (q.2 z) (given z q.1)
 
 -- Where the lent bytes have too little room, so has a list of as many start times as they have pairs.
-pub starts-short : (Plans : List ℕ → Recorder → Answer → List ℕ → Type 0) (lent : List ℕ) (R : Recorder) → length lent < jobs R * 2
+pub starts_short : (Plans : List ℕ → Recorder → Answer → List ℕ → Type 0) (lent : List ℕ) (R : Recorder) → length lent < jobs R * 2
     → (length (blank lent) < jobs R → Plans (blank lent) R (refusal 15) (blank lent)) → StartsOf Plans lent R (refusal 15) lent
 unfolding StartsOf
-starts-short Plans lent R h short = kept (λ (z : ◌≡◌ {A = ℕ} 15 0). omega arith) (short (rw length-replicate (omega arith)))
+starts_short Plans lent R h short = kept (λ (z : ◌≡◌ {A = ℕ} 15 0). omega arith) (short (rw length-replicate (omega arith)))
 
 -- A schedule at the front of a list.
 pub front_same : (R : Recorder) (s l l' : List ℕ) → length s ≡ jobs R → take (jobs R) (s ++ l') ≡ take (jobs R) (s ++ l)
@@ -99,11 +99,11 @@ front_same R s l l' e = take_at s l' (jobs R) e ∙ sym (take_at s l (jobs R) e)
 
 -- ---- the search
 
-pub search-alike : (budget : ℕ) (R : Recorder) (own own' : List ℕ) (a : Answer) (after : List ℕ) → jobs R ≤ length own → jobs R ≤ length own'
+pub search_alike : (budget : ℕ) (R : Recorder) (own own' : List ℕ) (a : Answer) (after : List ℕ) → jobs R ≤ length own → jobs R ≤ length own'
     → SearchOf budget own R a after → (after' : List ℕ) × SearchOf budget own' R a after' × (a.number ≡ 0 → take (jobs R) after' ≡ take (jobs R) after)
-search-alike budget R own own' a after h h' (stops s) = absurd (omega arith)
-search-alike budget R own own' a after h h' (passes r (stops b)) = (own', unless-enough h' (stops b), λ (z : ◌≡◌ {A = ℕ} 20 0). absurd (omega arith))
-search-alike budget R own own' a after h h' (passes r (passes b (stops f))) =
-    (own', unless-enough h' (passes b (stops f)), λ (z : ◌≡◌ {A = ℕ} 19 0). absurd (omega arith))
-search-alike budget R own own' a after h h' (passes r (passes b (passes n (found {s = s} f)))) =
-    (s ++ drop (jobs R) own', unless-enough h' (passes b (passes n (found f))), λ z. front_same R s (drop (jobs R) own) (drop (jobs R) own') f.feasible.one_each)
+search_alike budget R own own' a after h h' (stops s) = absurd (omega arith)
+search_alike budget R own own' a after h h' (passes r (stops b)) = (own', unless_enough h' (stops b), λ (z : ◌≡◌ {A = ℕ} 20 0). absurd (omega arith))
+search_alike budget R own own' a after h h' (passes r (passes b (stops f))) =
+    (own', unless_enough h' (passes b (stops f)), λ (z : ◌≡◌ {A = ℕ} 19 0). absurd (omega arith))
+search_alike budget R own own' a after h h' (passes r (passes b (passes n (found {s = s} f)))) =
+    (s ++ drop (jobs R) own', unless_enough h' (passes b (passes n (found f))), λ z. front_same R s (drop (jobs R) own) (drop (jobs R) own') f.feasible.one_each)

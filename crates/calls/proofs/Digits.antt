@@ -6,57 +6,57 @@ use native.Mathlib.Numerals.{add-one}
 use native.Mathlib.Omega.{arith}
 use lib.ListN.{length, set, take, drop, get_or, length-append, drop_of_length-le}
 use lib.Seq.{drop-cons, drop-set-lt, get_or-set_same, lt-length-set, take-suc}
-use Rattle.base.proofs.Filling.{Filled, filled-store, filled-first, filled-part}
+use Rattle.base.proofs.Filling.{Filled, filled_store, filled_first, filled_part}
 use borrow.Author.Tests.{le-leb, lt-leb}
 use borrow.Rule.Slice.PartMut.{put_mid}
 use Rattle.planner.specs.declared.Answer.{Answer}
 use Rattle.calls.specs.Bytes.{big, spread}
 use Rattle.calls.specs.Calls.{told}
 
-pub length-big : (n x : ℕ) → length (big n x) ≡ n
+pub length_big : (n x : ℕ) → length (big n x) ≡ n
 unfolding big
-length-big zero x = refl
-length-big (suc n) x = rw (length-append, length-big n (x / 256)) (omega arith)
+length_big zero x = refl
+length_big (suc n) x = rw (length-append, length_big n (x / 256)) (omega arith)
 
 -- A number is put from its last byte on: what is still to come of it, and what stands.
-pub put-none : (n x : ℕ) (part : List ℕ) → length part ≡ n → big n x ≡ big n x ++ drop n part
-put-none n x part e = rw (drop_of_length-le part {i = n} (omega arith), append-nil)
+pub put_none : (n x : ℕ) (part : List ℕ) → length part ≡ n → big n x ≡ big n x ++ drop n part
+put_none n x part e = rw (drop_of_length-le part {i = n} (omega arith), append-nil)
 
-pub put-turn :
+pub put_turn :
     (whole : List ℕ) (i rest : ℕ) (part : List ℕ) → i < length part → whole ≡ big (i + 1) rest ++ drop (i + 1) part
     → whole ≡ big i (rest / 256) ++ drop i (set part i (rest % 256))
 unfolding big
-put-turn whole i rest part h e =
+put_turn whole i rest part h e =
     let v = rest % 256 in
     rw (drop-cons (set part i v) i 0 (lt-length-set part i v h), get_or-set_same part i v 0 h, drop-set-lt (suc i) part i v (omega arith))
     (e ∙ rw (add-one i, append_assoc))
 
-pub put-done : (whole part : List ℕ) (i rest : ℕ) → i ≡ 0 → whole ≡ big i rest ++ drop i part → part ≡ whole
+pub put_done : (whole part : List ℕ) (i rest : ℕ) → i ≡ 0 → whole ≡ big i rest ++ drop i part → part ≡ whole
 unfolding big
-put-done whole part i rest z e = rw (e, z)
+put_done whole part i rest z e = rw (e, z)
 
 -- What is written, said in another way.
-pub filled-as : {l₀ front front' l : List ℕ} {at : ℕ} → Filled l₀ at front l → front ≡ front' → Filled l₀ at front' l
-filled-as {l₀} {l = l} {at = at} w e = subst (λ (f : List ℕ). Filled l₀ at f l) e w
+pub filled_as : {l₀ front front' l : List ℕ} {at : ℕ} → Filled l₀ at front l → front ≡ front' → Filled l₀ at front' l
+filled_as {l₀} {l = l} {at = at} w e = subst (λ (f : List ℕ). Filled l₀ at f l) e w
 
 -- One start time more.
-spread-more : (l : List ℕ) (x : ℕ) → spread (l ++ (x ∷ [])) ≡ (spread l ++ (x / 256 ∷ [])) ++ (x % 256 ∷ [])
+spread_more : (l : List ℕ) (x : ℕ) → spread (l ++ (x ∷ [])) ≡ (spread l ++ (x / 256 ∷ [])) ++ (x % 256 ∷ [])
 unfolding spread
-spread-more [] x = refl
-spread-more (y ∷ l) x = rw (spread-more l x)
+spread_more [] x = refl
+spread_more (y ∷ l) x = rw (spread_more l x)
 
 pub spread_none : (l bytes : List ℕ) → Filled bytes 0 (spread (take 0 l)) bytes
 unfolding spread
 spread_none l bytes = record { long = refl; is = refl }
 
-pub spread-next :
+pub spread_next :
     (l bytes₀ bytes : List ℕ) (j : ℕ) → j < length l → j * 2 + 2 ≤ length bytes₀ → Filled bytes₀ (j * 2) (spread (take j l)) bytes
     → Filled bytes₀ ((j + 1) * 2) (spread (take (j + 1) l)) (set (set bytes (j * 2) (get_or l j 0 / 256)) (j * 2 + 1) (get_or l j 0 % 256))
-spread-next l bytes₀ bytes j h room w =
+spread_next l bytes₀ bytes j h room w =
     let x = get_or l j 0 in
-    let both = filled-store (filled-store w (omega arith) (x / 256)) (omega arith) (x % 256) in
+    let both = filled_store (filled_store w (omega arith) (x / 256)) (omega arith) (x % 256) in
     let at : j * 2 + 1 + 1 ≡ (j + 1) * 2 = omega arith in
-    rw (← at) (filled-as both (sym (spread-more (take j l) x) ∙ ap spread (sym (rw (add-one j) (take-suc l j 0 h)))))
+    rw (← at) (filled_as both (sym (spread_more (take j l) x) ∙ ap spread (sym (rw (add-one j) (take-suc l j 0 h)))))
 
 -- ---- the result buffer
 
@@ -65,7 +65,7 @@ unfolding told
 told_none a l h = rw (lt-leb 11 (length l) h)
 
 -- The four parts of an answer put one after the other, each of the bytes as the one before it left them.
-pub told-whole :
+pub told_whole :
     (a : Answer) (l m₁ m₂ m₃ m₄ : List ℕ) → 11 ≤ length l
     → m₁ ≡ big (length (take 1 l)) a.job.0
     → (let l₁ = m₁ ++ drop 1 l in m₂ ≡ big (length (take 2 (drop 1 l₁))) a.horizon)
@@ -73,9 +73,9 @@ pub told-whole :
     → (let l₃ = put_mid 3 4 (put_mid 1 2 (m₁ ++ drop 1 l) m₂) m₃ in m₄ ≡ big (length (take 4 (drop 7 l₃))) a.count)
     → put_mid 7 4 (put_mid 3 4 (put_mid 1 2 (m₁ ++ drop 1 l) m₂) m₃) m₄ ≡ told a l
 unfolding told
-told-whole a l m₁ m₂ m₃ m₄ h e₁ e₂ e₃ e₄ =
-    let w₁ = filled-first (λ n. big n a.job.0) (λ n. length-big n a.job.0) l 1 (omega arith) m₁ e₁ in
-    let w₂ = filled-part (λ n. big n a.horizon) (λ n. length-big n a.horizon) w₁ 2 3 (omega arith) (omega arith) m₂ e₂ in
-    let w₃ = filled-part (λ n. big n a.energy) (λ n. length-big n a.energy) w₂ 4 7 (omega arith) (omega arith) m₃ e₃ in
-    let w₄ = filled-part (λ n. big n a.count) (λ n. length-big n a.count) w₃ 4 11 (omega arith) (omega arith) m₄ e₄ in
+told_whole a l m₁ m₂ m₃ m₄ h e₁ e₂ e₃ e₄ =
+    let w₁ = filled_first (λ n. big n a.job.0) (λ n. length_big n a.job.0) l 1 (omega arith) m₁ e₁ in
+    let w₂ = filled_part (λ n. big n a.horizon) (λ n. length_big n a.horizon) w₁ 2 3 (omega arith) (omega arith) m₂ e₂ in
+    let w₃ = filled_part (λ n. big n a.energy) (λ n. length_big n a.energy) w₂ 4 7 (omega arith) (omega arith) m₃ e₃ in
+    let w₄ = filled_part (λ n. big n a.count) (λ n. length_big n a.count) w₃ 4 11 (omega arith) (omega arith) m₄ e₄ in
     rw (le-leb 11 (length l) h) w₄.is

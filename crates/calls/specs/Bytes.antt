@@ -18,5 +18,5 @@ unfoldable pub spread : List ℕ → List ℕ
 spread [] = []
 spread (x ∷ l) = x / 256 ∷ x % 256 ∷ spread l
 
-abbrev pub startsIn : List ℕ → ℕ → List ℕ
-startsIn s n = up_to (λ j. pair_at s (j * 2)) n
+abbrev pub starts_in : List ℕ → ℕ → List ℕ
+starts_in s n = up_to (λ j. pair_at s (j * 2)) n

@@ -7,7 +7,7 @@ use Rattle.schedule.specs.Quantities.{jobs}
 use Rattle.tables.specs.Layout.{tables_of}
 use Rattle.planner.specs.declared.Answer.{Answer}
 use Rattle.planner.specs.Promises.{refusal, Unless, OfFile, CheckOf, SizesOf, RowsOf, SearchOf, KeptUnless}
-use Rattle.calls.specs.Bytes.{eleven, spread, startsIn}
+use Rattle.calls.specs.Bytes.{eleven, spread, starts_in}
 
 -- ---- the result buffer
 
@@ -25,7 +25,7 @@ pub data Called {L : Type 0} (file result : List ℕ) (lent : L) (Then : Recorde
 
 -- The same with a memory that is lent to work in: it stays as it was, unless the answer is one with which it is used.
 pub data CalledIn {L : Type 0} (Used : Answer → Type 0) (file result memory : List ℕ) (lent : L) (Then : Recorder → Answer → L → Type 0) : ℕ → List ℕ → List ℕ → L → Type 0 where
-  called-in : {a : Answer} {memory' : List ℕ} {after : L} → OfFile file lent Then a after → KeptUnless (Used a) memory memory'
+  called_in : {a : Answer} {memory' : List ℕ} {after : L} → OfFile file lent Then a after → KeptUnless (Used a) memory memory'
       → CalledIn Used file result memory lent Then a.number (told a result) memory' after
 
 -- ---- `floe_check`
@@ -86,7 +86,7 @@ SearchInCalled file budget memory lent result n memory' lent' result' =
 abbrev pub RowsCallOf : (starts lent result : List ℕ) → Recorder → Answer → List ℕ → Type 0
 RowsCallOf starts lent result R =
     Unless (length starts ≡ jobs R * 2 → ⊥) (refusal 14) lent
-    (Roomed result lent (RowsOf (startsIn starts (jobs R)) lent R))
+    (Roomed result lent (RowsOf (starts_in starts (jobs R)) lent R))
 
 abbrev pub RowsCalled : (file starts lent result : List ℕ) (n : ℕ) (lent' result' : List ℕ) → Type 0
 RowsCalled file starts lent result n lent' result' = Called file result lent (RowsCallOf starts lent result) n result' lent'

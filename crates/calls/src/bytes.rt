@@ -1,6 +1,6 @@
 // Numbers as bytes, the high byte first.
 ghost use Rattle.std.specs.Prelude.{◌≡◌, ◌++◌, ◌*◌, ◌≤◌, length, drop};
-ghost use Rattle.calls.specs.Bytes.{big, spread, startsIn};
+ghost use Rattle.calls.specs.Bytes.{big, spread, starts_in};
 
 use base::pair_at;
 
@@ -20,7 +20,7 @@ pub fn put(part: &mut [u8], x: u64)
 // The start times of a list of bytes, one for each place of the list to fill.
 pub fn get_starts(bytes: &[u8], starts: &mut [u16])
     requires { length starts.old * 2 ≤ length bytes.now }
-    ensures { starts.new ≡ startsIn bytes.now (length starts.old) }
+    ensures { starts.new ≡ starts_in bytes.now (length starts.old) }
 {
     let mut j = 0;
     while j < starts.len() {

@@ -36,7 +36,7 @@ pub extern "C" fn floe_sizes(file: &[u8], sizes: &mut [u8], res: &mut [u8]) -> u
     tell(planner::sizes(file, sizes), res)
 }
 
-// The start times of the first of the least-energy schedules that meet all deadlines, if the budget covers the vertices of the search.
+// The start times of the first of the least_energy schedules that meet all deadlines, if the budget covers the vertices of the search.
 #[unsafe(no_mangle)]
 pub extern "C" fn floe_search(file: &[u8], budget: u32, starts: &mut [u8], res: &mut [u8]) -> u8
     ensures { SearchCalled file.now budget starts.old res.old result starts.new res.new }

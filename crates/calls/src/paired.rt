@@ -2,7 +2,7 @@
 ghost use Rattle.std.specs.Prelude.{◌≡◌, ◌*◌, ◌<◌, length};
 ghost use Rattle.schedule.specs.Quantities.{Valid, jobs};
 ghost use Rattle.planner.specs.Promises.{OfFile, SearchOf, RowsOf, KeptUnless};
-ghost use Rattle.calls.specs.Bytes.{startsIn};
+ghost use Rattle.calls.specs.Bytes.{starts_in};
 ghost use Rattle.calls.specs.Calls.{StartsOf};
 
 use crate::bytes::{get_starts, put_starts};
@@ -34,7 +34,7 @@ pub fn search_bytes(file: &[u8], budget: u32, memory: &mut [u64], bytes: &mut [u
 // The rows for as many start times as there are jobs.
 pub fn rows_bytes(r: Recorder, bytes: &[u8], out: &mut [u8]) -> Answer
     requires { Valid r × (length bytes.now ≡ jobs r * 2) }
-    ensures { RowsOf (startsIn bytes.now (jobs r)) out.old r result out.new }
+    ensures { RowsOf (starts_in bytes.now (jobs r)) out.old r result out.new }
 {
     let jobs = r.jobs.count;
     let mut own = [0u16; 16];

@@ -7,10 +7,10 @@ use Rattle.faults.specs.declared.Place.{Place}
 use Rattle.faults.specs.declared.Place.TheVariants.{Nowhere, Horizon, DeviceCount, Device, TaskCount, Task, JobCount, Job, End}
 use Rattle.faults.specs.declared.PlaceFault.{PlaceFault}
 use Rattle.faults.specs.Places.{FaultOf, TablesFault}
-use Rattle.catalogue.specs.Faults.{partFault, OrderFault}
-use Rattle.sheet_import.specs.LineFaults.{lineFaultAt, DevicesFault, JobsFault}
+use Rattle.catalogue.specs.Faults.{part_fault, OrderFault}
+use Rattle.sheet_import.specs.LineFaults.{line_fault_at, DevicesFault, JobsFault}
 use Rattle.calls.specs.Bytes.{big}
-use Rattle.table_bytes.specs.TableBytes.{AreTables, tablesFrom}
+use Rattle.table_bytes.specs.TableBytes.{AreTables, tables_from}
 
 abbrev pub code_of : Place → ℕ
 code_of Nowhere = 0
@@ -24,20 +24,20 @@ code_of (Job i) = 7
 code_of End = 8
 
 -- The number of the device, the task or the job, and 0 elsewhere.
-abbrev pub recordOf : Place → ℕ
-recordOf Nowhere = 0
-recordOf Horizon = 0
-recordOf DeviceCount = 0
-recordOf (Device i) = i
-recordOf TaskCount = 0
-recordOf (Task i) = i
-recordOf JobCount = 0
-recordOf (Job i) = i
-recordOf End = 0
+abbrev pub record_of : Place → ℕ
+record_of Nowhere = 0
+record_of Horizon = 0
+record_of DeviceCount = 0
+record_of (Device i) = i
+record_of TaskCount = 0
+record_of (Task i) = i
+record_of JobCount = 0
+record_of (Job i) = i
+record_of End = 0
 
 -- The eighteen bytes of a place: what it is (1), the number of its record (1), its first byte (8), the byte after its last (8).
 abbrev pub eighteen : PlaceFault → List ℕ
-eighteen f = ((big 1 (code_of f.place) ++ big 1 (recordOf f.place)) ++ big 8 f.from) ++ big 8 f.to
+eighteen f = ((big 1 (code_of f.place) ++ big 1 (record_of f.place)) ++ big 8 f.from) ++ big 8 f.to
 
 -- With too little room for them nothing is written, and an accepted file is a 15 (rule 72); else the place is told, of an accepted file eighteen zeros.
 pub data FaultCalled (file result : List ℕ) : ℕ → List ℕ → Type 0 where
@@ -49,7 +49,7 @@ pub data FaultCalled (file result : List ℕ) : ℕ → List ℕ → Type 0 wher
 
 pub data FaultDoor (tables result : List ℕ) : ℕ → List ℕ → Type 0 where
   shut : (AreTables tables × (18 ≤ length result) → ⊥) → FaultDoor tables result 255 result
-  answered : {f : PlaceFault} → AreTables tables → 18 ≤ length result → TablesFault (tablesFrom tables) f
+  answered : {f : PlaceFault} → AreTables tables → 18 ≤ length result → TablesFault (tables_from tables) f
       → FaultDoor tables result f.number (eighteen f ++ drop 18 result)
 
 -- ---- `door_order_fault`, `door_devices_fault`, `door_jobs_fault`: a place that is counted goes to eight bytes (rule 130); shut, they return 255 and write nothing
@@ -59,10 +59,10 @@ pub data CountedDoor (result : List ℕ) (Told : (number place : ℕ) → Type 0
   counted : {n k : ℕ} → 8 ≤ length result → Told n k → CountedDoor result Told n (big 8 k ++ drop 8 result)
 
 abbrev pub OrderFaultDoor : (catalogue wanted result : List ℕ) → ℕ → List ℕ → Type 0
-OrderFaultDoor catalogue wanted result = CountedDoor result (λ n k. OrderFault catalogue wanted (partFault n k))
+OrderFaultDoor catalogue wanted result = CountedDoor result (λ n k. OrderFault catalogue wanted (part_fault n k))
 
 abbrev pub DevicesFaultDoor : (text result : List ℕ) → ℕ → List ℕ → Type 0
-DevicesFaultDoor text result = CountedDoor result (λ n k. DevicesFault text (lineFaultAt n k))
+DevicesFaultDoor text result = CountedDoor result (λ n k. DevicesFault text (line_fault_at n k))
 
 abbrev pub JobsFaultDoor : (text result : List ℕ) → ℕ → List ℕ → Type 0
-JobsFaultDoor text result = CountedDoor result (λ n k. JobsFault text (lineFaultAt n k))
+JobsFaultDoor text result = CountedDoor result (λ n k. JobsFault text (line_fault_at n k))

@@ -8,15 +8,15 @@ use Rattle.schedule.specs.declared.Recorder.{Recorder}
 use Rattle.schedule.specs.Quantities.{jobs}
 use Rattle.planner.specs.declared.Answer.{Answer}
 use Rattle.planner.specs.Promises.{stops, passes, found}
-use Rattle.planner.proofs.Refusing.{unless-enough}
+use Rattle.planner.proofs.Refusing.{unless_enough}
 use Rattle.calls.proofs.Crossing.{front_same}
 use Rattle.cheapest.specs.Promises.{over, least, LeastOf}
 
 -- Any list with room gets the same answer and the same starts.
-pub least-alike : (budget : ℕ) (R : Recorder) (own own' : List ℕ) (a : Answer) (after : List ℕ) → jobs R ≤ length own → jobs R ≤ length own'
+pub least_alike : (budget : ℕ) (R : Recorder) (own own' : List ℕ) (a : Answer) (after : List ℕ) → jobs R ≤ length own → jobs R ≤ length own'
     → LeastOf budget own R a after → (after' : List ℕ) × LeastOf budget own' R a after' × (a.number ≡ 0 → take (jobs R) after' ≡ take (jobs R) after)
-least-alike budget R own own' a after h h' (stops s) = absurd (omega arith)
-least-alike budget R own own' a after h h' (passes s (stops f)) = (own', unless-enough h' (stops f), λ (z : ◌≡◌ {A = ℕ} 19 0). absurd (omega arith))
-least-alike budget R own own' a after h h' (passes s (passes n (over j b))) = (own', unless-enough h' (passes n (over j b)), λ (z : ◌≡◌ {A = ℕ} 20 0). absurd (omega arith))
-least-alike budget R own own' a after h h' (passes r (passes n (least (found {s = s} f)))) =
-    (s ++ drop (jobs R) own', unless-enough h' (passes n (least (found f))), λ z. front_same R s (drop (jobs R) own) (drop (jobs R) own') f.feasible.one_each)
+least_alike budget R own own' a after h h' (stops s) = absurd (omega arith)
+least_alike budget R own own' a after h h' (passes s (stops f)) = (own', unless_enough h' (stops f), λ (z : ◌≡◌ {A = ℕ} 19 0). absurd (omega arith))
+least_alike budget R own own' a after h h' (passes s (passes n (over j b))) = (own', unless_enough h' (passes n (over j b)), λ (z : ◌≡◌ {A = ℕ} 20 0). absurd (omega arith))
+least_alike budget R own own' a after h h' (passes r (passes n (least (found {s = s} f)))) =
+    (s ++ drop (jobs R) own', unless_enough h' (passes n (least (found f))), λ z. front_same R s (drop (jobs R) own) (drop (jobs R) own') f.feasible.one_each)

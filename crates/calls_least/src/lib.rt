@@ -31,7 +31,7 @@ fn least_bytes(file: &[u8], budget: u32, memory: &mut [u64], bytes: &mut [u8]) -
     found
 }
 
-// The start times of the first of the least-energy schedules that meet all deadlines, worked out with the lent memory.
+// The start times of the first of the least_energy schedules that meet all deadlines, worked out with the lent memory.
 #[unsafe(no_mangle)]
 pub extern "C" fn floe_least(
     file: &[u8],

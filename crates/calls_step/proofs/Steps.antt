@@ -8,13 +8,13 @@ use native.Mathlib.Nat.{pos_of_ne-zero}
 use lib.Dec.{eqb, ltb, leb}
 use lib.ListN.{length, set}
 use borrow.Author.Tests.{eqb-true, eqb-false, leb-false}
-use Rattle.base.specs.Bytes.{byte_at, pair_at, pairBytes}
-use Rattle.device.specs.Row.{Sound, powerAt}
+use Rattle.base.specs.Bytes.{byte_at, pair_at, pair_bytes}
+use Rattle.device.specs.Row.{Sound, power_at}
 use Rattle.steps.specs.declared.State.{State}
 use Rattle.steps.specs.declared.State.TheVariants.{Working, Asleep, Down, Up}
 use Rattle.steps.specs.declared.Stepped.{Stepped}
 use Rattle.tables.specs.Layout.{Bytes}
-use Rattle.calls_step.specs.StepCall.{deviceIn, stateBytes, recordIn, recordBytes, powersFault, faultOf}
+use Rattle.calls_step.specs.StepCall.{device_in, state_bytes, record_in, record_bytes, powers_fault, fault_of}
 
 -- ---- what is not refused
 
@@ -31,14 +31,14 @@ seven n m = go (eqb n m) refl
     go false e h = absurd (let never : ◌≡◌ {A = ℕ} 0 1 = cc in omega arith)
 
 pub record Fit (device bytes : List ℕ) : Type 0 where
-  pub device-long : length device ≡ 7
-  pub record-long : length bytes ≡ 6
+  pub device_long : length device ≡ 7
+  pub record_long : length bytes ≡ 6
   pub moves : 1 ≤ byte_at device 0
   pub dearer : pair_at device 3 < pair_at device 5
   pub cheaper : pair_at device 5 < pair_at device 1
 
-pub fit : (device bytes : List ℕ) → faultOf device bytes ≡ 0 → Fit device bytes
-unfolding faultOf powersFault
+pub fit : (device bytes : List ℕ) → fault_of device bytes ≡ 0 → Fit device bytes
+unfolding fault_of powers_fault
 fit device bytes e =
     let a = passed (not (eqb (length device) 7)) 255 _ (λ z. omega arith) e in
     let b = passed (not (eqb (length bytes) 6)) 255 _ (λ z. omega arith) a.1 in
@@ -47,26 +47,26 @@ fit device bytes e =
     let f = passed (leb (pair_at device 5) (pair_at device 3)) 25 _ (λ z. omega arith) d.1 in
     let g = passed (leb (pair_at device 1) (pair_at device 5)) 25 _ (λ z. omega arith) f.1 in
     record {
-      device-long = seven (length device) 7 a.0;
-      record-long = seven (length bytes) 6 b.0;
+      device_long = seven (length device) 7 a.0;
+      record_long = seven (length bytes) 6 b.0;
       moves = pos_of_ne-zero (eqb-false (byte_at device 0) 0 d.0);
       dearer = leb-false (pair_at device 5) (pair_at device 3) f.0;
       cheaper = leb-false (pair_at device 1) (pair_at device 5) g.0;
     }
 
-pub fit-sound : (device bytes : List ℕ) → Fit device bytes → Sound (deviceIn device)
-fit-sound device bytes f =
+pub fit_sound : (device bytes : List ℕ) → Fit device bytes → Sound (device_in device)
+fit_sound device bytes f =
     record {
       some_level = omega arith;
-      few-levels = omega arith;
+      few_levels = omega arith;
       shuts = f.moves;
       wakes = f.moves;
       falls = falls;
-      shuts-dearer = f.dearer;
-      wakes-dearer = f.dearer;
+      shuts_dearer = f.dearer;
+      wakes_dearer = f.dearer;
     }
   where
-    falls : (k : ℕ) → k < (deviceIn device).levels → powerAt (deviceIn device) (suc k) < powerAt (deviceIn device) k
+    falls : (k : ℕ) → k < (device_in device).levels → power_at (device_in device) (suc k) < power_at (device_in device) k
     falls zero l = omega (arith, f.dearer, f.cheaper)
     falls (suc k) l = absurd (omega arith)
 
@@ -83,12 +83,12 @@ stored (p ∷ q ∷ r ∷ s ∷ t ∷ []) a b c d e f h = absurd (omega arith)
 stored (p ∷ q ∷ r ∷ s ∷ t ∷ u ∷ []) a b c d e f h = refl
 stored (p ∷ q ∷ r ∷ s ∷ t ∷ u ∷ v ∷ l) a b c d e f h = absurd (omega arith)
 
-pub record-bytes : (x : Stepped) → recordBytes x
-    ≡ byte_at (stateBytes x.state) 0 ∷ byte_at (stateBytes x.state) 1 ∷ x.energy / 65536 / 256 ∷ x.energy / 65536 % 256 ∷ x.energy % 65536 / 256 ∷ x.energy % 65536 % 256 ∷ []
-record-bytes x = go x.state
+pub record_bytes_lem : (x : Stepped) → record_bytes x
+    ≡ byte_at (state_bytes x.state) 0 ∷ byte_at (state_bytes x.state) 1 ∷ x.energy / 65536 / 256 ∷ x.energy / 65536 % 256 ∷ x.energy % 65536 / 256 ∷ x.energy % 65536 % 256 ∷ []
+record_bytes_lem x = go x.state
   where
-    go : (st : State) → stateBytes st ++ (pairBytes (x.energy / 65536) ++ pairBytes (x.energy % 65536))
-        ≡ byte_at (stateBytes st) 0 ∷ byte_at (stateBytes st) 1 ∷ x.energy / 65536 / 256 ∷ x.energy / 65536 % 256 ∷ x.energy % 65536 / 256 ∷ x.energy % 65536 % 256 ∷ []
+    go : (st : State) → state_bytes st ++ (pair_bytes (x.energy / 65536) ++ pair_bytes (x.energy % 65536))
+        ≡ byte_at (state_bytes st) 0 ∷ byte_at (state_bytes st) 1 ∷ x.energy / 65536 / 256 ∷ x.energy / 65536 % 256 ∷ x.energy % 65536 / 256 ∷ x.energy % 65536 % 256 ∷ []
     go Working = refl
     go Asleep = refl
     go (Down n) = refl
@@ -98,15 +98,15 @@ four : (e : ℕ) → (e / 65536 / 256 * 256 + e / 65536 % 256) * 65536 + (e % 65
 four e = omega arith
 
 -- A record that was written is read as it was: so the calls of a round go on from each other.
-pub record-back : (x : Stepped) → recordIn (recordBytes x) ≡ x
-record-back x = go x.state
+pub record_back : (x : Stepped) → record_in (record_bytes x) ≡ x
+record_back x = go x.state
   where
-    go : (st : State) → recordIn (recordBytes (record { state = st; energy = x.energy })) ≡ record { state = st; energy = x.energy }
+    go : (st : State) → record_in (record_bytes (record { state = st; energy = x.energy })) ≡ record { state = st; energy = x.energy }
     go Working = rw (four x.energy)
     go Asleep = rw (four x.energy)
     go (Down n) = rw (four x.energy)
     go (Up n) = rw (four x.energy)
 
 -- The energy in a record is a number of 32 bits, since its bytes are.
-pub energy-fits : (bytes : List ℕ) → Bytes bytes → (recordIn bytes).energy < 4294967296
-energy-fits bytes b = omega (arith, b 2, b 3, b 4, b 5)
+pub energy_fits : (bytes : List ℕ) → Bytes bytes → (record_in bytes).energy < 4294967296
+energy_fits bytes b = omega (arith, b 2, b 3, b 4, b 5)

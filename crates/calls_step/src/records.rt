@@ -1,7 +1,7 @@
 // A device and its record as bytes.
 ghost use Rattle.std.specs.Prelude.{◌≡◌, length};
 ghost use Rattle.base.specs.Bytes.{byte_at};
-ghost use Rattle.calls_step.specs.StepCall.{deviceIn, stateNamed, stateBytes, recordIn, recordBytes, powersFault, faultOf, is_set};
+ghost use Rattle.calls_step.specs.StepCall.{device_in, state_named, state_bytes, record_in, record_bytes, powers_fault, fault_of, is_set};
 
 use base::pair_at;
 use device::Device;
@@ -26,7 +26,7 @@ pub fn is_set(byte: u8) -> bool
 // What refuses the powers of a device: Ps < P0 < Pw does not hold.
 fn powers_fault(device: &[u8]) -> u8
     requires { length device.now ≡ 7 }
-    ensures { result ≡ powersFault device.now }
+    ensures { result ≡ powers_fault device.now }
 {
     let moving = pair_at(device, 5);
     if moving <= pair_at(device, 3) {
@@ -40,7 +40,7 @@ fn powers_fault(device: &[u8]) -> u8
 
 // What refuses the bytes of a device and of its record; 0 where nothing does.
 pub fn fault_of(device: &[u8], bytes: &[u8]) -> u8
-    ensures { result ≡ faultOf device.now bytes.now }
+    ensures { result ≡ fault_of device.now bytes.now }
 {
     if device.len() != DEVICE {
         return NEITHER;
@@ -59,13 +59,13 @@ pub fn fault_of(device: &[u8], bytes: &[u8]) -> u8
 
 pub fn device_in(device: &[u8]) -> Device
     requires { length device.now ≡ 7 }
-    ensures { result ≡ deviceIn device.now }
+    ensures { result ≡ device_in device.now }
 {
     device_of(first_at(device, 0))
 }
 
 fn state_named(byte: u8, left: u8) -> State
-    ensures { result ≡ stateNamed byte left }
+    ensures { result ≡ state_named byte left }
 {
     if byte == 0 {
         return State::Working;
@@ -82,7 +82,7 @@ fn state_named(byte: u8, left: u8) -> State
 
 pub fn record_in(bytes: &[u8]) -> Stepped
     requires { length bytes.now ≡ 6 }
-    ensures { result ≡ recordIn bytes.now }
+    ensures { result ≡ record_in bytes.now }
 {
     let state = state_named(bytes[0], bytes[1]);
     let energy = pair_at(bytes, 2) as u32 * 65536 + pair_at(bytes, 4) as u32;
@@ -91,7 +91,7 @@ pub fn record_in(bytes: &[u8]) -> Stepped
 
 // What a device does, and the ticks left of a move.
 fn byte_of(st: State) -> u8
-    ensures { result ≡ byte_at (stateBytes st) 0 }
+    ensures { result ≡ byte_at (state_bytes st) 0 }
 {
     match st {
         State::Working => 0,
@@ -102,7 +102,7 @@ fn byte_of(st: State) -> u8
 }
 
 fn left_of(st: State) -> u8
-    ensures { result ≡ byte_at (stateBytes st) 1 }
+    ensures { result ≡ byte_at (state_bytes st) 1 }
 {
     match st {
         State::Working => 0,
@@ -114,7 +114,7 @@ fn left_of(st: State) -> u8
 
 pub fn put_record(x: Stepped, bytes: &mut [u8])
     requires { length bytes.old ≡ 6 }
-    ensures { bytes.new ≡ recordBytes x }
+    ensures { bytes.new ≡ record_bytes x }
 {
     let st = x.state;
     let high = x.energy / 65536;

@@ -10,11 +10,11 @@ use lib.Seq.{get_or-take, length-take-le}
 use lib.Dec.{leb, ltb}
 use borrow.Author.Tests.{lt-ltb, le-ltb, leb-true, leb-false, not-true, not-false}
 use Rattle.base.specs.Lists.{all}
-use Rattle.base.proofs.Cases.{test-cases, neither, or_right}
-use Rattle.base.proofs.Members.{all-holds, all-fails}
-use Rattle.catalogue.specs.Parts.{Part, numbers, wellFormed, whole, has, unfit, repeated, lacking}
-use Rattle.catalogue.specs.Faults.{First, no_part, unfitAt, repeatedAt, lackingAt}
-use Rattle.catalogue.proofs.Meaning.{has-at, at_has, repeated-twice, twice-repeated}
+use Rattle.base.proofs.Cases.{test_cases, neither, or_right}
+use Rattle.base.proofs.Members.{all_holds, all_fails}
+use Rattle.catalogue.specs.Parts.{Part, numbers, well_formed, whole, has, unfit, repeated, lacking}
+use Rattle.catalogue.specs.Faults.{First, no_part, unfit_at, repeated_at, lacking_at}
+use Rattle.catalogue.proofs.Meaning.{has_at, at_has, repeated_twice, twice_repeated}
 
 -- There is one first place.
 pub first_one : {n : ℕ} {test : ℕ → Bool} {k l : ℕ} → First n test k → First n test l → k ≡ l
@@ -49,65 +49,65 @@ module _ (ps : List Part) where
   many : length (numbers ps) ≡ length ps
   many = length-map ps (λ (p : Part). p.number)
 
-  unfit-here : (k : ℕ) → k < length ps → unfitAt ps k ≡ true → unfit ps ≡ true
-  unfit-here k h e =
+  unfit_here : (k : ℕ) → k < length ps → unfit_at ps k ≡ true → unfit ps ≡ true
+  unfit_here k h e =
       let over = ltb 64 (length (numbers ps)) in
-      let badly = not (all wellFormed (numbers ps)) in
-      either (leb 64 k) (not (wellFormed (get_or (numbers ps) k [])) || not (whole (get_or ps k no_part))) e
+      let badly = not (all well_formed (numbers ps)) in
+      either (leb 64 k) (not (well_formed (get_or (numbers ps) k [])) || not (whole (get_or ps k no_part))) e
       (λ l. or_left (over || badly) _ (or_left over _ (lt-ltb 64 (length (numbers ps)) (omega (arith, leb-true 64 k l, many)))))
-      (λ t. either (not (wellFormed (get_or (numbers ps) k []))) (not (whole (get_or ps k no_part))) t
-      (λ b. or_left (over || badly) _ (or_right over (rw (all-fails wellFormed [] (numbers ps) k (omega (arith, many)) (not-true _ b)))))
-      (λ c. or_right (over || badly) (rw (all-fails whole no_part ps k h (not-true _ c)))))
+      (λ t. either (not (well_formed (get_or (numbers ps) k []))) (not (whole (get_or ps k no_part))) t
+      (λ b. or_left (over || badly) _ (or_right over (rw (all_fails well_formed [] (numbers ps) k (omega (arith, many)) (not-true _ b)))))
+      (λ c. or_right (over || badly) (rw (all_fails whole no_part ps k h (not-true _ c)))))
 
-  fit-here : (i : ℕ) → unfitAt ps i ≡ false → (i < 64) × (wellFormed (get_or (numbers ps) i []) ≡ true) × (whole (get_or ps i no_part) ≡ true)
-  fit-here i e =
-      let few = neither (leb 64 i) (not (wellFormed (get_or (numbers ps) i [])) || not (whole (get_or ps i no_part))) e in
-      let good = neither (not (wellFormed (get_or (numbers ps) i []))) (not (whole (get_or ps i no_part))) few.1 in
+  fit_here : (i : ℕ) → unfit_at ps i ≡ false → (i < 64) × (well_formed (get_or (numbers ps) i []) ≡ true) × (whole (get_or ps i no_part) ≡ true)
+  fit_here i e =
+      let few = neither (leb 64 i) (not (well_formed (get_or (numbers ps) i [])) || not (whole (get_or ps i no_part))) e in
+      let good = neither (not (well_formed (get_or (numbers ps) i []))) (not (whole (get_or ps i no_part))) few.1 in
       (omega (arith, leb-false 64 i few.0), not-false _ good.0, not-false _ good.1)
 
-  unfit-nowhere : ((i : ℕ) → i < length ps → unfitAt ps i ≡ false) → unfit ps ≡ false
-  unfit-nowhere none =
+  unfit_nowhere : ((i : ℕ) → i < length ps → unfit_at ps i ≡ false) → unfit ps ≡ false
+  unfit_nowhere none =
       let few : length (numbers ps) ≤ 64 =
       elim (dec_lt 64 (length ps)) [
-        | yes l ↦ absurd (omega (arith, (fit-here 64 (none 64 l)).0))
+        | yes l ↦ absurd (omega (arith, (fit_here 64 (none 64 l)).0))
         | no l ↦ omega (arith, many)
       ] in
-      let formed = all-holds wellFormed [] (numbers ps) (λ i l. (fit-here i (none i (omega (arith, many)))).1) in
-      let whole-all = all-holds whole no_part ps (λ i l. (fit-here i (none i l)).2) in
+      let formed = all_holds well_formed [] (numbers ps) (λ i l. (fit_here i (none i (omega (arith, many)))).1) in
+      let whole-all = all_holds whole no_part ps (λ i l. (fit_here i (none i l)).2) in
       rw (le-ltb 64 (length (numbers ps)) few, formed, whole-all)
 
-  pub first-unfit : {k : ℕ} → First (length ps) (unfitAt ps) k → unfit ps ≡ ltb k (length ps)
-  first-unfit {k} f =
-      by_first (length ps) k (unfit ps) f.within (λ h. unfit-here k h (f.here h)) (λ h. unfit-nowhere (λ i l. f.before i (omega arith)))
+  pub first_unfit : {k : ℕ} → First (length ps) (unfit_at ps) k → unfit ps ≡ ltb k (length ps)
+  first_unfit {k} f =
+      by_first (length ps) k (unfit ps) f.within (λ h. unfit_here k h (f.here h)) (λ h. unfit_nowhere (λ i l. f.before i (omega arith)))
 
   -- ---- 22
 
-  repeated-here : (k : ℕ) → k < length ps → repeatedAt ps k ≡ true → repeated (numbers ps) ≡ true
-  repeated-here k h e =
+  repeated_here : (k : ℕ) → k < length ps → repeated_at ps k ≡ true → repeated (numbers ps) ≡ true
+  repeated_here k h e =
       let ns = numbers ps in
-      let r = has-at (take k ns) (get_or ns k []) e in
+      let r = has_at (take k ns) (get_or ns k []) e in
       let less : r.0 < k = omega (arith, r.1, length-take-le k ns (omega (arith, many))) in
-      twice-repeated ns r.0 k less (omega (arith, many)) (sym (r.2 ∙ get_or-take k ns r.0 [] less))
+      twice_repeated ns r.0 k less (omega (arith, many)) (sym (r.2 ∙ get_or-take k ns r.0 [] less))
 
-  repeated-nowhere : ((i : ℕ) → i < length ps → repeatedAt ps i ≡ false) → repeated (numbers ps) ≡ false
-  repeated-nowhere none =
+  repeated_nowhere : ((i : ℕ) → i < length ps → repeated_at ps i ≡ false) → repeated (numbers ps) ≡ false
+  repeated_nowhere none =
       let ns = numbers ps in
-      test-cases (λ b. b ≡ false) (repeated ns)
-      (λ e. let r = repeated-twice ns e in
+      test_cases (λ b. b ≡ false) (repeated ns)
+      (λ e. let r = repeated_twice ns e in
       let again : has (take r.1 ns) (get_or (take r.1 ns) r.0 []) ≡ true =
       at_has (take r.1 ns) r.0 (omega (arith, r.2, r.3, length-take-le r.1 ns (omega (arith, r.3)))) in
       let same = get_or-take r.1 ns r.0 [] r.2 ∙ r.4 in
       absurd (true≢false (sym (subst (λ (x : List ℕ). has (take r.1 ns) x ≡ true) same again) ∙ none r.1 (omega (arith, r.3, many)))))
       (λ e. refl)
 
-  pub first-repeated : {k : ℕ} → First (length ps) (repeatedAt ps) k → repeated (numbers ps) ≡ ltb k (length ps)
-  first-repeated {k} f =
-      by_first (length ps) k (repeated (numbers ps)) f.within (λ h. repeated-here k h (f.here h)) (λ h. repeated-nowhere (λ i l. f.before i (omega arith)))
+  pub first_repeated : {k : ℕ} → First (length ps) (repeated_at ps) k → repeated (numbers ps) ≡ ltb k (length ps)
+  first_repeated {k} f =
+      by_first (length ps) k (repeated (numbers ps)) f.within (λ h. repeated_here k h (f.here h)) (λ h. repeated_nowhere (λ i l. f.before i (omega arith)))
 
   -- ---- 23
 
-  pub first-lacking : (ws : List (List ℕ)) {k : ℕ} → First (length ws) (lackingAt ps ws) k → lacking ps ws ≡ ltb k (length ws)
-  first-lacking ws {k} f =
+  pub first_lacking : (ws : List (List ℕ)) {k : ℕ} → First (length ws) (lacking_at ps ws) k → lacking ps ws ≡ ltb k (length ws)
+  first_lacking ws {k} f =
       by_first (length ws) k (lacking ps ws) f.within
-      (λ h. rw (all-fails (has (numbers ps)) [] ws k h (not-true _ (f.here h))))
-      (λ h. rw (all-holds (has (numbers ps)) [] ws (λ i l. not-false _ (f.before i (omega arith)))))
+      (λ h. rw (all_fails (has (numbers ps)) [] ws k h (not-true _ (f.here h))))
+      (λ h. rw (all_holds (has (numbers ps)) [] ws (λ i l. not-false _ (f.before i (omega arith)))))

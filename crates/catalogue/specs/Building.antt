@@ -8,14 +8,14 @@ use Rattle.tables.specs.declared.DeviceTable.{DeviceTable}
 use Rattle.tables.specs.declared.TaskTable.{TaskTable}
 use Rattle.tables.specs.declared.JobTable.{JobTable}
 use Rattle.tables.specs.declared.Tables.{Tables}
-use Rattle.tables.specs.Records.{first_at, blankDevice}
+use Rattle.tables.specs.Records.{first_at, blank_device}
 use Rattle.planner.specs.declared.Answer.{Answer}
 use Rattle.planner.specs.Promises.{refusal, Written}
 use Rattle.catalogue.specs.Parts.{Part, parts_of, numbers, unfit, repeated, lacking, LookedUp}
 
 -- The device table of records, seven bytes each. Its list holds eight; its count is that of all.
-abbrev pub devicesOf : List (List ℕ) → DeviceTable
-devicesOf ds = record { count = length ds; list = padded 8 blankDevice (take 8 (map (λ (d : List ℕ). first_at d 0) ds)) }
+abbrev pub devices_of : List (List ℕ) → DeviceTable
+devices_of ds = record { count = length ds; list = padded 8 blank_device (take 8 (map (λ (d : List ℕ). first_at d 0) ds)) }
 
 -- The other sections: the horizon field, the tasks and the jobs.
 pub record Others : Type 0 where
@@ -27,8 +27,8 @@ abbrev pub others : ℕ → TaskTable → JobTable → Others
 others h ts js = record { horizon = h; tasks = ts; jobs = js }
 
 -- The tables of the first kind that these records make with them.
-abbrev pub tablesWith : Others → List (List ℕ) → Tables
-tablesWith o ds = record { kind = First; horizon = o.horizon; devices = devicesOf ds; tasks = o.tasks; jobs = o.jobs }
+abbrev pub tables_with : Others → List (List ℕ) → Tables
+tables_with o ds = record { kind = First; horizon = o.horizon; devices = devices_of ds; tasks = o.tasks; jobs = o.jobs }
 
 -- Over parts and wanted numbers: the answer, and the lent bytes after it.
 pub data BuiltOf (ps : List Part) (ws : List (List ℕ)) (o : Others) (lent : List ℕ) : Answer → List ℕ → Type 0 where
@@ -36,7 +36,7 @@ pub data BuiltOf (ps : List Part) (ws : List (List ℕ)) (o : Others) (lent : Li
   twice : unfit ps ≡ false → repeated (numbers ps) ≡ true → BuiltOf ps ws o lent (refusal 22) lent
   missing : unfit ps ≡ false → repeated (numbers ps) ≡ false → lacking ps ws ≡ true → BuiltOf ps ws o lent (refusal 23) lent
   built : {ds : List (List ℕ)} {a : Answer} {after : List ℕ} → unfit ps ≡ false → repeated (numbers ps) ≡ false → LookedUp ps ws ds
-      → Written (tablesWith o ds) lent a after → BuiltOf ps ws o lent a after
+      → Written (tables_with o ds) lent a after → BuiltOf ps ws o lent a after
 
 -- Over lent bytes: parts of 15, wanted numbers of 8.
 abbrev pub Built : List ℕ → List ℕ → Others → List ℕ → Answer → List ℕ → Type 0

@@ -3,7 +3,7 @@
 use Rattle.std.specs.Prelude.{◌≡◌, Bool, true, false, not, ◌||◌, List, [], ℕ, ◌≤◌, ◌<◌, length, take, get_or, leb}
 use Rattle.base.specs.Bytes.{pieces}
 use Rattle.catalogue.specs.declared.PartFault.{PartFault}
-use Rattle.catalogue.specs.Parts.{Part, parts_of, numbers, wellFormed, whole, has, unfit, repeated, lacking}
+use Rattle.catalogue.specs.Parts.{Part, parts_of, numbers, well_formed, whole, has, unfit, repeated, lacking}
 
 -- ---- one place
 
@@ -17,29 +17,29 @@ abbrev pub no_part : Part
 no_part = record { number = []; device = [] }
 
 -- 21: 64 parts stand before this one, or its number is badly formed, or it is cut short.
-abbrev pub unfitAt : List Part → ℕ → Bool
-unfitAt ps k = leb 64 k || (not (wellFormed (get_or (numbers ps) k [])) || not (whole (get_or ps k no_part)))
+abbrev pub unfit_at : List Part → ℕ → Bool
+unfit_at ps k = leb 64 k || (not (well_formed (get_or (numbers ps) k [])) || not (whole (get_or ps k no_part)))
 
 -- 22: a part before this one has its number.
-abbrev pub repeatedAt : List Part → ℕ → Bool
-repeatedAt ps k = has (take k (numbers ps)) (get_or (numbers ps) k [])
+abbrev pub repeated_at : List Part → ℕ → Bool
+repeated_at ps k = has (take k (numbers ps)) (get_or (numbers ps) k [])
 
 -- 23: no part has this wanted number.
-abbrev pub lackingAt : List Part → List (List ℕ) → ℕ → Bool
-lackingAt ps ws k = not (has (numbers ps) (get_or ws k []))
+abbrev pub lacking_at : List Part → List (List ℕ) → ℕ → Bool
+lacking_at ps ws k = not (has (numbers ps) (get_or ws k []))
 
 -- ---- `order_fault`
 
-abbrev pub partFault : ℕ → ℕ → PartFault
-partFault n k = record { number = n; part = k }
+abbrev pub part_fault : ℕ → ℕ → PartFault
+part_fault n k = record { number = n; part = k }
 
 -- Over parts and wanted numbers, in the order of `Built`: of 21 and 22 the place of the part, of 23 that of the wanted number; 0 and 0 where none is.
 pub data OrderFaultOf (ps : List Part) (ws : List (List ℕ)) : PartFault → Type 0 where
-  bad : {k : ℕ} → unfit ps ≡ true → First (length ps) (unfitAt ps) k → OrderFaultOf ps ws (partFault 21 k)
-  twice : {k : ℕ} → unfit ps ≡ false → repeated (numbers ps) ≡ true → First (length ps) (repeatedAt ps) k → OrderFaultOf ps ws (partFault 22 k)
-  missing : {k : ℕ} → unfit ps ≡ false → repeated (numbers ps) ≡ false → lacking ps ws ≡ true → First (length ws) (lackingAt ps ws) k
-      → OrderFaultOf ps ws (partFault 23 k)
-  none : unfit ps ≡ false → repeated (numbers ps) ≡ false → lacking ps ws ≡ false → OrderFaultOf ps ws (partFault 0 0)
+  bad : {k : ℕ} → unfit ps ≡ true → First (length ps) (unfit_at ps) k → OrderFaultOf ps ws (part_fault 21 k)
+  twice : {k : ℕ} → unfit ps ≡ false → repeated (numbers ps) ≡ true → First (length ps) (repeated_at ps) k → OrderFaultOf ps ws (part_fault 22 k)
+  missing : {k : ℕ} → unfit ps ≡ false → repeated (numbers ps) ≡ false → lacking ps ws ≡ true → First (length ws) (lacking_at ps ws) k
+      → OrderFaultOf ps ws (part_fault 23 k)
+  none : unfit ps ≡ false → repeated (numbers ps) ≡ false → lacking ps ws ≡ false → OrderFaultOf ps ws (part_fault 0 0)
 
 abbrev pub OrderFault : List ℕ → List ℕ → PartFault → Type 0
 OrderFault catalogue wanted = OrderFaultOf (parts_of catalogue) (pieces 8 wanted)

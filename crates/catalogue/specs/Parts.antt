@@ -18,15 +18,15 @@ front [] = []
 front (b ∷ s) = cond (sign b) (b ∷ front s) []
 
 -- Eight bytes: at least one sign, and nothing but spaces to the right of the signs (rule 56).
-abbrev pub wellFormed : List ℕ → Bool
-wellFormed n = eqb (length n) 8 && (ltb 0 (length (front n)) && same n (padded 8 space (front n)))
+abbrev pub well_formed : List ℕ → Bool
+well_formed n = eqb (length n) 8 && (ltb 0 (length (front n)) && same n (padded 8 space (front n)))
 
 -- A number is among others; 21 asks that no more than 64 be given and each be well formed, 22 that none come twice.
 abbrev pub has : List (List ℕ) → List ℕ → Bool
 has ns n = one (same n) ns
 
 abbrev pub malformed : List (List ℕ) → Bool
-malformed ns = ltb 64 (length ns) || not (all wellFormed ns)
+malformed ns = ltb 64 (length ns) || not (all well_formed ns)
 
 abbrev pub repeated : List (List ℕ) → Bool
 repeated [] = false
@@ -72,6 +72,6 @@ pub data LookedUp (ps : List Part) : List (List ℕ) → List (List ℕ) → Typ
   next : {w d : List ℕ} {ws ds : List (List ℕ)} → Has ps w d → LookedUp ps ws ds → LookedUp ps (w ∷ ws) (d ∷ ds)
 
 -- The same worked out: the first part that has the number.
-abbrev pub recordOf : List Part → List ℕ → List ℕ
-recordOf [] n = []
-recordOf (p ∷ ps) n = cond (same n p.number) p.device (recordOf ps n)
+abbrev pub record_of : List Part → List ℕ → List ℕ
+record_of [] n = []
+record_of (p ∷ ps) n = cond (same n p.number) p.device (record_of ps n)

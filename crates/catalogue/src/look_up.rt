@@ -2,10 +2,10 @@
 ghost use Rattle.std.specs.Prelude.{◌≡◌, true, false, map, ◌*◌, ◌/◌, ◌≤◌, length};
 ghost use Rattle.tables.specs.Records.{first_at};
 ghost use Rattle.base.specs.Bytes.{pieces};
-ghost use Rattle.catalogue.specs.Parts.{parts_of, numbers, has, unfit, repeated, lacking, recordOf};
+ghost use Rattle.catalogue.specs.Parts.{parts_of, numbers, has, unfit, repeated, lacking, record_of};
 ghost use Rattle.catalogue.specs.inside.Places.{Sought};
-ghost use Rattle.catalogue.specs.Building.{devicesOf};
-ghost use Rattle.catalogue.specs.Faults.{First, unfitAt, repeatedAt, lackingAt};
+ghost use Rattle.catalogue.specs.Building.{devices_of};
+ghost use Rattle.catalogue.specs.Faults.{First, unfit_at, repeated_at, lacking_at};
 
 use crate::numbers::{is_formed, is_same};
 use base::fewer;
@@ -31,7 +31,7 @@ fn find(catalogue: &[u8], from: usize, number: &[u8]) -> usize
 
 // 21: the first part with a number that has a bad character or bad padding, that is cut short, or that has 64 before it; the number of parts where there is none.
 pub(crate) fn unfit_at(catalogue: &[u8]) -> usize
-    ensures { First (length (parts_of catalogue.now)) (unfitAt (parts_of catalogue.now)) result }
+    ensures { First (length (parts_of catalogue.now)) (unfit_at (parts_of catalogue.now)) result }
 {
     let count = catalogue.len() / 15;
     let mut k = 0;
@@ -58,7 +58,7 @@ pub fn is_unfit(catalogue: &[u8]) -> bool
 // 22: the first part that has the number of one before it; the number of parts where there is none.
 pub fn repeated_at(catalogue: &[u8]) -> usize
     requires { unfit (parts_of catalogue.now) ≡ false }
-    ensures { First (length (parts_of catalogue.now)) (repeatedAt (parts_of catalogue.now)) result }
+    ensures { First (length (parts_of catalogue.now)) (repeated_at (parts_of catalogue.now)) result }
 {
     let count = catalogue.len() / 15;
     let mut k = 0;
@@ -83,7 +83,7 @@ pub fn is_repeated(catalogue: &[u8]) -> bool
 // 23: the first wanted number that no part has, and a last piece under 8 bytes is none; how many are wanted where there is none.
 pub(crate) fn lacking_at(catalogue: &[u8], wanted: &[u8]) -> usize
     requires { unfit (parts_of catalogue.now) ≡ false }
-    ensures { First (length (pieces 8 wanted.now)) (lackingAt (parts_of catalogue.now) (pieces 8 wanted.now)) result }
+    ensures { First (length (pieces 8 wanted.now)) (lacking_at (parts_of catalogue.now) (pieces 8 wanted.now)) result }
 {
     let parts = catalogue.len() / 15;
     let count = wanted.len() / 8;
@@ -102,7 +102,7 @@ pub(crate) fn lacking_at(catalogue: &[u8], wanted: &[u8]) -> usize
 // The record of the part that has this number.
 fn record_of(catalogue: &[u8], number: &[u8]) -> DeviceRecord
     requires { (unfit (parts_of catalogue.now) ≡ false) × (has (numbers (parts_of catalogue.now)) number.now ≡ true) }
-    ensures { result ≡ first_at (recordOf (parts_of catalogue.now) number.now) 0 }
+    ensures { result ≡ first_at (record_of (parts_of catalogue.now) number.now) 0 }
 {
     let k = find(catalogue, 0, number);
     first_at(catalogue, 15 * k + 8)
@@ -111,7 +111,7 @@ fn record_of(catalogue: &[u8], number: &[u8]) -> DeviceRecord
 // The records of the wanted parts, in the order in which they are wanted.
 pub(crate) fn devices_of(catalogue: &[u8], wanted: &[u8]) -> DeviceTable
     requires { (unfit (parts_of catalogue.now) ≡ false) × (lacking (parts_of catalogue.now) (pieces 8 wanted.now) ≡ false) }
-    ensures { result ≡ devicesOf (map (recordOf (parts_of catalogue.now)) (pieces 8 wanted.now)) }
+    ensures { result ≡ devices_of (map (record_of (parts_of catalogue.now)) (pieces 8 wanted.now)) }
 {
     let mut devices = DeviceTable {
         count: 0,

@@ -1,7 +1,7 @@
 // One part number: eight bytes, digits and capital letters first, then spaces.
 ghost use Rattle.std.specs.Prelude.{◌≡◌, length, replicate};
 ghost use Rattle.base.specs.Bytes.{same};
-ghost use Rattle.catalogue.specs.Parts.{space, sign, front, wellFormed};
+ghost use Rattle.catalogue.specs.Parts.{space, sign, front, well_formed};
 
 // A digit or a capital letter.
 fn is_sign(b: u8) -> bool
@@ -50,7 +50,7 @@ fn are_spaces(rest: &[u8]) -> bool
 
 // At least one sign, and spaces to the right of the signs.
 pub fn is_formed(number: &[u8]) -> bool
-    ensures { result ≡ wellFormed number.now }
+    ensures { result ≡ well_formed number.now }
 {
     if number.len() != 8 {
         return false;

@@ -9,9 +9,9 @@ use Rattle.planner.specs.declared.Answer.{Answer}
 use Rattle.planner.specs.Promises as S
 use Rattle.planner.specs.Promises.{OfFile, SearchOf, Searched}
 use Rattle.planner.proofs.Larger.{Enough}
-use Rattle.planner.proofs.Reading.{two-of-file}
+use Rattle.planner.proofs.Reading.{two_of_file}
 use Rattle.cheapest.specs.Promises.{over, least, LeastOf, LeastPlanned}
-use Rattle.cheapest.proofs.Only.{Told, only-told, least-told}
+use Rattle.cheapest.proofs.Only.{Told, only_told, least_told}
 
 -- An answer without its count.
 abbrev pub uncounted : Answer → Answer
@@ -23,32 +23,32 @@ told_of budget lent R (S.passes h (S.stops b)) n = absurd (n refl)
 told_of budget lent R (S.passes h (S.passes b (S.stops f))) n = S.passes h (S.stops f)
 told_of budget lent R (S.passes h (S.passes b (S.passes f (S.found g)))) n = S.passes h (S.passes f (S.found g))
 
-search-told : (file : List ℕ) (budget : ℕ) (lent : List ℕ) {a : Answer} {l : List ℕ}
+search_told : (file : List ℕ) (budget : ℕ) (lent : List ℕ) {a : Answer} {l : List ℕ}
     → Searched file budget lent a l → Enough a → OfFile file lent (Told lent) (uncounted a) l
-search-told file budget lent (S.OfFile.refused r) n = S.OfFile.refused r
-search-told file budget lent (S.OfFile.read {R = R} r t) n = S.OfFile.read r (told_of budget lent R t n)
+search_told file budget lent (S.OfFile.refused r) n = S.OfFile.refused r
+search_told file budget lent (S.OfFile.read {R = R} r t) n = S.OfFile.read r (told_of budget lent R t n)
 
 -- The number, the horizon, the energy and the starts of the search.
-pub beside-search : (file : List ℕ) (b b' : ℕ) (lent : List ℕ) {a a' : Answer} {l l' : List ℕ}
+pub beside_search : (file : List ℕ) (b b' : ℕ) (lent : List ℕ) {a a' : Answer} {l l' : List ℕ}
     → LeastPlanned file b lent a l → Searched file b' lent a' l' → Enough a → Enough a' → (a ≡ uncounted a') × (l ≡ l')
-beside-search file b b' lent p s n n' = only-told file lent (least-told file b lent p n) (search-told file b' lent s n')
+beside_search file b b' lent p s n n' = only_told file lent (least_told file b lent p n) (search_told file b' lent s n')
 
 -- ---- not given up where the search is not
 
-also-enough : (b b' : ℕ) → b ≤ b' → (lent : List ℕ) (R : Recorder) {a a' : Answer} {l l' : List ℕ} → SearchOf b lent R a l → LeastOf b' lent R a' l' → Enough a → Enough a'
-also-enough b b' i lent R s (S.stops h) n e = omega arith
-also-enough b b' i lent R s (S.passes h (S.stops f)) n e = omega arith
-also-enough b b' i lent R (S.stops k) (S.passes h (S.passes f (over j o))) n e = h k
-also-enough b b' i lent R (S.passes k (S.stops q)) (S.passes h (S.passes f (over j o))) n e = n refl
-also-enough b b' i lent R (S.passes k (S.passes q t)) (S.passes h (S.passes f (over j o))) n e = q (omega (arith, i, o))
-also-enough b b' i lent R s (S.passes h (S.passes f (least (S.found g)))) n e = omega arith
+also_enough : (b b' : ℕ) → b ≤ b' → (lent : List ℕ) (R : Recorder) {a a' : Answer} {l l' : List ℕ} → SearchOf b lent R a l → LeastOf b' lent R a' l' → Enough a → Enough a'
+also_enough b b' i lent R s (S.stops h) n e = omega arith
+also_enough b b' i lent R s (S.passes h (S.stops f)) n e = omega arith
+also_enough b b' i lent R (S.stops k) (S.passes h (S.passes f (over j o))) n e = h k
+also_enough b b' i lent R (S.passes k (S.stops q)) (S.passes h (S.passes f (over j o))) n e = n refl
+also_enough b b' i lent R (S.passes k (S.passes q t)) (S.passes h (S.passes f (over j o))) n e = q (omega (arith, i, o))
+also_enough b b' i lent R s (S.passes h (S.passes f (least (S.found g)))) n e = omega arith
 
-pub enough-together : (file : List ℕ) (b b' : ℕ) → b ≤ b' → (lent : List ℕ) {a a' : Answer} {l l' : List ℕ}
+pub enough_together : (file : List ℕ) (b b' : ℕ) → b ≤ b' → (lent : List ℕ) {a a' : Answer} {l l' : List ℕ}
     → Searched file b lent a l → LeastPlanned file b' lent a' l' → Enough a → Enough a'
-enough-together file b b' i lent =
-    two-of-file file lent lent (SearchOf b lent) (LeastOf b' lent) (λ x m x' m'. Enough x → Enough x') (λ k n. n) (λ R v x x' m m'. also-enough b b' i lent R)
+enough_together file b b' i lent =
+    two_of_file file lent lent (SearchOf b lent) (LeastOf b' lent) (λ x m x' m'. Enough x → Enough x') (λ k n. n) (λ R v x x' m m'. also_enough b b' i lent R)
 
 -- And then it is the search's plan: number, horizon, energy and starts.
-pub same-plan : (file : List ℕ) (b b' : ℕ) → b ≤ b' → (lent : List ℕ) {a a' : Answer} {l l' : List ℕ}
+pub same_plan : (file : List ℕ) (b b' : ℕ) → b ≤ b' → (lent : List ℕ) {a a' : Answer} {l l' : List ℕ}
     → Searched file b lent a l → LeastPlanned file b' lent a' l' → Enough a → (a' ≡ uncounted a) × (l' ≡ l)
-same-plan file b b' i lent s p n = beside-search file b' b lent p s (enough-together file b b' i lent s p n) n
+same_plan file b b' i lent s p n = beside_search file b' b lent p s (enough_together file b b' i lent s p n) n

@@ -11,38 +11,38 @@ use Rattle.schedule.specs.declared.Recorder.{Recorder}
 use Rattle.schedule.specs.Quantities.{jobs, Valid}
 use Rattle.schedule.specs.Listing.{Feasible, FirstLeast}
 use Rattle.schedule.specs.Visiting.{vertices}
-use Rattle.latest.specs.inside.Latest.{latestOf}
-use Rattle.latest.proofs.Feasibility.{feasible-latest, latest-feasible}
+use Rattle.latest.specs.inside.Latest.{latest_of}
+use Rattle.latest.proofs.Feasibility.{feasible_latest, latest_feasible}
 use Rattle.planner.specs.declared.Answer.{Answer}
-use Rattle.planner.specs.Promises.{success, refusal, refusalAfter, stops, passes}
+use Rattle.planner.specs.Promises.{success, refusal, refusal_after, stops, passes}
 use Rattle.planner.specs.Promises as Frame
-use Rattle.planner.proofs.Refusing.{unless-enough, unless-some}
+use Rattle.planner.proofs.Refusing.{unless_enough, unless_some}
 use Rattle.cheapest.specs.Promises.{LeastOf}
 use Rattle.cheapest.specs.Promises as P
 
 pub data LeastCases (budget : ℕ) (lent : List ℕ) (R : Recorder) : Answer → List ℕ → Type 0 where
   short : length lent < jobs R → LeastCases budget lent R (refusal 15) lent
   none : jobs R ≤ length lent → ((s : List ℕ) → Feasible R s → ⊥) → LeastCases budget lent R (refusal 19) lent
-  over : {s : List ℕ} → jobs R ≤ length lent → Feasible R s → 0 < jobs R → budget < vertices R → LeastCases budget lent R (refusalAfter 20 budget) lent
+  over : {s : List ℕ} → jobs R ≤ length lent → Feasible R s → 0 < jobs R → budget < vertices R → LeastCases budget lent R (refusal_after 20 budget) lent
   found : {s : List ℕ} {e : ℕ} → jobs R ≤ length lent → FirstLeast R s e → LeastCases budget lent R (success R.horizon e 0) (s ++ drop (jobs R) lent)
 
 -- Where it is not so that no schedule is feasible, one is.
-feasible-some : (R : Recorder) → Valid R → (((s : List ℕ) → Feasible R s → ⊥) → ⊥) → (s : List ℕ) × Feasible R s
-feasible-some R v n = go (ltb 0 (latestOf R (2 ^ jobs R - 1))) refl
+feasible_some : (R : Recorder) → Valid R → (((s : List ℕ) → Feasible R s → ⊥) → ⊥) → (s : List ℕ) × Feasible R s
+feasible_some R v n = go (ltb 0 (latest_of R (2 ^ jobs R - 1))) refl
   where
-    go : (b : Bool) → ltb 0 (latestOf R (2 ^ jobs R - 1)) ≡ b → (s : List ℕ) × Feasible R s
-    go true q = latest-feasible R v (ltb-true 0 (latestOf R (2 ^ jobs R - 1)) q)
-    go false q = absurd (n (λ s f. omega (arith, ltb-false 0 (latestOf R (2 ^ jobs R - 1)) q, feasible-latest R v s f)))
+    go : (b : Bool) → ltb 0 (latest_of R (2 ^ jobs R - 1)) ≡ b → (s : List ℕ) × Feasible R s
+    go true q = latest_feasible R v (ltb-true 0 (latest_of R (2 ^ jobs R - 1)) q)
+    go false q = absurd (n (λ s f. omega (arith, ltb-false 0 (latest_of R (2 ^ jobs R - 1)) q, feasible_latest R v s f)))
 
 module _ (budget : ℕ) (lent : List ℕ) (R : Recorder) where
-  pub least-cases : Valid R → {a : Answer} {l : List ℕ} → LeastOf budget lent R a l → LeastCases budget lent R a l
-  least-cases v (stops h) = LeastCases.short h
-  least-cases v (passes h (stops n)) = LeastCases.none (omega arith) n
-  least-cases v (passes h (passes n (P.OverOrLeast.over j b))) = LeastCases.over (omega arith) (feasible-some R v n).1 j b
-  least-cases v (passes h (passes n (P.OverOrLeast.least (Frame.GivesLeast.found f)))) = LeastCases.found (omega arith) f
+  pub least_cases : Valid R → {a : Answer} {l : List ℕ} → LeastOf budget lent R a l → LeastCases budget lent R a l
+  least_cases v (stops h) = LeastCases.short h
+  least_cases v (passes h (stops n)) = LeastCases.none (omega arith) n
+  least_cases v (passes h (passes n (P.OverOrLeast.over j b))) = LeastCases.over (omega arith) (feasible_some R v n).1 j b
+  least_cases v (passes h (passes n (P.OverOrLeast.least (Frame.GivesLeast.found f)))) = LeastCases.found (omega arith) f
 
-  pub cases-least : {a : Answer} {l : List ℕ} → LeastCases budget lent R a l → LeastOf budget lent R a l
-  cases-least (LeastCases.short h) = stops h
-  cases-least (LeastCases.none h n) = unless-enough h (stops n)
-  cases-least (LeastCases.over h f j b) = unless-enough h (unless-some f (P.OverOrLeast.over j b))
-  cases-least (LeastCases.found h f) = unless-enough h (unless-some f.feasible (P.OverOrLeast.least (Frame.GivesLeast.found f)))
+  pub cases_least : {a : Answer} {l : List ℕ} → LeastCases budget lent R a l → LeastOf budget lent R a l
+  cases_least (LeastCases.short h) = stops h
+  cases_least (LeastCases.none h n) = unless_enough h (stops n)
+  cases_least (LeastCases.over h f j b) = unless_enough h (unless_some f (P.OverOrLeast.over j b))
+  cases_least (LeastCases.found h f) = unless_enough h (unless_some f.feasible (P.OverOrLeast.least (Frame.GivesLeast.found f)))

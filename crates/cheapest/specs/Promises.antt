@@ -6,12 +6,12 @@ use Rattle.schedule.specs.Quantities.{jobs}
 use Rattle.schedule.specs.Listing.{Feasible}
 use Rattle.schedule.specs.Visiting.{vertices}
 use Rattle.planner.specs.declared.Answer.{Answer}
-use Rattle.planner.specs.Promises.{refusal, refusalAfter, Unless, OfFile, GivesLeast, KeptUnless}
+use Rattle.planner.specs.Promises.{refusal, refusal_after, Unless, OfFile, GivesLeast, KeptUnless}
 
 -- Where there is a feasible schedule the first that costs least is given, as the search gives it, and no count. It may be given up only where there are jobs and the search
 -- has to be too, with a budget below the vertices that the visiting order counts (rule 118).
 pub data OverOrLeast (budget : ℕ) (lent : List ℕ) (R : Recorder) : Answer → List ℕ → Type 0 where
-  over : 0 < jobs R → budget < vertices R → OverOrLeast budget lent R (refusalAfter 20 budget) lent
+  over : 0 < jobs R → budget < vertices R → OverOrLeast budget lent R (refusal_after 20 budget) lent
   least : {a : Answer} {after : List ℕ} → GivesLeast R 0 lent a after → OverOrLeast budget lent R a after
 
 abbrev pub LeastOf : (budget : ℕ) (lent : List ℕ) → Recorder → Answer → List ℕ → Type 0

@@ -1,11 +1,11 @@
-// The first of the least-energy schedules of a request, worked out with a memory that the caller lends. `least_plan` asks nothing of its caller; specs/Promises.antt
+// The first of the least_energy schedules of a request, worked out with a memory that the caller lends. `least_plan` asks nothing of its caller; specs/Promises.antt
 // says its complete outcome, but for what the memory holds where a plan was looked for, and whether the memory was enough for one.
 ghost use Rattle.std.specs.Prelude.{◌≡◌, ◌++◌, ◌-◌, ◌^◌, ◌<◌, ◌≤◌, ltb, get_or, length, drop, replicate};
 ghost use Rattle.schedule.specs.Quantities.{Valid, jobs};
 ghost use Rattle.schedule.specs.Listing.{Feasible};
-ghost use Rattle.schedule.specs.Visiting.{planEnergy};
-ghost use Rattle.flat.specs.inside.Flat.{recorderOf};
-ghost use Rattle.latest.specs.inside.Latest.{latestOf, Laid};
+ghost use Rattle.schedule.specs.Visiting.{plan_energy};
+ghost use Rattle.flat.specs.inside.Flat.{recorder_of};
+ghost use Rattle.latest.specs.inside.Latest.{latest_of, Laid};
 ghost use Rattle.planner.specs.Promises as Promises;
 ghost use Rattle.planner.specs.Promises.{KeptUnless};
 ghost use Rattle.least.specs.inside.Outcome.{ReadOff};
@@ -31,8 +31,8 @@ fn is_possible(latest: &Table, n: usize) -> bool
 
 // The search, with what it is lent made ready. Answers whether the budget was enough.
 fn find(r: &Flat, latest: &Table, budget: u32, memory: &mut [u64], found: &mut [u16; 16]) -> bool
-    requires { Valid (recorderOf r.now) × (Laid (recorderOf r.now) latest.now × ((found.old ≡ replicate 16 0) × (0 < latestOf (recorderOf r.now) (2 ^ jobs (recorderOf r.now) - 1)))) }
-    ensures { ReadOff (recorderOf r.now) budget found.new result }
+    requires { Valid (recorder_of r.now) × (Laid (recorder_of r.now) latest.now × ((found.old ≡ replicate 16 0) × (0 < latest_of (recorder_of r.now) (2 ^ jobs (recorder_of r.now) - 1)))) }
+    ensures { ReadOff (recorder_of r.now) budget found.new result }
 {
     let mut extras = [0u32; 32976];
     lay_extras(r, &mut extras);
@@ -55,7 +55,7 @@ fn copy(s: &[u16], out: &mut [u16])
 // The schedule that is found, written into the lent list, and the answer with its energy.
 fn give(r: Recorder, s: &[u16], starts: &mut [u16]) -> Answer
     requires { Valid r × (Feasible r s.now × (length s.now ≤ length starts.old)) }
-    ensures { (result ≡ Promises.success r.horizon (planEnergy r s.now) 0) × (starts.new ≡ s.now ++ drop (length s.now) starts.old) }
+    ensures { (result ≡ Promises.success r.horizon (plan_energy r s.now) 0) × (starts.new ≡ s.now ++ drop (length s.now) starts.old) }
 {
     copy(s, starts);
     let energy = plan_energy(r, s);
@@ -64,7 +64,7 @@ fn give(r: Recorder, s: &[u16], starts: &mut [u16]) -> Answer
 
 // What the search that counts finds, without its count: it gives up only where the budget is below the vertices of the visiting order.
 fn counted(r: Recorder, budget: u32, memory: &mut [u64], starts: &mut [u16]) -> Answer
-    requires { Valid r × ((0 < jobs r) × ((jobs r ≤ length starts.old) × (0 < latestOf r (2 ^ jobs r - 1)))) }
+    requires { Valid r × ((0 < jobs r) × ((jobs r ≤ length starts.old) × (0 < latest_of r (2 ^ jobs r - 1)))) }
     ensures planned { LeastOf budget starts.old r result starts.new }
     ensures sought { Sought result }
 {
@@ -75,7 +75,7 @@ fn counted(r: Recorder, budget: u32, memory: &mut [u64], starts: &mut [u16]) -> 
     success(r.horizon, found.energy, 0)
 }
 
-// The first of the least-energy schedules of a recorder that has one, where there is room for its starts. Where the search that remembers gives up, the one that counts
+// The first of the least_energy schedules of a recorder that has one, where there is room for its starts. Where the search that remembers gives up, the one that counts
 // has the same budget and memory.
 fn least_with(
     r: Recorder,
@@ -85,7 +85,7 @@ fn least_with(
     memory: &mut [u64],
     starts: &mut [u16],
 ) -> Answer
-    requires { Valid r × ((recorderOf flat.now ≡ r) × (Laid r latest.now × ((jobs r ≤ length starts.old) × (0 < latestOf r (2 ^ jobs r - 1))))) }
+    requires { Valid r × ((recorder_of flat.now ≡ r) × (Laid r latest.now × ((jobs r ≤ length starts.old) × (0 < latest_of r (2 ^ jobs r - 1))))) }
     ensures planned { LeastOf budget starts.old r result starts.new }
     ensures sought { Sought result }
 {
@@ -116,7 +116,7 @@ pub fn least_of(r: Recorder, budget: u32, memory: &mut [u64], starts: &mut [u16]
     least_with(r, &flat, &latest, budget, memory, starts)
 }
 
-// Writes the start times of the first of the least-energy schedules that meet all deadlines. The memory may hold anything and be of any length: the more, the
+// Writes the start times of the first of the least_energy schedules that meet all deadlines. The memory may hold anything and be of any length: the more, the
 // faster. It is written to only where a plan is looked for.
 pub fn least_plan(file: &[u8], budget: u32, memory: &mut [u64], starts: &mut [u16]) -> Answer
     ensures { LeastPlannedIn file.now budget memory.old starts.old result memory.new starts.new }

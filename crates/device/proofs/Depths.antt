@@ -5,9 +5,9 @@ use Prim.Native.Nat.{ℕ, ◌≤◌, ◌<◌}
 use native.Mathlib.Nat.{eq-or-lt_of_le}
 use native.Mathlib.Omega.{arith}
 use Rattle.device.specs.declared.Device.{Device}
-use Rattle.device.specs.Row.{powerAt, deep, Sound, Letter, at, State, level, power, Step, stays, shuts, wakes, falls, rises, resumes, rests}
+use Rattle.device.specs.Row.{power_at, deep, Sound, Letter, at, State, level, power, Step, stays, shuts, wakes, falls, rises, resumes, rests}
 use Rattle.device.proofs.Round.{Cheapest}
-use Rattle.device.proofs.Chosen.{power-falls, deep-low}
+use Rattle.device.proofs.Chosen.{power_falls, deep_low}
 use Rattle.device.proofs.Levels.{machine}
 
 module _ (d : Device) (Z : Sound d) where
@@ -15,22 +15,22 @@ module _ (d : Device) (Z : Sound d) where
   abbrev Low : Letter → Type 0
   Low y = (deep d ≤ power d y) × (power d y ≤ deep d → y ≡ at d.levels)
 
-  low-stay : (k : ℕ) → k ≤ d.levels → Low (at k)
-  low-stay k h = (deep-low d Z k h, λ l. ⊎_elim (λ e. ap at e) (λ lt. absurd (omega (arith, power-falls d Z k d.levels lt (omega arith)))) (eq-or-lt_of_le h))
+  low_stay : (k : ℕ) → k ≤ d.levels → Low (at k)
+  low_stay k h = (deep_low d Z k h, λ l. ⊎_elim (λ e. ap at e) (λ lt. absurd (omega (arith, power_falls d Z k d.levels lt (omega arith)))) (eq-or-lt_of_le h))
 
-  low-move : (y : Letter) → powerAt d 1 < power d y → Low y
-  low-move y h = (omega (arith, deep-low d Z 1 Z.some_level), λ l. absurd (omega (arith, deep-low d Z 1 Z.some_level)))
+  low_move : (y : Letter) → power_at d 1 < power d y → Low y
+  low_move y h = (omega (arith, deep_low d Z 1 Z.some_level), λ l. absurd (omega (arith, deep_low d Z 1 Z.some_level)))
 
   low_step : {s t : State} {y : Letter} → Step d s y t → Low y
-  low_step (stays {k = k} q l) = low-stay k l
-  low_step (shuts q l e) = low-move _ Z.shuts-dearer
-  low_step (wakes q e) = low-move _ Z.wakes-dearer
-  low_step falls = low-move _ Z.shuts-dearer
-  low_step rises = low-move _ Z.wakes-dearer
-  low_step resumes = low-stay 0 (omega arith)
+  low_step (stays {k = k} q l) = low_stay k l
+  low_step (shuts q l e) = low_move _ Z.shuts_dearer
+  low_step (wakes q e) = low_move _ Z.wakes_dearer
+  low_step falls = low_move _ Z.shuts_dearer
+  low_step rises = low_move _ Z.wakes_dearer
+  low_step resumes = low_stay 0 (omega arith)
 
   pub cheapest : Cheapest (machine d) (power d) (at d.levels) (level d.levels)
-  cheapest = record { loop = stays rests le-self; low = λ st. (low_step st).0; only = λ st h. (low_step st).1 h }
+  cheapest = record { loop = stays rests le_self; low = λ st. (low_step st).0; only = λ st h. (low_step st).1 h }
     where
-      le-self : d.levels ≤ d.levels
-      le-self = omega arith
+      le_self : d.levels ≤ d.levels
+      le_self = omega arith

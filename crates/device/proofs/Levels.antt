@@ -8,12 +8,12 @@ use native.Mathlib.Nat.{mul-zero, sub-zero, eq-or-lt_of_le, mul-le-mul_left}
 use native.Mathlib.Omega.{arith}
 use lib.ListN.{replicate, replicate-append-replicate}
 use Rattle.device.specs.declared.Device.{Device}
-use Rattle.device.specs.Row.{powerAt, Sound, Letter, at, D, U, State, level, down, up, Rests, rests, fallen, risen, Step, stays, shuts, wakes, falls, rises, resumes, Ends, at-work, woken, power, moving, depth, gapRow}
+use Rattle.device.specs.Row.{power_at, Sound, Letter, at, D, U, State, level, down, up, Rests, rests, fallen, risen, Step, stays, shuts, wakes, falls, rises, resumes, Ends, at_work, woken, power, moving, depth, gap_row}
 use Rattle.device.specs.Row as R
 use Rattle.device.proofs.Rows.{Machine, Run, stop, tick, Works, Best}
 use Rattle.device.proofs.Walk.{Moves, Walk, done, stay, fall, rise, trip, Cheaper}
 use Rattle.device.proofs.Gap.{Room, Walked, Choice, best}
-use Rattle.device.proofs.Chosen.{chosen, trip-energy, trip-moved, power-falls}
+use Rattle.device.proofs.Chosen.{chosen, trip_energy, trip_moved, power_falls}
 
 abbrev pub machine : Device → Machine Letter
 machine d = record { State = State; start = level 0; ends = Ends; work = at 0; step = Step d }
@@ -22,15 +22,15 @@ abbrev pub moves : Device → Moves Letter
 moves d = record { deepest = d.levels; rest = at; down = D; up = U; shut = d.shut; wake = d.wake }
 
 module _ (d : Device) where
-  pub machine-works : Works (machine d)
-  machine-works = record { returns = ret; resumes = res }
+  pub machine_works : Works (machine d)
+  machine_works = record { returns = ret; resumes = res }
     where
       ret : {s t : State} → Step d s (at 0) t → (level 0 ≡ t) × Ends s
-      ret (stays rests l) = (refl, at-work)
+      ret (stays rests l) = (refl, at_work)
       ret resumes = (refl, woken)
 
       res : {s : State} → Ends s → Step d s (at 0) (level 0)
-      res at-work = stays {k = 0} rests (omega arith)
+      res at_work = stays {k = 0} rests (omega arith)
       res woken = resumes
 
   -- What a run from each state is: what is left of a move, and a walk from the level it leads to.
@@ -40,7 +40,7 @@ module _ (d : Device) where
   From (up k n) p = (r : List Letter) × (p ≡ replicate n U ++ r) × Walk (moves d) k r
 
   ended : {s : State} → Ends s → From s []
-  ended at-work = done
+  ended at_work = done
   ended woken = ([], refl, done)
 
   rested : {s : State} {k : ℕ} (p : List Letter) → Rests s k → Walk (moves d) k p → From s p
@@ -60,85 +60,85 @@ module _ (d : Device) where
   stepped p rises f = (f.0, ap {B = List Letter} (λ r. U ∷ r) f.1, f.2)
   stepped p resumes f = (at 0 ∷ p, refl, stay f)
 
-  run-walk : {s : State} (p : List Letter) → Run (machine d) s p → From s p
-  run-walk p (stop e) = ended e
-  run-walk p (tick {r = r} st run) = stepped r st (run-walk r run)
+  run_walk : {s : State} (p : List Letter) → Run (machine d) s p → From s p
+  run_walk p (stop e) = ended e
+  run_walk p (tick {r = r} st run) = stepped r st (run_walk r run)
 
   -- The trips are runs.
   many : (x : Letter) (t k : ℕ) → replicate (t * suc k) x ≡ replicate t x ++ replicate (t * k) x
   many x t k = let e : t * suc k ≡ t + t * k = omega arith in rw (replicate-append-replicate, e)
 
-  run-falls : (k n : ℕ) (q : List Letter) → Run (machine d) (down k 0) q → Run (machine d) (down k n) (replicate n D ++ q)
-  run-falls k zero q r = r
-  run-falls k (suc n) q r = tick falls (run-falls k n q r)
+  run_falls : (k n : ℕ) (q : List Letter) → Run (machine d) (down k 0) q → Run (machine d) (down k n) (replicate n D ++ q)
+  run_falls k zero q r = r
+  run_falls k (suc n) q r = tick falls (run_falls k n q r)
 
-  run-rises : (k n : ℕ) (q : List Letter) → Run (machine d) (up k 0) q → Run (machine d) (up k n) (replicate n U ++ q)
-  run-rises k zero q r = r
-  run-rises k (suc n) q r = tick rises (run-rises k n q r)
+  run_rises : (k n : ℕ) (q : List Letter) → Run (machine d) (up k 0) q → Run (machine d) (up k n) (replicate n U ++ q)
+  run_rises k zero q r = r
+  run_rises k (suc n) q r = tick rises (run_rises k n q r)
 
   module _ (shut-some : 1 ≤ d.shut) (wake-some : 1 ≤ d.wake) where
-    down-block : {s : State} {k : ℕ} (q : List Letter) → Rests s k → k < d.levels → Run (machine d) (down (suc k) 0) q
+    down_block : {s : State} {k : ℕ} (q : List Letter) → Rests s k → k < d.levels → Run (machine d) (down (suc k) 0) q
         → Run (machine d) s (replicate d.shut D ++ q)
-    down-block {s} {k} q h l r =
+    down_block {s} {k} q h l r =
         let n = d.shut - 1 in
         let e : suc n ≡ d.shut = omega arith in
-        subst (Run (machine d) s) (sym (block D n d.shut (replicate n D ++ q) q e refl)) (tick (shuts h l e) (run-falls (suc k) n q r))
+        subst (Run (machine d) s) (sym (block D n d.shut (replicate n D ++ q) q e refl)) (tick (shuts h l e) (run_falls (suc k) n q r))
 
-    up-block : {s : State} {k : ℕ} (q : List Letter) → Rests s (suc k) → Run (machine d) (up k 0) q → Run (machine d) s (replicate d.wake U ++ q)
-    up-block {s} {k} q h r =
+    up_block : {s : State} {k : ℕ} (q : List Letter) → Rests s (suc k) → Run (machine d) (up k 0) q → Run (machine d) s (replicate d.wake U ++ q)
+    up_block {s} {k} q h r =
         let n = d.wake - 1 in
         let e : suc n ≡ d.wake = omega arith in
-        subst (Run (machine d) s) (sym (block U n d.wake (replicate n U ++ q) q e refl)) (tick (wakes h e) (run-rises k n q r))
+        subst (Run (machine d) s) (sym (block U n d.wake (replicate n U ++ q) q e refl)) (tick (wakes h e) (run_rises k n q r))
 
-    run-ups : (k : ℕ) → Run (machine d) (up k 0) (replicate (d.wake * k) U)
-    run-ups zero = rw mul-zero (stop woken)
-    run-ups (suc k) = rw (many U d.wake k) (up-block (replicate (d.wake * k) U) risen (run-ups k))
+    run_ups : (k : ℕ) → Run (machine d) (up k 0) (replicate (d.wake * k) U)
+    run_ups zero = rw mul-zero (stop woken)
+    run_ups (suc k) = rw (many U d.wake k) (up_block (replicate (d.wake * k) U) risen (run_ups k))
 
-    run-stay : {s : State} (m c : ℕ) → suc m ≤ d.levels → Rests s (suc m) → Run (machine d) s (replicate c (at (suc m)) ++ replicate (d.wake * suc m) U)
-    run-stay m zero l h = rw (many U d.wake m) (up-block (replicate (d.wake * m) U) h (run-ups m))
-    run-stay m (suc c) l h = tick (stays h l) (run-stay m c l rests)
+    run_stay : {s : State} (m c : ℕ) → suc m ≤ d.levels → Rests s (suc m) → Run (machine d) s (replicate c (at (suc m)) ++ replicate (d.wake * suc m) U)
+    run_stay m zero l h = rw (many U d.wake m) (up_block (replicate (d.wake * m) U) h (run_ups m))
+    run_stay m (suc c) l h = tick (stays h l) (run_stay m c l rests)
 
-    run-trip : {s : State} (j k c m : ℕ) → Rests s k → k + j ≡ suc m → suc m ≤ d.levels
+    run_trip : {s : State} (j k c m : ℕ) → Rests s k → k + j ≡ suc m → suc m ≤ d.levels
         → Run (machine d) s (replicate (d.shut * j) D ++ (replicate c (at (suc m)) ++ replicate (d.wake * suc m) U))
-    run-trip {s} zero k c m h e l = rw mul-zero (run-stay m c l (subst (Rests s) (omega arith) h))
-    run-trip {s} (suc j) k c m h e l =
+    run_trip {s} zero k c m h e l = rw mul-zero (run_stay m c l (subst (Rests s) (omega arith) h))
+    run_trip {s} (suc j) k c m h e l =
         rw (many D d.shut j, append_assoc)
-        (down-block (replicate (d.shut * j) D ++ (replicate c (at (suc m)) ++ replicate (d.wake * suc m) U)) h (omega arith)
-        (run-trip j (suc k) c m fallen (omega arith) l))
+        (down_block (replicate (d.shut * j) D ++ (replicate c (at (suc m)) ++ replicate (d.wake * suc m) U)) h (omega arith)
+        (run_trip j (suc k) c m fallen (omega arith) l))
 
-    run-work : (g : ℕ) → Run (machine d) (level 0) (replicate g (at 0))
-    run-work zero = stop at-work
-    run-work (suc g) = tick (stays {k = 0} rests (omega arith)) (run-work g)
+    run_work : (g : ℕ) → Run (machine d) (level 0) (replicate g (at 0))
+    run_work zero = stop at_work
+    run_work (suc g) = tick (stays {k = 0} rests (omega arith)) (run_work g)
 
     trips : (m g : ℕ) → m ≤ d.levels → Room (moves d) m g → Run (machine d) (level 0) (trip (moves d) m g)
     unfolding trip
-    trips zero g h r = simp (mul-zero, sub-zero, append-nil) (run-work g)
-    trips (suc m) g h r = run-trip (suc m) 0 (g - (d.shut * suc m + d.wake * suc m)) m rests (omega arith) h
+    trips zero g h r = simp (mul-zero, sub-zero, append-nil) (run_work g)
+    trips (suc m) g h r = run_trip (suc m) 0 (g - (d.shut * suc m + d.wake * suc m)) m rests (omega arith) h
 
     pub walked : Walked (moves d) (machine d)
-    walked = record { sound = λ p run. run-walk p run; trips = trips }
+    walked = record { sound = λ p run. run_walk p run; trips = trips }
 
   module _ (Z : Sound d) where
-    first-most : (m : ℕ) → 1 ≤ m → m ≤ d.levels → powerAt d m ≤ powerAt d 1
-    first-most zero l h = absurd (omega arith)
-    first-most (suc zero) l h = omega arith
-    first-most (suc (suc m)) l h = omega (arith, power-falls d Z 1 (suc (suc m)) (omega arith) h)
+    first_most : (m : ℕ) → 1 ≤ m → m ≤ d.levels → power_at d m ≤ power_at d 1
+    first_most zero l h = absurd (omega arith)
+    first_most (suc zero) l h = omega arith
+    first_most (suc (suc m)) l h = omega (arith, power_falls d Z 1 (suc (suc m)) (omega arith) h)
 
     pub cheaper : Cheaper (moves d) (power d)
     cheaper = record {
-      falls = power-falls d Z;
-      under-down = λ m l h. omega (arith, first-most m l h, Z.shuts-dearer);
-      under_up = λ m l h. omega (arith, first-most m l h, Z.wakes-dearer);
-      takes-time = Z.shuts;
+      falls = power_falls d Z;
+      under_down = λ m l h. omega (arith, first_most m l h, Z.shuts_dearer);
+      under_up = λ m l h. omega (arith, first_most m l h, Z.wakes_dearer);
+      takes_time = Z.shuts;
     }
 
     -- The level that specs/Row chooses is the best one. A deeper one moves in more ticks.
-    same-trip : (m g : ℕ) → trip (moves d) m g ≡ R.trip d m g
+    same_trip : (m g : ℕ) → trip (moves d) m g ≡ R.trip d m g
     unfolding trip R.trip
-    same-trip m g = refl
+    same_trip m g = refl
 
-    more-ticks : (m k : ℕ) → d.shut * k + d.wake * k ≤ d.shut * m + d.wake * m → m ≤ k → k ≡ m
-    more-ticks m k h l = ⊎_elim sym (λ lt. absurd (omega (arith, mul-le-mul_left d.shut lt, mul-le-mul_left d.wake lt, Z.shuts))) (eq-or-lt_of_le l)
+    more_ticks : (m k : ℕ) → d.shut * k + d.wake * k ≤ d.shut * m + d.wake * m → m ≤ k → k ≡ m
+    more_ticks m k h l = ⊎_elim sym (λ lt. absurd (omega (arith, mul-le-mul_left d.shut lt, mul-le-mul_left d.wake lt, Z.shuts))) (eq-or-lt_of_le l)
 
     choice : Choice (moves d) (power d) moving (depth d d.levels)
     choice = record {
@@ -147,13 +147,13 @@ module _ (d : Device) where
       beats = λ g k h r.
           let m = depth d d.levels g in
           let c = chosen d d.levels g in
-          rw (same-trip m g, same-trip k g, trip-energy d m g, trip-energy d k g, trip-moved d m g, trip-moved d k g) (
+          rw (same_trip m g, same_trip k g, trip_energy d m g, trip_energy d k g, trip_moved d m g, trip_moved d k g) (
             c.least k h r,
             λ e. omega (arith, mul-le-mul_left d.shut (c.shallower k h r e), mul-le-mul_left d.wake (c.shallower k h r e)),
-            λ e v. more-ticks m k v (c.shallower k h r e),
+            λ e v. more_ticks m k v (c.shallower k h r e),
           );
     }
 
-    pub best-gap : Best (machine d) (power d) moving (gapRow d)
+    pub best_gap : Best (machine d) (power d) moving (gap_row d)
     unfolding trip R.trip
-    best-gap = best (moves d) (power d) moving (machine d) (walked Z.shuts Z.wakes) cheaper (depth d d.levels) choice
+    best_gap = best (moves d) (power d) moving (machine d) (walked Z.shuts Z.wakes) cheaper (depth d d.levels) choice

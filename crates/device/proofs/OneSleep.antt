@@ -35,7 +35,7 @@ pub data Step (T : ℕ) : State → Letter → State → Type 0 where
 
 -- A row may end where the next tick could be one of work (rule 31).
 pub data Ends : State → Type 0 where
-  at-work : Ends working
+  at_work : Ends working
   woken : Ends (up 0)
 
 -- The rows of a pattern of use, tick by tick; W in every tick of use (rule 35).
@@ -56,33 +56,33 @@ state asleep = R.level 1
 state (up n) = R.up 0 n
 
 module _ (T Pw Ps P0 : ℕ) where
-  abbrev step-at : R.State → Letter → R.State → Type 0
-  step-at = R.Step (first T Pw Ps P0)
+  abbrev step_at : R.State → Letter → R.State → Type 0
+  step_at = R.Step (first T Pw Ps P0)
 
-  step-to : {s t : State} {x : Letter} → Step T s x t → step-at (state s) x (state t)
-  step-to works = R.stays {k = 0} R.rests (omega arith)
-  step-to (shuts e) = R.shuts {k = 0} R.rests (omega arith) e
-  step-to falls = R.falls
-  step-to rests = R.stays {k = 1} R.fallen (omega arith)
-  step-to (turns e) = R.wakes R.fallen e
-  step-to sleeps = R.stays {k = 1} R.rests (omega arith)
-  step-to (wakes e) = R.wakes R.rests e
-  step-to rises = R.rises
-  step-to resumes = R.resumes
+  step_to : {s t : State} {x : Letter} → Step T s x t → step_at (state s) x (state t)
+  step_to works = R.stays {k = 0} R.rests (omega arith)
+  step_to (shuts e) = R.shuts {k = 0} R.rests (omega arith) e
+  step_to falls = R.falls
+  step_to rests = R.stays {k = 1} R.fallen (omega arith)
+  step_to (turns e) = R.wakes R.fallen e
+  step_to sleeps = R.stays {k = 1} R.rests (omega arith)
+  step_to (wakes e) = R.wakes R.rests e
+  step_to rises = R.rises
+  step_to resumes = R.resumes
 
-  end-to : {s : State} → Ends s → R.Ends (state s)
-  end-to at-work = R.at-work
-  end-to woken = R.woken
+  end_to : {s : State} → Ends s → R.Ends (state s)
+  end_to at_work = R.at_work
+  end_to woken = R.woken
 
   record From (s : R.State) (u : List Bool) (r : List Letter) : Type 0 where
     pub last : R.State
     pub goes : Goes (first T Pw Ps P0) s u r last
     pub ends : R.Ends last
 
-  legal-to : {s : State} {u : List Bool} {r : List Letter} → Legal T s u r → From (state s) u r
-  legal-to {s} (end e) = record { last = state s; goes = over; ends = end-to e }
-  legal-to (used st l) = let i = legal-to l in record { last = i.last; goes = R.used (step-to st) i.goes; ends = i.ends }
-  legal-to (free st l) = let i = legal-to l in record { last = i.last; goes = R.free (step-to st) i.goes; ends = i.ends }
+  legal_to : {s : State} {u : List Bool} {r : List Letter} → Legal T s u r → From (state s) u r
+  legal_to {s} (end e) = record { last = state s; goes = over; ends = end_to e }
+  legal_to (used st l) = let i = legal_to l in record { last = i.last; goes = R.used (step_to st) i.goes; ends = i.ends }
+  legal_to (free st l) = let i = legal_to l in record { last = i.last; goes = R.free (step_to st) i.goes; ends = i.ends }
 
   -- A step by level is one of these.
   record Back (s : State) (x : Letter) (z : R.State) : Type 0 where
@@ -90,7 +90,7 @@ module _ (T Pw Ps P0 : ℕ) where
     pub same : state t ≡ z
     pub step : Step T s x t
 
-  step_back : (s : State) {x : Letter} {z : R.State} → step-at (state s) x z → Back s x z
+  step_back : (s : State) {x : Letter} {z : R.State} → step_at (state s) x z → Back s x z
   step_back working (R.stays R.rests l) = record { t = working; same = refl; step = works }
   step_back working (R.shuts {n = n} R.rests l e) = record { t = down n; same = refl; step = shuts e }
   step_back (down zero) (R.stays R.fallen l) = record { t = asleep; same = refl; step = rests }
@@ -104,21 +104,21 @@ module _ (T Pw Ps P0 : ℕ) where
   step_back (up (suc n)) R.rises = record { t = up n; same = refl; step = rises }
 
   end_back : (s : State) → R.Ends (state s) → Ends s
-  end_back working R.at-work = at-work
+  end_back working R.at_work = at_work
   end_back (up zero) R.woken = woken
 
-  legal-back : (s : State) {z last : R.State} {u : List Bool} {r : List Letter} → state s ≡ z → Goes (first T Pw Ps P0) z u r last → R.Ends last → Legal T s u r
-  legal-back s p over e = end (end_back s (subst R.Ends (sym p) e))
-  legal-back s p (R.used {t = t} st g) e =
-      let b = step_back s (subst (λ (q : R.State). step-at q W t) (sym p) st) in
-      used b.step (legal-back b.t b.same g e)
-  legal-back s p (R.free {t = t} {x = x} st g) e =
-      let b = step_back s (subst (λ (q : R.State). step-at q x t) (sym p) st) in
-      free b.step (legal-back b.t b.same g e)
+  legal_back : (s : State) {z last : R.State} {u : List Bool} {r : List Letter} → state s ≡ z → Goes (first T Pw Ps P0) z u r last → R.Ends last → Legal T s u r
+  legal_back s p over e = end (end_back s (subst R.Ends (sym p) e))
+  legal_back s p (R.used {t = t} st g) e =
+      let b = step_back s (subst (λ (q : R.State). step_at q W t) (sym p) st) in
+      used b.step (legal_back b.t b.same g e)
+  legal_back s p (R.free {t = t} {x = x} st g) e =
+      let b = step_back s (subst (λ (q : R.State). step_at q x t) (sym p) st) in
+      free b.step (legal_back b.t b.same g e)
 
   -- THEOREM: these steps accept exactly the rows of specs/Row.
-  pub one-sleep : (u : List Bool) (r : List Letter) → LegalRow T u r ↔ Once (first T Pw Ps P0) u r
-  one-sleep u r = (
-    λ l. let f = legal-to l in record { last = f.last; goes = f.goes; ends = f.ends },
-    λ o. legal-back working refl o.goes o.ends,
+  pub one_sleep : (u : List Bool) (r : List Letter) → LegalRow T u r ↔ Once (first T Pw Ps P0) u r
+  one_sleep u r = (
+    λ l. let f = legal_to l in record { last = f.last; goes = f.goes; ends = f.ends },
+    λ o. legal_back working refl o.goes o.ends,
   )

@@ -13,23 +13,23 @@ use lib.Dec.{leb, ltb, eqb}
 use lib.ListN.{take, drop, replicate, drop_of_length-le}
 use lib.Seq.{take_all}
 use borrow.Author.Tests.{le-leb, lt-leb, lt-ltb, le-ltb, eqb-true, eqb-false}
-use Rattle.base.proofs.Additions.{total-replicate}
+use Rattle.base.proofs.Additions.{total_replicate}
 use Rattle.device.specs.declared.Device.{Device}
 use Rattle.device.specs.declared.Uses.{Uses}
-use Rattle.device.specs.Row.{W, deep, power, energy, gapRow, gapCost, row_of, energyOf, pattern}
+use Rattle.device.specs.Row.{W, deep, power, energy, gap_row, gap_cost, row_of, energy_of, pattern}
 use Rattle.device.specs.Row as Row
-use Rattle.device.specs.inside.Uses.{begin, end, usedBefore, usedIn, after, afterFrom, front, idle, Spaced}
-use Rattle.device.proofs.Pattern.{Ended, fresh, placed, ended-place, pattern-split, pattern-const, pattern-place, pattern-close}
-use Rattle.device.proofs.Chosen.{length-gap}
-use Rattle.device.proofs.Least.{row-place, row-close, energy-place, round-row, round-never, seam-energy}
+use Rattle.device.specs.inside.Uses.{begin, end, used_before, used_in, after, after_from, front, idle, Spaced}
+use Rattle.device.proofs.Pattern.{Ended, fresh, placed, ended_place, pattern_split, pattern_const, pattern_place, pattern_close}
+use Rattle.device.proofs.Chosen.{length_gap}
+use Rattle.device.proofs.Least.{row_place, row_close, energy_place, round_row, round_never, seam_energy}
 
 module _ (u : Uses) where
   -- A tick that lies in none of the first n uses.
-  pub used-none : (t n : ℕ) → ((j : ℕ) → j < n → (t < begin u j) ⊎ (end u j ≤ t)) → usedBefore u n t ≡ false
-  unfolding usedBefore
-  used-none t zero h = refl
-  used-none t (suc n) h =
-      rw (used-none t n (λ j l. h j (omega arith)))
+  pub used_none : (t n : ℕ) → ((j : ℕ) → j < n → (t < begin u j) ⊎ (end u j ≤ t)) → used_before u n t ≡ false
+  unfolding used_before
+  used_none t zero h = refl
+  used_none t (suc n) h =
+      rw (used_none t n (λ j l. h j (omega arith)))
       (⊎_elim (λ l. rw (lt-leb (begin u n) t l)) (λ l. go (leb (begin u n) t) l) (h n (omega arith)))
     where
       go : (b : Bool) → end u n ≤ t → (b && ltb t (end u n)) ≡ false
@@ -37,96 +37,96 @@ module _ (u : Uses) where
       go false l = refl
 
   -- A tick that lies in use i.
-  pub used-one : (t i n : ℕ) → i < n → begin u i ≤ t → t < end u i → usedBefore u n t ≡ true
-  unfolding usedBefore
-  used-one t i zero h a b = absurd (omega arith)
-  used-one t i (suc n) h a b =
-      ⊎_elim (λ e. here e) (λ l. rw (used-one t i n l a b)) (eq-or-lt_of_le {n = i} {m = n} (omega arith))
+  pub used_one : (t i n : ℕ) → i < n → begin u i ≤ t → t < end u i → used_before u n t ≡ true
+  unfolding used_before
+  used_one t i zero h a b = absurd (omega arith)
+  used_one t i (suc n) h a b =
+      ⊎_elim (λ e. here e) (λ l. rw (used_one t i n l a b)) (eq-or-lt_of_le {n = i} {m = n} (omega arith))
     where
-      or-true : (x : Bool) → (x || true) ≡ true
-      or-true true = refl
-      or-true false = refl
+      or_true : (x : Bool) → (x || true) ≡ true
+      or_true true = refl
+      or_true false = refl
 
-      here : i ≡ n → (usedBefore u n t || (leb (begin u n) t && ltb t (end u n))) ≡ true
-      here e = rw (← e, le-leb (begin u i) t a, lt-ltb t (end u i) b) (or-true (usedBefore u i t))
+      here : i ≡ n → (used_before u n t || (leb (begin u n) t && ltb t (end u n))) ≡ true
+      here e = rw (← e, le-leb (begin u i) t a, lt-ltb t (end u i) b) (or_true (used_before u i t))
 
 pub after_next : (u : Uses) (i : ℕ) → end u i ≡ after u (i + 1)
 after_next u i = rw (add-one i)
 
-pub from_next : (b : ℕ) (u : Uses) (i : ℕ) → end u i ≡ afterFrom b u (i + 1)
+pub from_next : (b : ℕ) (u : Uses) (i : ℕ) → end u i ≡ after_from b u (i + 1)
 from_next b u i = rw (add-one i)
 
 module _ (u : Uses) (h : ℕ) (ok : Spaced u h) where
-  after-rises : (i j : ℕ) → i ≤ j → j ≤ u.count → after u i ≤ after u j
-  after-rises zero zero l m = omega arith
-  after-rises (suc i) zero l m = absurd (omega arith)
-  after-rises i (suc j) l m =
-      ⊎_elim (λ e. omega (arith, ap (after u) e)) (λ k. omega (arith, after-rises i j (omega arith) (omega arith), ok.rising j m, ok.lasting j m)) (eq-or-lt_of_le l)
+  after_rises : (i j : ℕ) → i ≤ j → j ≤ u.count → after u i ≤ after u j
+  after_rises zero zero l m = omega arith
+  after_rises (suc i) zero l m = absurd (omega arith)
+  after_rises i (suc j) l m =
+      ⊎_elim (λ e. omega (arith, ap (after u) e)) (λ k. omega (arith, after_rises i j (omega arith) (omega arith), ok.rising j m, ok.lasting j m)) (eq-or-lt_of_le l)
 
-  pub after-within : (i : ℕ) → i ≤ u.count → after u i ≤ h
-  after-within i l = omega (arith, after-rises i u.count l (omega arith), ok.within)
+  pub after_within : (i : ℕ) → i ≤ u.count → after u i ≤ h
+  after_within i l = omega (arith, after_rises i u.count l (omega arith), ok.within)
 
   -- No tick is used from the end of a use up to where the next begins, or from the end of the last one on.
-  free : (i t : ℕ) → i ≤ u.count → after u i ≤ t → (i < u.count → t < begin u i) → usedIn u t ≡ false
-  free i t l a b = used-none u t u.count (λ j m. elim (dec_lt j i) [
-    | yes k ↦ inr (omega (arith, after-rises (suc j) i k l))
+  free : (i t : ℕ) → i ≤ u.count → after u i ≤ t → (i < u.count → t < begin u i) → used_in u t ≡ false
+  free i t l a b = used_none u t u.count (λ j m. elim (dec_lt j i) [
+    | yes k ↦ inr (omega (arith, after_rises (suc j) i k l))
     | no k ↦ inl (⊎_elim (λ e. omega (arith, ap (begin u) e, b (omega arith)))
-        (λ q. omega (arith, b (omega arith), ok.lasting i (omega arith), after-rises (suc i) j q (omega arith), ok.rising j m)) (eq-or-lt_of_le {n = i} {m = j} (omega arith)))
+        (λ q. omega (arith, b (omega arith), ok.lasting i (omega arith), after_rises (suc i) j q (omega arith), ok.rising j m)) (eq-or-lt_of_le {n = i} {m = j} (omega arith)))
   ])
 
-  busy : (i t : ℕ) → i < u.count → begin u i ≤ t → t < end u i → usedIn u t ≡ true
-  busy i t l a b = used-one u t i u.count l a b
+  busy : (i t : ℕ) → i < u.count → begin u i ≤ t → t < end u i → used_in u t ≡ true
+  busy i t l a b = used_one u t i u.count l a b
 
   -- From tick b on, up to which there is no use.
   module _ (b : ℕ) (hb : b ≤ begin u 0) where
-    from-least : (i : ℕ) → after u i ≤ afterFrom b u i
-    from-least zero = omega arith
-    from-least (suc i) = omega arith
+    from_least : (i : ℕ) → after u i ≤ after_from b u i
+    from_least zero = omega arith
+    from_least (suc i) = omega arith
 
     -- Use i: where it begins and ends.
-    pub use-fits : (i : ℕ) → i < u.count → (afterFrom b u i ≤ begin u i) × (begin u i < end u i) × (end u i ≤ h)
-    use-fits zero l = (hb, ok.lasting 0 l, after-within 1 l)
-    use-fits (suc i) l = (ok.rising (suc i) l, ok.lasting (suc i) l, after-within (suc (suc i)) l)
+    pub use_fits : (i : ℕ) → i < u.count → (after_from b u i ≤ begin u i) × (begin u i < end u i) × (end u i ≤ h)
+    use_fits zero l = (hb, ok.lasting 0 l, after_within 1 l)
+    use_fits (suc i) l = (ok.rising (suc i) l, ok.lasting (suc i) l, after_within (suc (suc i)) l)
 
-    pub from-by : (i : ℕ) → i ≤ u.count → b ≤ afterFrom b u i
-    from-by zero l = omega arith
-    from-by (suc i) l = omega (arith, use-fits 0 (omega arith), after-rises 1 (suc i) (omega arith) l)
+    pub from_by : (i : ℕ) → i ≤ u.count → b ≤ after_from b u i
+    from_by zero l = omega arith
+    from_by (suc i) l = omega (arith, use_fits 0 (omega arith), after_rises 1 (suc i) (omega arith) l)
 
     -- The pattern from there on, up to the end of use i, and the rest of it after the last use.
-    pattern-use : (i : ℕ) → i < u.count
-        → pattern (usedIn u) b (end u i - b)
-        ≡ pattern (usedIn u) b (afterFrom b u i - b) ++ placed (begin u i - afterFrom b u i) (end u i - begin u i - 1)
-    pattern-use i l =
-        let f = use-fits i l in
-        let at = afterFrom b u i in
-        let by = from-by i (omega arith) in
-        let least = from-least i in
+    pattern_use : (i : ℕ) → i < u.count
+        → pattern (used_in u) b (end u i - b)
+        ≡ pattern (used_in u) b (after_from b u i - b) ++ placed (begin u i - after_from b u i) (end u i - begin u i - 1)
+    pattern_use i l =
+        let f = use_fits i l in
+        let at = after_from b u i in
+        let by = from_by i (omega arith) in
+        let least = from_least i in
         let e : (at - b) + (begin u i - at + suc (end u i - begin u i - 1)) ≡ end u i - b = omega arith in
-        ap (pattern (usedIn u) b) (sym e) ∙ pattern-place (usedIn u) b (at - b) (begin u i - at) (end u i - begin u i - 1)
+        ap (pattern (used_in u) b) (sym e) ∙ pattern_place (used_in u) b (at - b) (begin u i - at) (end u i - begin u i - 1)
         (λ t x y. free i t (omega arith) (omega arith) (λ m. omega arith)) (λ t x y. busy i t l (omega arith) (omega arith))
 
-    ended-from : (i : ℕ) → i ≤ u.count → Ended (pattern (usedIn u) b (afterFrom b u i - b))
-    ended-from zero l = rw sub_self fresh
-    ended-from (suc i) l = rw (pattern-use i l) (ended-place (pattern (usedIn u) b (afterFrom b u i - b)) (begin u i - afterFrom b u i) (end u i - begin u i - 1))
+    ended_from : (i : ℕ) → i ≤ u.count → Ended (pattern (used_in u) b (after_from b u i - b))
+    ended_from zero l = rw sub_self fresh
+    ended_from (suc i) l = rw (pattern_use i l) (ended_place (pattern (used_in u) b (after_from b u i - b)) (begin u i - after_from b u i) (end u i - begin u i - 1))
 
     -- Up to `at`, where the uses before use i have ended, and on from there.
     module _ (d : Device) where
-      pub row-use : (i at : ℕ) → i < u.count → at ≡ afterFrom b u i
-          → row_of false d (pattern (usedIn u) b (end u i - b))
-          ≡ row_of false d (pattern (usedIn u) b (at - b)) ++ (gapRow d (begin u i - at) ++ replicate (end u i - begin u i) W)
-      row-use i at l e =
+      pub row_use : (i at : ℕ) → i < u.count → at ≡ after_from b u i
+          → row_of false d (pattern (used_in u) b (end u i - b))
+          ≡ row_of false d (pattern (used_in u) b (at - b)) ++ (gap_row d (begin u i - at) ++ replicate (end u i - begin u i) W)
+      row_use i at l e =
           let s = ok.lasting i l in
           let c : suc (end u i - begin u i - 1) ≡ end u i - begin u i = omega arith in
-          rw e (ap (row_of false d) (pattern-use i l) ∙ row-place d (ended-from i (omega arith)) (begin u i - afterFrom b u i) (end u i - begin u i - 1)
-          ∙ ap (λ (n : ℕ). row_of false d (pattern (usedIn u) b (afterFrom b u i - b)) ++ (gapRow d (begin u i - afterFrom b u i) ++ replicate n W)) c)
+          rw e (ap (row_of false d) (pattern_use i l) ∙ row_place d (ended_from i (omega arith)) (begin u i - after_from b u i) (end u i - begin u i - 1)
+          ∙ ap (λ (n : ℕ). row_of false d (pattern (used_in u) b (after_from b u i - b)) ++ (gap_row d (begin u i - after_from b u i) ++ replicate n W)) c)
 
-      pub energy-use : (i at : ℕ) → i < u.count → at ≡ afterFrom b u i
-          → energyOf false d (pattern (usedIn u) b (end u i - b))
-          ≡ energyOf false d (pattern (usedIn u) b (at - b)) + (gapCost d (begin u i - at) + d.pw * (end u i - begin u i))
-      energy-use i at l e =
+      pub energy_use : (i at : ℕ) → i < u.count → at ≡ after_from b u i
+          → energy_of false d (pattern (used_in u) b (end u i - b))
+          ≡ energy_of false d (pattern (used_in u) b (at - b)) + (gap_cost d (begin u i - at) + d.pw * (end u i - begin u i))
+      energy_use i at l e =
           let s = ok.lasting i l in
           let c : suc (end u i - begin u i - 1) ≡ end u i - begin u i = omega arith in
-          rw (e, pattern-use i l, energy-place d (ended-from i (omega arith)) (begin u i - afterFrom b u i) (end u i - begin u i - 1), c)
+          rw (e, pattern_use i l, energy_place d (ended_from i (omega arith)) (begin u i - after_from b u i) (end u i - begin u i - 1), c)
 
   pub front_by : (round : Bool) → front round u ≤ begin u 0
   front_by true = omega arith
@@ -136,87 +136,87 @@ module _ (u : Uses) (h : ℕ) (ok : Spaced u h) where
   abbrev last : ℕ
   last = after u u.count
 
-  last_some : (b : ℕ) → 0 < u.count → afterFrom b u u.count ≡ last
+  last_some : (b : ℕ) → 0 < u.count → after_from b u u.count ≡ last
   last_some b l = go u.count l
     where
-      go : (n : ℕ) → 0 < n → afterFrom b u n ≡ after u n
+      go : (n : ℕ) → 0 < n → after_from b u n ≡ after u n
       go zero l = absurd (omega arith)
       go (suc n) l = refl
 
-  from_start : (i : ℕ) → afterFrom 0 u i ≡ after u i
+  from_start : (i : ℕ) → after_from 0 u i ≡ after u i
   from_start zero = refl
   from_start (suc i) = refl
 
-  used-some : (n : ℕ) → eqb n 0 ≡ false → 0 < n
-  used-some zero q = absurd (eqb-false 0 0 q refl)
-  used-some (suc n) q = omega arith
+  used_some : (n : ℕ) → eqb n 0 ≡ false → 0 < n
+  used_some zero q = absurd (eqb-false 0 0 q refl)
+  used_some (suc n) q = omega arith
 
-  pub last-front : (round : Bool) → idle round u ≡ false → afterFrom (front round u) u u.count ≡ last
-  last-front false e = from_start u.count
-  last-front true e = last_some (begin u 0) (used-some u.count e)
+  pub last_front : (round : Bool) → idle round u ≡ false → after_from (front round u) u u.count ≡ last
+  last_front false e = from_start u.count
+  last_front true e = last_some (begin u 0) (used_some u.count e)
 
   -- No tick is used after it.
-  close-from : (b : ℕ) → b ≤ last → pattern (usedIn u) b (h - b) ≡ pattern (usedIn u) b (last - b) ++ replicate (h - last) false
-  close-from b l =
+  close_from : (b : ℕ) → b ≤ last → pattern (used_in u) b (h - b) ≡ pattern (used_in u) b (last - b) ++ replicate (h - last) false
+  close_from b l =
       let w = ok.within in
       let e : (last - b) + (h - last) ≡ h - b = omega arith in
-      ap (pattern (usedIn u) b) (sym e) ∙ pattern-close (usedIn u) b (last - b) (h - last)
+      ap (pattern (used_in u) b) (sym e) ∙ pattern_close (used_in u) b (last - b) (h - last)
       (λ t x y. free u.count t (omega arith) (omega arith) (λ m. absurd (omega arith)))
 
   -- The whole row: what lies between the first use and the end of the last, and before and after it the two parts of one gap. In a list the first has no tick.
   module _ (d : Device) where
     abbrev Whole : Bool → ℕ → Type 0
     Whole round b =
-        row_of round d (pattern (usedIn u) 0 h)
-        ≡ drop (h - last) (gapRow d ((h - last) + b)) ++ (row_of false d (pattern (usedIn u) b (last - b)) ++ take (h - last) (gapRow d ((h - last) + b)))
+        row_of round d (pattern (used_in u) 0 h)
+        ≡ drop (h - last) (gap_row d ((h - last) + b)) ++ (row_of false d (pattern (used_in u) b (last - b)) ++ take (h - last) (gap_row d ((h - last) + b)))
 
-    list-whole : Whole false 0
-    list-whole =
+    list_whole : Whole false 0
+    list_whole =
         let n = h - last in
-        let long = length-gap d n in
-        let none : drop n (gapRow d n) ≡ [] = drop_of_length-le (gapRow d n) {i = n} (omega arith) in
-        let all : take n (gapRow d n) ≡ gapRow d n = take_all n (gapRow d n) (omega arith) in
-        let split : pattern (usedIn u) 0 h ≡ pattern (usedIn u) 0 last ++ replicate n false = rw (sub-zero, sub-zero) at (close-from 0 (omega arith)) in
-        let ends : Ended (pattern (usedIn u) 0 last) = rw (sub-zero, from_start u.count) at (ended-from 0 (omega arith) u.count (omega arith)) in
-        rw (add-zero, none, all, sub-zero) (ap (row_of false d) split ∙ row-close d ends n)
+        let long = length_gap d n in
+        let none : drop n (gap_row d n) ≡ [] = drop_of_length-le (gap_row d n) {i = n} (omega arith) in
+        let all : take n (gap_row d n) ≡ gap_row d n = take_all n (gap_row d n) (omega arith) in
+        let split : pattern (used_in u) 0 h ≡ pattern (used_in u) 0 last ++ replicate n false = rw (sub-zero, sub-zero) at (close_from 0 (omega arith)) in
+        let ends : Ended (pattern (used_in u) 0 last) = rw (sub-zero, from_start u.count) at (ended_from 0 (omega arith) u.count (omega arith)) in
+        rw (add-zero, none, all, sub-zero) (ap (row_of false d) split ∙ row_close d ends n)
 
     round_whole : 0 < u.count → Whole true (begin u 0)
     round_whole l =
         let b = begin u 0 in
         let n = h - last in
-        let f = usedIn u in
-        let first = use-fits 0 (omega arith) 0 l in
-        let by : end u 0 ≤ last = after-rises 1 u.count l (omega arith) in
+        let f = used_in u in
+        let first = use_fits 0 (omega arith) 0 l in
+        let by : end u 0 ≤ last = after_rises 1 u.count l (omega arith) in
         let rest = pattern f (suc b) (last - suc b) in
         let here : f b ≡ true = busy 0 b l (omega arith) (omega arith) in
         let some : suc (last - suc b) ≡ last - b = omega arith in
         let inner : pattern f b (last - b) ≡ true ∷ rest = ap (pattern f b) (sym some) ∙ rw here in
         let whole : b + (h - b) ≡ h = omega (arith, ok.within) in
-        let head : pattern f 0 b ≡ replicate b false = pattern-const f false 0 b (λ t x y. free 0 t (omega arith) (omega arith) (λ m. omega arith)) in
+        let head : pattern f 0 b ≡ replicate b false = pattern_const f false 0 b (λ t x y. free 0 t (omega arith) (omega arith) (λ m. omega arith)) in
         let split : pattern f 0 h ≡ replicate b false ++ (true ∷ rest ++ replicate n false)
-        = ap (pattern f 0) (sym whole) ∙ pattern-split f 0 b (h - b) ∙ rw (zero-add b, head, close-from b (omega arith), inner) in
-        let ends : Ended (true ∷ rest) = rw (last_some b l, inner) at (ended-from b (omega arith) u.count (omega arith)) in
-        rw inner (ap (row_of true d) split ∙ round-row d rest ends b n)
+        = ap (pattern f 0) (sym whole) ∙ pattern_split f 0 b (h - b) ∙ rw (zero-add b, head, close_from b (omega arith), inner) in
+        let ends : Ended (true ∷ rest) = rw (last_some b l, inner) at (ended_from b (omega arith) u.count (omega arith)) in
+        rw inner (ap (row_of true d) split ∙ round_row d rest ends b n)
 
-    pub row-whole : (round : Bool) → idle round u ≡ false → Whole round (front round u)
-    row-whole false e = list-whole
-    row-whole true e = round_whole (used-some u.count e)
+    pub row_whole : (round : Bool) → idle round u ≡ false → Whole round (front round u)
+    row_whole false e = list_whole
+    row_whole true e = round_whole (used_some u.count e)
 
-    pub energy-whole : (round : Bool) → idle round u ≡ false
-        → energyOf round d (pattern (usedIn u) 0 h)
-        ≡ energyOf false d (pattern (usedIn u) (front round u) (last - front round u)) + gapCost d ((h - last) + front round u)
-    energy-whole round e =
-        ap (energy d) (row-whole round e)
-        ∙ seam-energy d (row_of false d (pattern (usedIn u) (front round u) (last - front round u))) ((h - last) + front round u) (h - last)
+    pub energy_whole : (round : Bool) → idle round u ≡ false
+        → energy_of round d (pattern (used_in u) 0 h)
+        ≡ energy_of false d (pattern (used_in u) (front round u) (last - front round u)) + gap_cost d ((h - last) + front round u)
+    energy_whole round e =
+        ap (energy d) (row_whole round e)
+        ∙ seam_energy d (row_of false d (pattern (used_in u) (front round u) (last - front round u))) ((h - last) + front round u) (h - last)
 
     -- A round without a use.
-    pub row-idle : (round : Bool) → idle round u ≡ true → row_of round d (pattern (usedIn u) 0 h) ≡ replicate h (Row.at d.levels)
-    row-idle false e = absurd (true≢false (sym e))
-    row-idle true e =
+    pub row_idle : (round : Bool) → idle round u ≡ true → row_of round d (pattern (used_in u) 0 h) ≡ replicate h (Row.at d.levels)
+    row_idle false e = absurd (true≢false (sym e))
+    row_idle true e =
         let none : u.count ≡ 0 = eqb-true u.count 0 e in
-        let all : pattern (usedIn u) 0 h ≡ replicate h false
-        = pattern-const (usedIn u) false 0 h (λ t x y. used-none u t u.count (λ j m. absurd (omega arith))) in
-        ap (row_of true d) all ∙ round-never d h
+        let all : pattern (used_in u) 0 h ≡ replicate h false
+        = pattern_const (used_in u) false 0 h (λ t x y. used_none u t u.count (λ j m. absurd (omega arith))) in
+        ap (row_of true d) all ∙ round_never d h
 
-    pub energy-idle : (round : Bool) → idle round u ≡ true → energyOf round d (pattern (usedIn u) 0 h) ≡ deep d * h
-    energy-idle round e = ap (energy d) (row-idle round e) ∙ total-replicate (power d) h (Row.at d.levels)
+    pub energy_idle : (round : Bool) → idle round u ≡ true → energy_of round d (pattern (used_in u) 0 h) ≡ deep d * h
+    energy_idle round e = ap (energy d) (row_idle round e) ∙ total_replicate (power d) h (Row.at d.levels)

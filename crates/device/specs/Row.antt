@@ -8,19 +8,19 @@ use Rattle.device.specs.declared.Sleeps.{Sleeps}
 use Rattle.device.specs.declared.Sleeps.TheVariants.{Plain, Numbered}
 
 -- The power at a level: 0 is work, and from 1 on each is a deeper sleep.
-abbrev pub powerAt : Device → ℕ → ℕ
-powerAt d zero = d.pw
-powerAt d (suc k) = get_or d.powers k 0
+abbrev pub power_at : Device → ℕ → ℕ
+power_at d zero = d.pw
+power_at d (suc k) = get_or d.powers k 0
 
 -- The figures of a device: moves take time, each level costs less than the one above it, and moving costs more than any sleep. It may cost more than work.
 pub record Sound (d : Device) : Type 0 where
   pub some_level : 1 ≤ d.levels
-  pub few-levels : d.levels ≤ 4
+  pub few_levels : d.levels ≤ 4
   pub shuts : 1 ≤ d.shut
   pub wakes : 1 ≤ d.wake
-  pub falls : (k : ℕ) → k < d.levels → powerAt d (suc k) < powerAt d k
-  pub shuts-dearer : powerAt d 1 < d.pd
-  pub wakes-dearer : powerAt d 1 < d.pu
+  pub falls : (k : ℕ) → k < d.levels → power_at d (suc k) < power_at d k
+  pub shuts_dearer : power_at d 1 < d.pd
+  pub wakes_dearer : power_at d 1 < d.pu
 
 -- What a device does in a tick (rule 30): it stays at a level, goes down or comes up.
 pub data Letter : Type 0 where
@@ -68,7 +68,7 @@ pub data Step (d : Device) : State → Letter → State → Type 0 where
 
 -- A row may end where the next tick could be one of work (rule 31): the device works, or has just come up.
 pub data Ends : State → Type 0 where
-  at-work : Ends (level 0)
+  at_work : Ends (level 0)
   woken : Ends (up 0 0)
 
 -- From s a row leads to z, tick by tick, for a pattern of use. The pattern has `true` for each tick of a job that uses the device, and there the letter is W
@@ -96,7 +96,7 @@ LegalRow true d u r = Forever d u r
 
 -- What a tick costs, by its letter. A row costs what its ticks do (rule 36).
 abbrev pub power : Device → Letter → ℕ
-power d (at k) = powerAt d k
+power d (at k) = power_at d k
 power d D = d.pd
 power d U = d.pu
 
@@ -125,57 +125,57 @@ unfoldable pub trip : Device → ℕ → ℕ → List Letter
 trip d m g = replicate (d.shut * m) D ++ (replicate (g - (d.shut * m + d.wake * m)) (at m) ++ replicate (d.wake * m) U)
 
 -- What that costs.
-abbrev pub tripCost : Device → ℕ → ℕ → ℕ
-tripCost d m g = d.pd * (d.shut * m) + d.pu * (d.wake * m) + powerAt d m * (g - (d.shut * m + d.wake * m))
+abbrev pub trip_cost : Device → ℕ → ℕ → ℕ
+trip_cost d m g = d.pd * (d.shut * m) + d.pu * (d.wake * m) + power_at d m * (g - (d.shut * m + d.wake * m))
 
 -- To which of the first n levels: the cheapest of those for which both ways have room, and the shallowest where some cost the same.
 abbrev pub depth : Device → ℕ → ℕ → ℕ
 depth d zero g = 0
-depth d (suc n) g = cond (leb (d.shut * suc n + d.wake * suc n) g && ltb (tripCost d (suc n) g) (tripCost d (depth d n g) g)) (suc n) (depth d n g)
+depth d (suc n) g = cond (leb (d.shut * suc n + d.wake * suc n) g && ltb (trip_cost d (suc n) g) (trip_cost d (depth d n g) g)) (suc n) (depth d n g)
 
-abbrev pub gapRow : Device → ℕ → List Letter
-gapRow d g = trip d (depth d d.levels g) g
+abbrev pub gap_row : Device → ℕ → List Letter
+gap_row d g = trip d (depth d d.levels g) g
 
 -- ---- what others know of a device: these two and its working power
 
 -- What a gap of g ticks costs.
-unfoldable pub gapCost : Device → ℕ → ℕ
-gapCost d g = energy d (gapRow d g)
+unfoldable pub gap_cost : Device → ℕ → ℕ
+gap_cost d g = energy d (gap_row d g)
 
 -- The power at the deepest level: no tick costs less.
 abbrev pub deep : Device → ℕ
-deep d = powerAt d d.levels
+deep d = power_at d d.levels
 
 -- What a number past the end of a list of devices stands for.
-abbrev pub noDevice : Device
-noDevice = record { shut = 0; wake = 0; pw = 0; pd = 0; pu = 0; levels = 0; powers = [] }
+abbrev pub no_device : Device
+no_device = record { shut = 0; wake = 0; pw = 0; pd = 0; pu = 0; levels = 0; powers = [] }
 
 -- ---- rows and patterns of use
 
 -- The row that fills each gap by `fill`, those at both ends too, where g unused ticks have gone by.
 module _ {L : Type 0} (work : L) (fill : ℕ → List L) where
-  abbrev pub rowFrom : ℕ → List Bool → List L
-  rowFrom g [] = fill g
-  rowFrom g (true ∷ u) = fill g ++ work ∷ rowFrom 0 u
-  rowFrom g (false ∷ u) = rowFrom (suc g) u
+  abbrev pub row_from : ℕ → List Bool → List L
+  row_from g [] = fill g
+  row_from g (true ∷ u) = fill g ++ work ∷ row_from 0 u
+  row_from g (false ∷ u) = row_from (suc g) u
 
   -- In a round the gap after the last use goes on, over the seam, to the first (rule 87): the row of what follows the first used tick, with the g ticks before it
   -- put at the end, and turned back. Where no tick is used, every letter is `idle` (rule 88).
-  abbrev pub roundFrom : L → ℕ → List Bool → List L
-  roundFrom idle g [] = replicate g idle
-  roundFrom idle g (true ∷ u) =
-      let q = rowFrom 0 (u ++ replicate g false) in
+  abbrev pub round_from : L → ℕ → List Bool → List L
+  round_from idle g [] = replicate g idle
+  round_from idle g (true ∷ u) =
+      let q = row_from 0 (u ++ replicate g false) in
       drop (length u) q ++ work ∷ take (length u) q
-  roundFrom idle g (false ∷ u) = roundFrom idle (suc g) u
+  round_from idle g (false ∷ u) = round_from idle (suc g) u
 
 -- The row by the rule for gaps. proofs/Least: it is the row given, and the only one.
 abbrev pub row_of : Bool → Device → List Bool → List Letter
-row_of false d u = rowFrom W (gapRow d) 0 u
-row_of true d u = roundFrom W (gapRow d) (at d.levels) 0 u
+row_of false d u = row_from W (gap_row d) 0 u
+row_of true d u = round_from W (gap_row d) (at d.levels) 0 u
 
 -- The least energy of a pattern of use.
-abbrev pub energyOf : Bool → Device → List Bool → ℕ
-energyOf round d u = energy d (row_of round d u)
+abbrev pub energy_of : Bool → Device → List Bool → ℕ
+energy_of round d u = energy d (row_of round d u)
 
 -- The pattern of n ticks from tick a on, by a test on ticks.
 abbrev pub pattern : (ℕ → Bool) → ℕ → ℕ → List Bool

@@ -1,8 +1,8 @@
 // The energy of a device's least row, from its gaps and its uses.
 ghost use Rattle.std.specs.Prelude.{◌≡◌, false, ◌+◌, ◌-◌, ◌*◌, ◌≤◌, ◌<◌};
-ghost use Rattle.device.specs.Row.{Sound, deep, gapCost, energyOf, pattern};
+ghost use Rattle.device.specs.Row.{Sound, deep, gap_cost, energy_of, pattern};
 ghost use Rattle.device.specs.inside.Trips.{Chosen};
-ghost use Rattle.device.specs.inside.Uses.{begin, usedIn, afterFrom, front, idle, Spaced};
+ghost use Rattle.device.specs.inside.Uses.{begin, used_in, after_from, front, idle, Spaced};
 
 use crate::{Device, Uses};
 
@@ -54,7 +54,7 @@ pub fn gap_trip(d: Device, g: u16) -> Trip
 // The energy of a gap of g ticks.
 fn gap_energy(d: Device, g: u16) -> u32
     requires { Sound d }
-    ensures { (result ≡ gapCost d g) × (result ≤ 65535 * g) }
+    ensures { (result ≡ gap_cost d g) × (result ≤ 65535 * g) }
 {
     let trip = gap_trip(d, g);
     trip.cost
@@ -85,8 +85,8 @@ pub fn front_of(round: bool, u: Uses) -> u16
 
 // The energy from the tick `front` on, up to which there is no use: the uses, the gaps between them, and one gap for what lies after them and before `front`.
 fn energy_from(d: Device, h: u16, u: Uses, front: u16) -> u32
-    requires { Sound d × (Spaced u h × ((front ≤ begin u 0) × (afterFrom front u u.count ≤ h))) }
-    ensures { (result ≡ energyOf false d (pattern (usedIn u) front (afterFrom front u u.count - front)) + gapCost d ((h - afterFrom front u u.count) + front)) × (result ≤ 65535 * h) }
+    requires { Sound d × (Spaced u h × ((front ≤ begin u 0) × (after_from front u u.count ≤ h))) }
+    ensures { (result ≡ energy_of false d (pattern (used_in u) front (after_from front u u.count - front)) + gap_cost d ((h - after_from front u u.count) + front)) × (result ≤ 65535 * h) }
 {
     let mut sum: u32 = 0;
     let mut at = front;
@@ -105,7 +105,7 @@ fn energy_from(d: Device, h: u16, u: Uses, front: u16) -> u32
 // The least energy of a device over h ticks with these uses.
 pub fn energy_of(round: bool, d: Device, h: u16, u: Uses) -> u32
     requires { Sound d × Spaced u h }
-    ensures { (result ≡ energyOf round d (pattern (usedIn u) 0 h)) × (result ≤ 65535 * h) }
+    ensures { (result ≡ energy_of round d (pattern (used_in u) 0 h)) × (result ≤ 65535 * h) }
 {
     if is_idle(round, u) {
         return deep_power(d) as u32 * h as u32;

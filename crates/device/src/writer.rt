@@ -1,9 +1,9 @@
 // Writing a device's least row, a byte for each tick, from left to right and every byte once: `write_run` has the one store. It is lent the part of the row that
 // is not written yet, writes at its front and says how many places it took; there the next part begins, and what is written is out of its reach.
 ghost use Rattle.std.specs.Prelude.{◌≡◌, ◌++◌, map, ◌+◌, ◌-◌, ◌≤◌, length, replicate, take, drop};
-ghost use Rattle.device.specs.Row.{Sound, at, byte_of, gapRow, row_of, pattern};
-ghost use Rattle.device.specs.inside.Trips.{shared, tripBytes, around};
-ghost use Rattle.device.specs.inside.Uses.{begin, usedIn, after, afterFrom, Spaced};
+ghost use Rattle.device.specs.Row.{Sound, at, byte_of, gap_row, row_of, pattern};
+ghost use Rattle.device.specs.inside.Trips.{shared, trip_bytes, around};
+ghost use Rattle.device.specs.inside.Uses.{begin, used_in, after, after_from, Spaced};
 
 use crate::energy::{front_of, gap_trip, is_idle};
 use crate::{Device, Sleeps, Uses};
@@ -61,7 +61,7 @@ fn write_trip(
     n: usize,
 ) -> usize
     requires { (x + n ≤ down + stay + up) × ((down + stay + up ≤ 65535) × (n ≤ length rest.old)) }
-    ensures { (result ≡ n) × (rest.new ≡ take n (drop x (tripBytes down stay up letter)) ++ drop n rest.old) }
+    ensures { (result ≡ n) × (rest.new ≡ take n (drop x (trip_bytes down stay up letter)) ++ drop n rest.old) }
 {
     let y = x + n;
     let rising = down + stay;
@@ -85,7 +85,7 @@ fn write_trip(
 // Writes there, of a gap of g ticks, n from tick x on: of the trip that the device makes in it.
 fn write_gap(rest: &mut [u8], sleeps: Sleeps, d: Device, g: usize, x: usize, n: usize) -> usize
     requires { Sound d × ((g ≤ 65535) × ((x + n ≤ g) × (n ≤ length rest.old))) }
-    ensures { (result ≡ n) × (rest.new ≡ take n (drop x (map (byte_of sleeps) (gapRow d g))) ++ drop n rest.old) }
+    ensures { (result ≡ n) × (rest.new ≡ take n (drop x (map (byte_of sleeps) (gap_row d g))) ++ drop n rest.old) }
 {
     if n == 0 {
         return 0;
@@ -117,7 +117,7 @@ fn write_around(
     tail: usize,
     out: &mut [u8],
 )
-    requires { Sound d × (Spaced u h × ((front ≤ begin u 0) × ((afterFrom front u u.count ≤ h) × ((tail ≡ h - afterFrom front u u.count) × ((h ≤ 65535) × (h ≤ length out.old)))))) }
+    requires { Sound d × (Spaced u h × ((front ≤ begin u 0) × ((after_from front u u.count ≤ h) × ((tail ≡ h - after_from front u u.count) × ((h ≤ 65535) × (h ≤ length out.old)))))) }
     ensures { out.new ≡ around sleeps d u front tail ++ drop h out.old }
 {
     let seam = tail + front;
@@ -137,7 +137,7 @@ fn write_around(
 // Writes the least row of a device over h ticks with these uses, and keeps what follows it.
 pub fn write_row(round: bool, sleeps: Sleeps, d: Device, h: u16, u: Uses, out: &mut [u8])
     requires { Sound d × (Spaced u h × (h ≤ length out.old)) }
-    ensures { out.new ≡ map (byte_of sleeps) (row_of round d (pattern (usedIn u) 0 h)) ++ drop h out.old }
+    ensures { out.new ≡ map (byte_of sleeps) (row_of round d (pattern (used_in u) 0 h)) ++ drop h out.old }
 {
     let ticks = h as usize;
     if is_idle(round, u) {

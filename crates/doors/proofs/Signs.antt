@@ -27,12 +27,12 @@ raised (negsuc n) f e =
     }
 
 -- What is told of a margin is its complement.
-pub complement-pos : (z : ℤ) → lt_z z (pos 0) ≡ false → nat_abs z ≡ complement z
-complement-pos (pos n) e = refl
-complement-pos (negsuc n) e = absurd (true≢false e)
+pub complement_pos : (z : ℤ) → lt_z z (pos 0) ≡ false → nat_abs z ≡ complement z
+complement_pos (pos n) e = refl
+complement_pos (negsuc n) e = absurd (true≢false e)
 
-pub complement-raised : (z : ℤ) → SFits w32 z → lt_z z (pos 0) ≡ true → nat_abs (z +ℤ pos 4294967296) ≡ complement z
-complement-raised (pos n) f e = absurd (omega (arith, ltb-true n 0 e))
-complement-raised (negsuc n) f e =
+pub complement_raised : (z : ℤ) → SFits w32 z → lt_z z (pos 0) ≡ true → nat_abs (z +ℤ pos 4294967296) ≡ complement z
+complement_raised (pos n) f e = absurd (omega (arith, ltb-true n 0 e))
+complement_raised (negsuc n) f e =
     let above : ltb 4294967296 (suc n) ≡ false = le-ltb 4294967296 (suc n) (omega (arith, f.sfits)) in
     rw above

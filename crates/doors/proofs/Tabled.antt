@@ -11,45 +11,45 @@ use Rattle.schedule.specs.declared.Recorder.{Recorder}
 use Rattle.tables.specs.declared.Kind.{Kind}
 use Rattle.tables.specs.declared.Kind.TheVariants.{First, Second, Third}
 use Rattle.tables.specs.declared.File.{File}
-use Rattle.tables.specs.Records.{deviceAt, told}
+use Rattle.tables.specs.Records.{device_at, told}
 use Rattle.tables.specs.declared.Tables.{Tables}
-use Rattle.tables.specs.Layout.{kind_of, body_of, tablesAs, tables_of, noTables}
+use Rattle.tables.specs.Layout.{kind_of, body_of, tables_as, tables_of, no_tables}
 use Rattle.tables.specs.inside.Held.{held}
-use Rattle.tables.proofs.Appending.{held-front, held-long}
+use Rattle.tables.proofs.Appending.{held_front, held_long}
 use Rattle.request.specs.Format.{read_of}
-use Rattle.request.proofs.Accepted.{refused-number}
-use Rattle.request.proofs.Limiting.{accepted-whole}
+use Rattle.request.proofs.Accepted.{refused_number}
+use Rattle.request.proofs.Limiting.{accepted_whole}
 use Rattle.planner.specs.declared.Answer.{Answer}
 use Rattle.planner.specs.declared.FileTables.{FileTables}
 use Rattle.planner.specs.Promises.{Reads, OfFile, TablesOf, TablesGiven}
 use Rattle.planner.specs.Promises as P
 use Rattle.table_bytes.specs.TableBytes.{Few}
 
-read-few : (file : List ℕ) (R : Recorder) → Reads file R → Few (tables_of file)
-unfolding read_of tablesAs
-read-few file R r =
-    let w = accepted-whole (kind_of file) (body_of file) R r in
-    record { devices = w.few-devices; tasks = w.few-tasks; jobs = w.few-jobs }
+read_few : (file : List ℕ) (R : Recorder) → Reads file R → Few (tables_of file)
+unfolding read_of tables_as
+read_few file R r =
+    let w = accepted_whole (kind_of file) (body_of file) R r in
+    record { devices = w.few_devices; tasks = w.few_tasks; jobs = w.few_jobs }
 
-few-of : (file : List ℕ) (a : Answer) (T : Tables) → OfFile file noTables (TablesOf file) a T → a.number ≡ 0 → Few T
-few-of file a T (P.OfFile.refused {n = n} r) z = absurd (omega (arith, z, refused-number file n r))
-few-of file a T (P.OfFile.read {R = R} r P.TablesOf.listed) z = read-few file R r
+few_of : (file : List ℕ) (a : Answer) (T : Tables) → OfFile file no_tables (TablesOf file) a T → a.number ≡ 0 → Few T
+few_of file a T (P.OfFile.refused {n = n} r) z = absurd (omega (arith, z, refused_number file n r))
+few_of file a T (P.OfFile.read {R = R} r P.TablesOf.listed) z = read_few file R r
 
-pub listed-few : (file : List ℕ) (r : FileTables) → TablesGiven file r → r.answer.number ≡ 0 → Few r.tables
-listed-few file r l z = few-of file r.answer r.tables l z
+pub listed_few : (file : List ℕ) (r : FileTables) → TablesGiven file r → r.answer.number ≡ 0 → Few r.tables
+listed_few file r l z = few_of file r.answer r.tables l z
 
 -- What a file in its array holds.
-pub held-count : (made : File) (l : List ℕ) → made ≡ held l → made.count ≡ length l
+pub held_count : (made : File) (l : List ℕ) → made ≡ held l → made.count ≡ length l
 unfolding held
-held-count made l e = ap (λ (f : File). f.count) e
+held_count made l e = ap (λ (f : File). f.count) e
 
-pub held-room : (made : File) (l : List ℕ) → made ≡ held l → length l ≤ 297 → made.count ≤ length made.bytes
-held-room made l e h = rw e (held-long l h)
+pub held_room : (made : File) (l : List ℕ) → made ≡ held l → length l ≤ 297 → made.count ≤ length made.bytes
+held_room made l e h = rw e (held_long l h)
 
-pub held-copied : (made : File) (l lent after : List ℕ) → made ≡ held l
+pub held_copied : (made : File) (l lent after : List ℕ) → made ≡ held l
     → after ≡ take made.count made.bytes ++ drop (length (take made.count made.bytes)) lent → after ≡ l ++ drop (length l) lent
-held-copied made l lent after e c =
-    let front : take made.count made.bytes ≡ l = ap (λ (f : File). take f.count f.bytes) e ∙ held-front l in
+held_copied made l lent after e c =
+    let front : take made.count made.bytes ≡ l = ap (λ (f : File). take f.count f.bytes) e ∙ held_front l in
     c ∙ ap (λ (x : List ℕ). x ++ drop (length x) lent) front
 
 -- ---- what a kind tells
@@ -59,7 +59,7 @@ twice true x = refl
 twice false x = refl
 
 -- A record that stands in bytes says no more than its kind tells: so nothing of tables that are read from a file, or come through a door, is lost in writing.
-pub told_at : (k : Kind) (s : List ℕ) (at : ℕ) → told k (deviceAt k s at) ≡ deviceAt k s at
+pub told_at : (k : Kind) (s : List ℕ) (at : ℕ) → told k (device_at k s at) ≡ device_at k s at
 told_at First s at = refl
 told_at Second s at = refl
 told_at Third s at =

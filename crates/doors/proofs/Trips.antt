@@ -10,15 +10,15 @@ use Rattle.tables.specs.declared.Tables.{Tables}
 use Rattle.tables.specs.Layout.{counted, Bytes}
 use Rattle.planner.specs.declared.Answer.{Answer}
 use Rattle.planner.specs.Promises.{success, stops, passes, gives, Written, TablesGiven}
-use Rattle.planner.proofs.Refusing.{unless-enough}
-use Rattle.planner.proofs.Writing.{written_listed, listed-written, counted-written}
+use Rattle.planner.proofs.Refusing.{unless_enough}
+use Rattle.planner.proofs.Writing.{written_listed, listed_written, counted_written}
 use Rattle.calls.specs.Calls.{told}
-use Rattle.table_bytes.specs.TableBytes.{AreTables, tablesFrom, tableBytes, Few}
-use Rattle.table_bytes.proofs.Back.{are-tables, tables-back, bytes_back}
+use Rattle.table_bytes.specs.TableBytes.{AreTables, tables_from, table_bytes, Few}
+use Rattle.table_bytes.proofs.Back.{are_tables, tables_back, bytes_back}
 use Rattle.doorway.specs.Doors.{Door, shut, answered, Roomy}
 use Rattle.doors.specs.Promises.{WriteDoor, TablesTold, TablesDoor}
 use Rattle.doors.specs.Promises as D
-use Rattle.doors.proofs.Tabled.{listed-few}
+use Rattle.doors.proofs.Tabled.{listed_few}
 
 -- What a door that returns 0 has answered: the eleven bytes of it are in the result buffer.
 pub record Success {L : Type 0} (result : List ℕ) (Then : Answer → L → Type 0) (result' : List ℕ) (lent' : L) : Type 0 where
@@ -35,58 +35,58 @@ succeeds (answered {a = a} o t) z = record { answer = a; zero = z; tells = refl;
 -- ---- from a file
 
 -- The bytes of tables are written as the tables themselves are.
-bytes-written : (T : Tables) → Few T → (s room result : List ℕ) → s ≡ tableBytes T → Roomy result → (a : Answer) (after : List ℕ) → Written T room a after
+bytes_written : (T : Tables) → Few T → (s room result : List ℕ) → s ≡ table_bytes T → Roomy result → (a : Answer) (after : List ℕ) → Written T room a after
     → WriteDoor s room result a.number after (told a result)
-bytes-written T few s room result e roomy a after w =
+bytes_written T few s room result e roomy a after w =
     subst (λ (x : List ℕ). WriteDoor x room result a.number after (told a result)) (sym e)
-    (answered (are-tables T few, roomy) (subst (λ (U : Tables). Written U room a after) (sym (tables-back T few)) (counted-written T w)))
+    (answered (are_tables T few, roomy) (subst (λ (U : Tables). Written U room a after) (sym (tables_back T few)) (counted_written T w)))
 
-pub told-written : (file lent : List ℕ) → Bytes file → (a : Answer) (after : List ℕ) → TablesTold file lent a after → a.number ≡ 0
+pub told_written : (file lent : List ℕ) → Bytes file → (a : Answer) (after : List ℕ) → TablesTold file lent a after → a.number ≡ 0
     → (room result : List ℕ) → length file ≤ length room → Roomy result
     → WriteDoor (take a.count after) room result 0 (file ++ drop (length file) room) (told (success a.horizon 0 (length file)) result)
-told-written file lent b a after (D.TablesTold.told p (stops h)) z room result l roomy = absurd (h z)
-told-written file lent b a after (D.TablesTold.told p (passes h (stops s))) z room result l roomy = absurd (omega arith)
-told-written file lent b a after (D.TablesTold.told {r = r} p (passes h (passes s gives))) z room result l roomy =
+told_written file lent b a after (D.TablesTold.told p (stops h)) z room result l roomy = absurd (h z)
+told_written file lent b a after (D.TablesTold.told p (passes h (stops s))) z room result l roomy = absurd (omega arith)
+told_written file lent b a after (D.TablesTold.told {r = r} p (passes h (passes s gives))) z room result l roomy =
     elim (ℕ_discrete r.answer.number 0) [
       | yes q ↦
-          let bytes = tableBytes r.tables in
-          bytes-written r.tables (listed-few file r p q) (take (length bytes) (bytes ++ drop (length bytes) lent)) room result (take_at bytes (drop (length bytes) lent) (length bytes) refl)
-          roomy _ _ (listed-written file r room b p q l)
+          let bytes = table_bytes r.tables in
+          bytes_written r.tables (listed_few file r p q) (take (length bytes) (bytes ++ drop (length bytes) lent)) room result (take_at bytes (drop (length bytes) lent) (length bytes) refl)
+          roomy _ _ (listed_written file r room b p q l)
       | no q ↦ absurd (h q)
     ]
 
 -- ---- from tables
 
-few-counted : (T : Tables) → Few (counted T) → Few T
+few_counted : (T : Tables) → Few (counted T) → Few T
 unfolding counted
-few-counted T f = record { devices = f.devices; tasks = f.tasks; jobs = f.jobs }
+few_counted T f = record { devices = f.devices; tasks = f.tasks; jobs = f.jobs }
 
-pub written-told : (tables lent : List ℕ) → Bytes tables → AreTables tables → (a : Answer) (after : List ℕ) → Written (tablesFrom tables) lent a after → a.number ≡ 0
+pub written_told : (tables lent : List ℕ) → Bytes tables → AreTables tables → (a : Answer) (after : List ℕ) → Written (tables_from tables) lent a after → a.number ≡ 0
     → (room result : List ℕ) → length tables ≤ length room → Roomy result
     → TablesDoor (take a.count after) room result 0 (tables ++ drop (length tables) room) (told (success a.horizon 0 (length tables)) result)
-written-told tables lent b are a after w z room result l roomy =
-    let T = tablesFrom tables in
+written_told tables lent b are a after w z room result l roomy =
+    let T = tables_from tables in
     let listing : TablesGiven (take a.count after) (record { answer = success a.horizon 0 0; tables = counted T }) = written_listed T lent a after w z in
-    let few : Few T = few-counted T (listed-few _ _ listing refl) in
-    let back : tableBytes T ≡ tables = bytes_back tables are b few in
-    let same : tableBytes (counted T) ≡ tables = ap tableBytes (sym (sym (ap tablesFrom back) ∙ tables-back T few)) ∙ back in
+    let few : Few T = few_counted T (listed_few _ _ listing refl) in
+    let back : table_bytes T ≡ tables = bytes_back tables are b few in
+    let same : table_bytes (counted T) ≡ tables = ap table_bytes (sym (sym (ap tables_from back) ∙ tables_back T few)) ∙ back in
     subst (λ (s : List ℕ). TablesDoor (take a.count after) room result 0 (s ++ drop (length s) room) (told (success a.horizon 0 (length s)) result)) same
-    (answered roomy (D.TablesTold.told listing (passes (λ n. n refl) (unless-enough (rw same l) gives))))
+    (answered roomy (D.TablesTold.told listing (passes (λ n. n refl) (unless_enough (rw same l) gives))))
 
 -- ---- from door to door
 
 -- What `door_tables` told of a file `door_write` writes as that file.
-pub tables-door-back : (file lent result : List ℕ) {lent' result' : List ℕ} → Bytes file → (d : TablesDoor file lent result 0 lent' result')
+pub tables_door_back : (file lent result : List ℕ) {lent' result' : List ℕ} → Bytes file → (d : TablesDoor file lent result 0 lent' result')
     → (room more : List ℕ) → length file ≤ length room → Roomy more
     → let a = (succeeds d refl).answer in WriteDoor (take a.count lent') room more 0 (file ++ drop (length file) room) (told (success a.horizon 0 (length file)) more)
-tables-door-back file lent result {lent'} b d room more l roomy =
+tables_door_back file lent result {lent'} b d room more l roomy =
     let s = succeeds d refl in
-    told-written file lent b s.answer lent' s.holds s.zero room more l roomy
+    told_written file lent b s.answer lent' s.holds s.zero room more l roomy
 
 -- What `door_write` made of tables `door_tables` tells as those tables.
-pub write-door-back : (tables lent result : List ℕ) {lent' result' : List ℕ} → Bytes tables → AreTables tables → (d : WriteDoor tables lent result 0 lent' result')
+pub write_door_back : (tables lent result : List ℕ) {lent' result' : List ℕ} → Bytes tables → AreTables tables → (d : WriteDoor tables lent result 0 lent' result')
     → (room more : List ℕ) → length tables ≤ length room → Roomy more
     → let a = (succeeds d refl).answer in TablesDoor (take a.count lent') room more 0 (tables ++ drop (length tables) room) (told (success a.horizon 0 (length tables)) more)
-write-door-back tables lent result {lent'} b are d room more l roomy =
+write_door_back tables lent result {lent'} b are d room more l roomy =
     let s = succeeds d refl in
-    written-told tables lent b are s.answer lent' s.holds s.zero room more l roomy
+    written_told tables lent b are s.answer lent' s.holds s.zero room more l roomy

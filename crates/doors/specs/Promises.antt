@@ -13,13 +13,13 @@ use Rattle.mend.specs.Promises.{Lent, lending, MendOf}
 use Rattle.stepper.specs.Promises.{StepsOf}
 use Rattle.sheet.specs.Promises.{ImportedDevices, ImportedJobs, ExportedDevices, ExportedJobs, ExportedPlan}
 use Rattle.calls.specs.Calls.{Spelled, blank, twos}
-use Rattle.table_bytes.specs.TableBytes.{AreTables, tablesFrom, tableBytes}
-use Rattle.doorway.specs.Doors.{Door, Roomy, Paired, startsOf, fours}
+use Rattle.table_bytes.specs.TableBytes.{AreTables, tables_from, table_bytes}
+use Rattle.doorway.specs.Doors.{Door, Roomy, Paired, starts_of, fours}
 
 -- ---- `door_verdict`
 
 abbrev pub VerdictDoor : (file starts result : List ℕ) → ℕ → List ℕ → Type 0
-VerdictDoor file starts result n result' = Door {L = Unit {0}} (Paired starts × Roomy result) result tt (λ a u. Judged file (startsOf starts) a) n result' tt
+VerdictDoor file starts result n result' = Door {L = Unit {0}} (Paired starts × Roomy result) result tt (λ a u. Judged file (starts_of starts) a) n result' tt
 
 -- ---- `door_margins`: four bytes a job, a negative margin by its two's complement
 
@@ -27,15 +27,15 @@ abbrev pub complement : ℤ → ℕ
 complement (pos n) = n
 complement (negsuc n) = 4294967296 - suc n
 
-abbrev pub emptyMargins : List ℕ → List ℤ
-emptyMargins lent = replicate (length lent / 4) (pos 0)
+abbrev pub empty_margins : List ℕ → List ℤ
+empty_margins lent = replicate (length lent / 4) (pos 0)
 
 abbrev pub MarginsSpelled : (starts lent : List ℕ) → Recorder → Answer → List ℕ → Type 0
-MarginsSpelled starts lent R = Spelled lent (λ a m. fours (λ j. complement (get_or m j (pos 0))) (jobs R) lent) (MarginsOf starts (emptyMargins lent) R)
+MarginsSpelled starts lent R = Spelled lent (λ a m. fours (λ j. complement (get_or m j (pos 0))) (jobs R) lent) (MarginsOf starts (empty_margins lent) R)
 
 abbrev pub MarginsDoor : (file starts lent result : List ℕ) → ℕ → List ℕ → List ℕ → Type 0
 MarginsDoor file starts lent result n lent' result' =
-    Door (Paired starts × Roomy result) result lent (OfFile file lent (MarginsSpelled (startsOf starts) lent)) n result' lent'
+    Door (Paired starts × Roomy result) result lent (OfFile file lent (MarginsSpelled (starts_of starts) lent)) n result' lent'
 
 -- ---- `door_possible`: two bytes a job
 
@@ -54,30 +54,30 @@ MendSpelled given lent R =
 
 abbrev pub MendDoor : (file starts : List ℕ) (lent : Lent) (result : List ℕ) → ℕ → Lent → List ℕ → Type 0
 MendDoor file starts lent result n lent' result' =
-    Door (Paired starts × Roomy result) result lent (OfFile file lent (MendSpelled (startsOf starts) lent)) n result' lent'
+    Door (Paired starts × Roomy result) result lent (OfFile file lent (MendSpelled (starts_of starts) lent)) n result' lent'
 
 -- ---- `door_write`: tables as table_bytes/specs/TableBytes has them
 
 abbrev pub WriteDoor : (tables lent result : List ℕ) → ℕ → List ℕ → List ℕ → Type 0
-WriteDoor tables lent result n lent' result' = Door (AreTables tables × Roomy result) result lent (Written (tablesFrom tables) lent) n result' lent'
+WriteDoor tables lent result n lent' result' = Door (AreTables tables × Roomy result) result lent (Written (tables_from tables) lent) n result' lent'
 
 -- ---- `door_build`: the tables are of the first kind and have no devices, which are looked up
 
 abbrev pub Deviceless : List ℕ → Type 0
 Deviceless tables = (byte_at tables 0 ≡ 1) × (pair_at tables 3 ≡ 0)
 
-abbrev pub othersFrom : List ℕ → Others
-othersFrom tables = let T = tablesFrom tables in others T.horizon T.tasks T.jobs
+abbrev pub others_from : List ℕ → Others
+others_from tables = let T = tables_from tables in others T.horizon T.tasks T.jobs
 
 abbrev pub BuildDoor : (catalogue wanted tables lent result : List ℕ) → ℕ → List ℕ → List ℕ → Type 0
 BuildDoor catalogue wanted tables lent result n lent' result' =
-    Door (AreTables tables × Deviceless tables × Roomy result) result lent (Built catalogue wanted (othersFrom tables) lent) n result' lent'
+    Door (AreTables tables × Deviceless tables × Roomy result) result lent (Built catalogue wanted (others_from tables) lent) n result' lent'
 
 -- ---- `door_tables`: the file's refusal; or the bytes of its tables, which the answer counts, and 15 where they have no room. What is lent beyond stays as it was
 
 abbrev pub ToldOf : (r : FileTables) (lent : List ℕ) → Answer → List ℕ → Type 0
 ToldOf r lent =
-    let bytes = tableBytes r.tables in
+    let bytes = table_bytes r.tables in
     Unless (r.answer.number ≡ 0 → ⊥) r.answer lent
     (Unless (length lent < length bytes) (refusal 15) lent
     (Gives (success r.answer.horizon 0 (length bytes)) (bytes ++ drop (length bytes) lent)))
@@ -90,15 +90,15 @@ TablesDoor file lent result n lent' result' = Door (Roomy result) result lent (T
 
 -- ---- `door_step`: four bytes a device
 
-abbrev pub emptyEnergies : List ℕ → List ℕ
-emptyEnergies lent = replicate (length lent / 4) 0
+abbrev pub empty_energies : List ℕ → List ℕ
+empty_energies lent = replicate (length lent / 4) 0
 
 abbrev pub StepsSpelled : (file starts lent : List ℕ) → Recorder → Answer → List ℕ → Type 0
-StepsSpelled file starts lent R = Spelled lent (λ a e. fours (λ k. get_or e k 0) R.devices.count lent) (StepsOf file starts (emptyEnergies lent) R)
+StepsSpelled file starts lent R = Spelled lent (λ a e. fours (λ k. get_or e k 0) R.devices.count lent) (StepsOf file starts (empty_energies lent) R)
 
 abbrev pub StepDoor : (file starts lent result : List ℕ) → ℕ → List ℕ → List ℕ → Type 0
 StepDoor file starts lent result n lent' result' =
-    Door (Paired starts × Roomy result) result lent (OfFile file lent (StepsSpelled file (startsOf starts) lent)) n result' lent'
+    Door (Paired starts × Roomy result) result lent (OfFile file lent (StepsSpelled file (starts_of starts) lent)) n result' lent'
 
 -- ---- the doors to the sheets
 
@@ -116,4 +116,4 @@ ExportJobsDoor records lent result n lent' result' = Door (Roomy result) result 
 
 abbrev pub ExportPlanDoor : (file starts lent result : List ℕ) → ℕ → List ℕ → List ℕ → Type 0
 ExportPlanDoor file starts lent result n lent' result' =
-    Door (Paired starts × Roomy result) result lent (ExportedPlan file (startsOf starts) lent) n result' lent'
+    Door (Paired starts × Roomy result) result lent (ExportedPlan file (starts_of starts) lent) n result' lent'

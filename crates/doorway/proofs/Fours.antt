@@ -7,34 +7,34 @@ use native.Mathlib.Numerals.{add-one}
 use lib.ListN.{length, get_or, take, drop}
 use lib.Seq.{take-append-le, length-take-le, get_or-take}
 use borrow.Rule.Slice.PartMut.{put_mid}
-use Rattle.base.proofs.Filling.{Filled, filled_none, filled-part}
+use Rattle.base.proofs.Filling.{Filled, filled_none, filled_part}
 use Rattle.tables.specs.Layout.{joined}
 use Rattle.calls.specs.Bytes.{big}
-use Rattle.calls.proofs.Digits.{length-big}
+use Rattle.calls.proofs.Digits.{length_big}
 use Rattle.doorway.specs.Doors.{fours}
 
-pub fours-none : (f : ℕ → ℕ) (l : List ℕ) → Filled l 0 (joined (λ i. big 4 (f i)) 0) l
+pub fours_none : (f : ℕ → ℕ) (l : List ℕ) → Filled l 0 (joined (λ i. big 4 (f i)) 0) l
 unfolding joined
-fours-none f l = filled_none l
+fours_none f l = filled_none l
 
 -- The part of four bytes after the first j numbers comes back as the number j.
-pub fours-more : (f : ℕ → ℕ) {l₀ l : List ℕ} (j k : ℕ) → k ≡ 4 → Filled l₀ (j * 4) (joined (λ i. big 4 (f i)) j) l → j * 4 + 4 ≤ length l₀ → (m : List ℕ)
+pub fours_more : (f : ℕ → ℕ) {l₀ l : List ℕ} (j k : ℕ) → k ≡ 4 → Filled l₀ (j * 4) (joined (λ i. big 4 (f i)) j) l → j * 4 + 4 ≤ length l₀ → (m : List ℕ)
     → m ≡ big (length (take k (drop (j * 4) l))) (f j) → Filled l₀ ((j + 1) * 4) (joined (λ i. big 4 (f i)) (j + 1)) (put_mid (j * 4) k l m)
 unfolding joined
-fours-more f {l₀} {l} j k four w room m e =
+fours_more f {l₀} {l} j k four w room m e =
     rw (add-one j, four)
-    (filled-part (λ n. big n (f j)) (λ n. length-big n (f j)) w 4 (suc j * 4) (omega arith) (omega arith) m (e ∙ ap (λ (i : ℕ). big (length (take i (drop (j * 4) l))) (f j)) four))
+    (filled_part (λ n. big n (f j)) (λ n. length_big n (f j)) w 4 (suc j * 4) (omega arith) (omega arith) m (e ∙ ap (λ (i : ℕ). big (length (take i (drop (j * 4) l))) (f j)) four))
 
 -- Values that are the same are written the same.
-pub fours-same : (f g : ℕ → ℕ) (n : ℕ) → ((i : ℕ) → i < n → f i ≡ g i) → joined (λ i. big 4 (f i)) n ≡ joined (λ i. big 4 (g i)) n
+pub fours_same : (f g : ℕ → ℕ) (n : ℕ) → ((i : ℕ) → i < n → f i ≡ g i) → joined (λ i. big 4 (f i)) n ≡ joined (λ i. big 4 (g i)) n
 unfolding joined
-fours-same f g zero h = refl
-fours-same f g (suc n) h = rw (fours-same f g n (λ i l. h i (omega arith)), h n (omega arith))
+fours_same f g zero h = refl
+fours_same f g (suc n) h = rw (fours_same f g n (λ i l. h i (omega arith)), h n (omega arith))
 
 -- Numbers that were filled into the front of a list, and their first n written to lent bytes.
-pub fours-front : {A : Type 0} (f : A → ℕ) (z : A) (filled rest : List A) (lent after : List ℕ) (n j : ℕ) → j ≡ n → n ≤ length filled
+pub fours_front : {A : Type 0} (f : A → ℕ) (z : A) (filled rest : List A) (lent after : List ℕ) (n j : ℕ) → j ≡ n → n ≤ length filled
     → after ≡ fours (λ i. f (get_or (take j (filled ++ rest)) i z)) (length (take j (filled ++ rest))) lent → after ≡ fours (λ i. f (get_or filled i z)) n lent
-fours-front f z filled rest lent after n j same h e =
+fours_front f z filled rest lent after n j same h e =
     e ∙ rw (same, take-append-le n filled rest h, length-take-le n filled h)
     (ap (λ (m : List ℕ). m ++ drop (n * 4) lent)
-    (fours-same (λ i. f (get_or (take n filled) i z)) (λ i. f (get_or filled i z)) n (λ i l. ap f (get_or-take n filled i z l))))
+    (fours_same (λ i. f (get_or (take n filled) i z)) (λ i. f (get_or filled i z)) n (λ i l. ap f (get_or-take n filled i z l))))

@@ -3,7 +3,7 @@
 use Rattle.std.specs.Prelude.{◌≡◌, Bool, true, false, List, ◌++◌, ℕ, ◌*◌, ◌/◌, ◌%◌, ◌≤◌, length, drop}
 use Rattle.tables.specs.Layout.{joined}
 use Rattle.planner.specs.declared.Answer.{Answer}
-use Rattle.calls.specs.Bytes.{big, startsIn}
+use Rattle.calls.specs.Bytes.{big, starts_in}
 use Rattle.calls.specs.Calls.{told}
 
 -- A shut door returns 255 and writes nothing. An open one returns the answer's number, and its eleven bytes are in the result buffer.
@@ -18,8 +18,8 @@ Roomy result = 11 ≤ length result
 abbrev pub Paired : List ℕ → Type 0
 Paired starts = length starts % 2 ≡ 0
 
-abbrev pub startsOf : List ℕ → List ℕ
-startsOf bytes = startsIn bytes (length bytes / 2)
+abbrev pub starts_of : List ℕ → List ℕ
+starts_of bytes = starts_in bytes (length bytes / 2)
 
 -- The first n values of a function, four bytes each; what is lent beyond stays as it was.
 abbrev pub fours : (ℕ → ℕ) → ℕ → List ℕ → List ℕ

@@ -1,6 +1,6 @@
 // What the doors share: when one is shut, and how many of the start times and places that it is lent it hands on. specs/Doors.antt says what every door does.
 ghost use Rattle.std.specs.Prelude.{◌≡◌, ◌%◌, ◌≤◌, length, take};
-ghost use Rattle.doorway.specs.Doors.{Decides, startsOf};
+ghost use Rattle.doorway.specs.Doors.{Decides, starts_of};
 ghost use Rattle.doorway.specs.inside.Handing.{Handed};
 
 use base::fewer;
@@ -21,7 +21,7 @@ pub fn is_open(starts: usize, res: usize) -> bool
 // Puts the start times of a list of bytes into a list of one's own, and tells how many there are to hand on: all, or one more than a file can have jobs.
 pub fn hand_starts(bytes: &[u8], own: &mut [u16]) -> usize
     requires { length own.old ≡ 17 }
-    ensures { (result ≤ 17) × Handed (startsOf bytes.now) (take result own.new) }
+    ensures { (result ≤ 17) × Handed (starts_of bytes.now) (take result own.new) }
 {
     let n = fewer(bytes.len() / 2, 17);
     get_starts(bytes, &mut own[..n]);

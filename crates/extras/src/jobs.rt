@@ -1,7 +1,7 @@
 // The last start of each job, and the devices that it uses, in a list a job: a start asks no device that its job does not use.
 ghost use Rattle.std.specs.Prelude.{◌≡◌, cond, ◌+◌, ◌<◌, ◌≤◌, length};
 ghost use Rattle.schedule.specs.Quantities.{Valid};
-ghost use Rattle.flat.specs.inside.Flat.{recorderOf};
+ghost use Rattle.flat.specs.inside.Flat.{recorder_of};
 ghost use Rattle.extras.specs.inside.Parts.{LaidJob, LaidJobs};
 
 use crate::{COUNTS, LASTS, LISTS};
@@ -18,8 +18,8 @@ fn counted(n: u32, used: bool) -> u32
 
 // The last start of job j, and its devices. Every device is written down, and the next one in its place unless the job uses it.
 fn lay_job(r: &Flat, j: usize, extras: &mut [u32])
-    requires { Valid (recorderOf r.now) × ((j < 16) × (208 ≤ length extras.old)) }
-    ensures { LaidJob (recorderOf r.now) j extras.old extras.new }
+    requires { Valid (recorder_of r.now) × ((j < 16) × (208 ≤ length extras.old)) }
+    ensures { LaidJob (recorder_of r.now) j extras.old extras.new }
 {
     let m = device_count(r);
     let mut n: u32 = 0;
@@ -35,8 +35,8 @@ fn lay_job(r: &Flat, j: usize, extras: &mut [u32])
 
 // Those of all jobs.
 pub fn lay_jobs(r: &Flat, extras: &mut [u32])
-    requires { Valid (recorderOf r.now) × (208 ≤ length extras.old) }
-    ensures { LaidJobs (recorderOf r.now) 16 extras.old extras.new }
+    requires { Valid (recorder_of r.now) × (208 ≤ length extras.old) }
+    ensures { LaidJobs (recorder_of r.now) 16 extras.old extras.new }
 {
     let mut j: usize = 0;
     while j < 16 {

@@ -3,7 +3,7 @@ ghost use Rattle.std.specs.Prelude.{◌≡◌, true, suc, ◌+◌, ◌*◌, ◌<
 ghost use Rattle.device.specs.Row.{Sound, deep};
 ghost use Rattle.keys.specs.inside.Keys.{extra};
 ghost use Rattle.schedule.specs.Quantities.{Valid, device};
-ghost use Rattle.flat.specs.inside.Flat.{recorderOf};
+ghost use Rattle.flat.specs.inside.Flat.{recorder_of};
 ghost use Rattle.extras.specs.inside.Shapes.{Stays, shape_of};
 ghost use Rattle.extras.specs.inside.Tabled.{Room, Tabled};
 ghost use Rattle.extras.specs.inside.Parts.{LaidGaps, LaidDevice};
@@ -68,8 +68,8 @@ fn lay_gaps(d: Device, sleep: u32, k: usize, h: u16, extras: &mut [u32]) -> Shap
 
 // All of device k.
 fn lay_device(r: &Flat, k: usize, extras: &mut [u32])
-    requires { Valid (recorderOf r.now) × ((k < (recorderOf r.now).devices.count) × (208 + 8 * (recorderOf r.now).horizon ≤ length extras.old)) }
-    ensures { LaidDevice (device (recorderOf r.now) k) k (recorderOf r.now).horizon extras.old extras.new }
+    requires { Valid (recorder_of r.now) × ((k < (recorder_of r.now).devices.count) × (208 + 8 * (recorder_of r.now).horizon ≤ length extras.old)) }
+    ensures { LaidDevice (device (recorder_of r.now) k) k (recorder_of r.now).horizon extras.old extras.new }
 {
     let shape = lay_gaps(
         device_of(r, k),
@@ -86,8 +86,8 @@ fn lay_device(r: &Flat, k: usize, extras: &mut [u32])
 }
 
 pub fn lay_extras(r: &Flat, extras: &mut [u32])
-    requires { Valid (recorderOf r.now) × Room (recorderOf r.now) extras.old }
-    ensures { Tabled (recorderOf r.now) extras.new }
+    requires { Valid (recorder_of r.now) × Room (recorder_of r.now) extras.old }
+    ensures { Tabled (recorder_of r.now) extras.new }
 {
     let m = device_count(r);
     let mut k: usize = 0;

@@ -1,8 +1,8 @@
 // What each gap of each device costs above the deepest sleep, worked out once before a search; with it from which length on that stays the same, from which on it no
 // longer falls and to what it falls, and by how much one tick more changes it at most; and of each job its last start, and which devices it uses.
 ghost use Rattle.std.specs.Prelude.{◌≡◌, ◌+◌, ◌*◌, ◌<◌, ◌≤◌, length};
-ghost use Rattle.extras.specs.inside.Tabled.{extraAt, cap_at, riseAt, fallAt, leastFrom};
-ghost use Rattle.extras.specs.inside.Jobs.{usedCountAt, last_at, usedAt};
+ghost use Rattle.extras.specs.inside.Tabled.{extra_at, cap_at, rise_at, fall_at, least_from};
+ghost use Rattle.extras.specs.inside.Jobs.{used_count_at, last_at, used_at};
 
 use base::smaller;
 
@@ -37,7 +37,7 @@ const EXTRAS: usize = 200;
 // The extra of a gap of g ticks.
 pub fn extra_of(extras: &[u32], k: usize, g: u32) -> u32
     requires { (k < 8) × ((g ≤ 4096) × (208 + 8 * g ≤ length extras.now)) }
-    ensures { result ≡ extraAt extras.now k g }
+    ensures { result ≡ extra_at extras.now k g }
 {
     extras[EXTRAS + 8 * g as usize + k]
 }
@@ -53,7 +53,7 @@ pub fn cap_of(extras: &[u32], k: usize) -> u32
 // By how much one tick more raises it at most.
 pub fn rise_of(extras: &[u32], k: usize) -> u32
     requires { (k < 8) × (40 ≤ length extras.now) }
-    ensures { result ≡ riseAt extras.now k }
+    ensures { result ≡ rise_at extras.now k }
 {
     extras[RISES + k]
 }
@@ -61,7 +61,7 @@ pub fn rise_of(extras: &[u32], k: usize) -> u32
 // By how much it lowers it at most.
 pub fn fall_of(extras: &[u32], k: usize) -> u32
     requires { (k < 8) × (40 ≤ length extras.now) }
-    ensures { result ≡ fallAt extras.now k }
+    ensures { result ≡ fall_at extras.now k }
 {
     extras[FALLS + k]
 }
@@ -69,7 +69,7 @@ pub fn fall_of(extras: &[u32], k: usize) -> u32
 // What no gap of g ticks or more has less than: from the foot on its own extra, and before it no more than what a fall leads to.
 pub fn least_from(extras: &[u32], k: usize, g: u32) -> u32
     requires { (k < 8) × ((g ≤ 4096) × (208 + 8 * g ≤ length extras.now)) }
-    ensures { result ≡ leastFrom extras.now k g }
+    ensures { result ≡ least_from extras.now k g }
 {
     let extra = extra_of(extras, k, g);
     if g < extras[FEET + k] {
@@ -81,7 +81,7 @@ pub fn least_from(extras: &[u32], k: usize, g: u32) -> u32
 // How many devices job j uses.
 pub fn used_count(extras: &[u32], j: usize) -> u32
     requires { (j < 16) × (208 ≤ length extras.now) }
-    ensures { result ≡ usedCountAt extras.now j }
+    ensures { result ≡ used_count_at extras.now j }
 {
     extras[COUNTS + j]
 }
@@ -97,7 +97,7 @@ pub fn last_start(extras: &[u32], j: usize) -> u32
 // The one of its devices before which there are i.
 pub fn used_at(extras: &[u32], j: usize, i: u32) -> usize
     requires { (j < 16) × ((i < 8) × (208 ≤ length extras.now)) }
-    ensures { result ≡ usedAt extras.now j i }
+    ensures { result ≡ used_at extras.now j i }
 {
     let device = &extras[LISTS + 8 * j + i as usize];
     *device as usize

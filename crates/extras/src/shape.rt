@@ -1,6 +1,6 @@
 // What is read off the extras of a device while they are laid, gap by gap.
 ghost use Rattle.std.specs.Prelude.{◌≡◌};
-ghost use Rattle.extras.specs.inside.Shapes.{shapeWith};
+ghost use Rattle.extras.specs.inside.Shapes.{shape_with};
 
 use base::{larger, smaller};
 
@@ -20,7 +20,7 @@ pub struct Shape {
 
 // The same with the gap of g ticks, whose extra is y, that of the gap before it x.
 pub fn shape_with(s: Shape, g: u32, x: u32, y: u32) -> Shape
-    ensures { result ≡ shapeWith s g x y }
+    ensures { result ≡ shape_with s g x y }
 {
     if x < y {
         let rise = larger(s.rise, y - x);

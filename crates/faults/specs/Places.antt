@@ -4,14 +4,14 @@
 use Rattle.std.specs.Prelude.{◌≡◌, cond, List, [], ◌∷◌, ◌++◌, ℕ, ◌+◌, ◌*◌, length, ltb, leb, eqb}
 use Rattle.base.specs.Bytes.{byte_at, pair_at}
 use Rattle.base.specs.Lists.{up_to}
-use Rattle.base.specs.Refusals.{◌⇒◌, firstThat}
+use Rattle.base.specs.Refusals.{◌⇒◌, first_that}
 use Rattle.schedule.specs.declared.Recorder.{Recorder}
 use Rattle.tables.specs.declared.Kind.{Kind}
 use Rattle.tables.specs.declared.Tables.{Tables}
-use Rattle.tables.specs.Layout.{marker, kind_of, body_of, layout_of, devicePlace, tasksPlace, taskCount, jobsPlace}
+use Rattle.tables.specs.Layout.{marker, kind_of, body_of, layout_of, device_place, tasks_place, task_count, jobs_place}
 use Rattle.request.specs.declared.Section.{Section}
 use Rattle.request.specs.declared.Section.TheVariants.{DeviceRecords, TaskRecords, JobRecords}
-use Rattle.request.specs.Format.{size_of, head_of, recordFault, horizonIn, mixed, count_of, readAs}
+use Rattle.request.specs.Format.{size_of, head_of, record_fault, horizon_in, mixed, count_of, read_as}
 use Rattle.request.specs.Format as Format
 use Rattle.faults.specs.declared.Place.{Place}
 use Rattle.faults.specs.declared.Place.TheVariants.{Nowhere, Horizon, DeviceCount, Device, TaskCount, Task, JobCount, Job, End}
@@ -20,11 +20,11 @@ use Rattle.faults.specs.declared.PlaceFault.{PlaceFault}
 -- ---- one place
 
 -- A place of a file, from a byte up to another, both counted from the first byte after a mark of so many.
-unfoldable pub placeAt : (mark : ℕ) → Place → (from to number : ℕ) → PlaceFault
-placeAt mark p from to number = record { number = number; place = p; from = mark + from; to = mark + to }
+unfoldable pub place_at : (mark : ℕ) → Place → (from to number : ℕ) → PlaceFault
+place_at mark p from to number = record { number = number; place = p; from = mark + from; to = mark + to }
 
-abbrev pub noFault : PlaceFault
-noFault = record { number = 0; place = Nowhere; from = 0; to = 0 }
+abbrev pub no_fault : PlaceFault
+no_fault = record { number = 0; place = Nowhere; from = 0; to = 0 }
 
 -- Record i of a section.
 unfoldable pub place_of : Section → ℕ → Place
@@ -34,36 +34,36 @@ place_of (JobRecords n h) i = Job i
 
 -- The bytes of a record that are called for when it is refused by a number, there or not: 4 and 26 come before the powers that a level count calls for (rule 83),
 -- and every other number when all of it is called for.
-unfoldable pub calledFor : List ℕ → Section → (at number : ℕ) → ℕ
-calledFor s k at number = cond (eqb number 4) (head_of k) (cond (eqb number 26) (head_of k) (size_of s k at))
+unfoldable pub called_for : List ℕ → Section → (at number : ℕ) → ℕ
+called_for s k at number = cond (eqb number 4) (head_of k) (cond (eqb number 26) (head_of k) (size_of s k at))
 
-unfoldable pub recordPlace : (mark : ℕ) → List ℕ → Section → (i at : ℕ) → PlaceFault
-recordPlace mark s k i at = placeAt mark (place_of k i) at (at + calledFor s k at (recordFault s k at)) (recordFault s k at)
+unfoldable pub record_place : (mark : ℕ) → List ℕ → Section → (i at : ℕ) → PlaceFault
+record_place mark s k i at = place_at mark (place_of k i) at (at + called_for s k at (record_fault s k at)) (record_fault s k at)
 
 -- ---- the places in reading order, of what follows a mark of so many bytes in a file of a kind
 
 -- The horizon is only called for here: it is judged with the job count (rule 15).
-unfoldable pub headPlaces : (mark : ℕ) → List ℕ → List PlaceFault
-headPlaces mark s =
-    placeAt mark Horizon 0 2 (firstThat ((ltb (length s) 2 ⇒ 1) ∷ []))
-    ∷ placeAt mark DeviceCount 2 3 (firstThat ((ltb (length s) 3 ⇒ 1) ∷ (ltb 8 (byte_at s 2) ⇒ 3) ∷ []))
+unfoldable pub head_places : (mark : ℕ) → List ℕ → List PlaceFault
+head_places mark s =
+    place_at mark Horizon 0 2 (first_that ((ltb (length s) 2 ⇒ 1) ∷ []))
+    ∷ place_at mark DeviceCount 2 3 (first_that ((ltb (length s) 3 ⇒ 1) ∷ (ltb 8 (byte_at s 2) ⇒ 3) ∷ []))
     ∷ []
 
-abbrev pub devicePlaces : (mark : ℕ) → Kind → List ℕ → List PlaceFault
-devicePlaces mark k s = up_to (λ i. recordPlace mark s (DeviceRecords k) i (devicePlace k s i)) (byte_at s 2)
+abbrev pub device_places : (mark : ℕ) → Kind → List ℕ → List PlaceFault
+device_places mark k s = up_to (λ i. record_place mark s (DeviceRecords k) i (device_place k s i)) (byte_at s 2)
 
 -- `at` is the place of the count.
-unfoldable pub taskCountPlace : (mark : ℕ) → List ℕ → ℕ → PlaceFault
-taskCountPlace mark s at = placeAt mark TaskCount at (at + 1) (firstThat ((leb (length s) at ⇒ 1) ∷ (ltb 8 (byte_at s at) ⇒ 6) ∷ []))
+unfoldable pub task_count_place : (mark : ℕ) → List ℕ → ℕ → PlaceFault
+task_count_place mark s at = place_at mark TaskCount at (at + 1) (first_that ((leb (length s) at ⇒ 1) ∷ (ltb 8 (byte_at s at) ⇒ 6) ∷ []))
 
-abbrev pub taskPlaces : (mark : ℕ) → Kind → List ℕ → List PlaceFault
-taskPlaces mark k s = up_to (λ i. recordPlace mark s (TaskRecords (byte_at s 2)) i (tasksPlace k s + 1 + i * 5)) (taskCount k s)
+abbrev pub task_places : (mark : ℕ) → Kind → List ℕ → List PlaceFault
+task_places mark k s = up_to (λ i. record_place mark s (TaskRecords (byte_at s 2)) i (tasks_place k s + 1 + i * 5)) (task_count k s)
 
 -- 11, 10 and 12 are told at the job count, with which they are judged: `from` is the place of the first task's record, h the horizon, given or worked out.
-unfoldable pub jobCountPlace : (mark : ℕ) → List ℕ → (tasks from at h : ℕ) → PlaceFault
-jobCountPlace mark s tasks from at h =
-    placeAt mark JobCount at (at + 1)
-    (firstThat (
+unfoldable pub job_count_place : (mark : ℕ) → List ℕ → (tasks from at h : ℕ) → PlaceFault
+job_count_place mark s tasks from at h =
+    place_at mark JobCount at (at + 1)
+    (first_that (
     (leb (length s) at ⇒ 1)
     ∷ (mixed tasks (pair_at s 0) (byte_at s at) ⇒ 11)
     ∷ (eqb h 0 ⇒ 10)
@@ -71,23 +71,23 @@ jobCountPlace mark s tasks from at h =
     ∷ (ltb 16 (count_of s tasks from (byte_at s at) h) ⇒ 12)
     ∷ []))
 
-abbrev pub jobPlaces : (mark : ℕ) → Kind → List ℕ → List PlaceFault
-jobPlaces mark k s = up_to (λ j. recordPlace mark s (JobRecords (byte_at s 2) (horizonIn k s)) j (jobsPlace k s + 1 + j * 7)) (byte_at s (jobsPlace k s))
+abbrev pub job_places : (mark : ℕ) → Kind → List ℕ → List PlaceFault
+job_places mark k s = up_to (λ j. record_place mark s (JobRecords (byte_at s 2) (horizon_in k s)) j (jobs_place k s + 1 + j * 7)) (byte_at s (jobs_place k s))
 
 -- What follows the last job record, up to the end of the file.
-unfoldable pub endPlace : (mark : ℕ) → List ℕ → ℕ → PlaceFault
-endPlace mark s at = placeAt mark End at (length s) (firstThat ((ltb at (length s) ⇒ 2) ∷ []))
+unfoldable pub end_place : (mark : ℕ) → List ℕ → ℕ → PlaceFault
+end_place mark s at = place_at mark End at (length s) (first_that ((ltb at (length s) ⇒ 2) ∷ []))
 
-unfoldable pub placesAs : Kind → List ℕ → List PlaceFault
-placesAs k s =
+unfoldable pub places_as : Kind → List ℕ → List PlaceFault
+places_as k s =
     let mark = length (marker k) in
-    headPlaces mark s
-    ++ (devicePlaces mark k s
-    ++ (taskCountPlace mark s (tasksPlace k s)
-    ∷ (taskPlaces mark k s
-    ++ (jobCountPlace mark s (taskCount k s) (tasksPlace k s + 1) (jobsPlace k s) (horizonIn k s)
-    ∷ (jobPlaces mark k s
-    ++ (endPlace mark s (jobsPlace k s + 1 + byte_at s (jobsPlace k s) * 7) ∷ []))))))
+    head_places mark s
+    ++ (device_places mark k s
+    ++ (task_count_place mark s (tasks_place k s)
+    ∷ (task_places mark k s
+    ++ (job_count_place mark s (task_count k s) (tasks_place k s + 1) (jobs_place k s) (horizon_in k s)
+    ∷ (job_places mark k s
+    ++ (end_place mark s (jobs_place k s + 1 + byte_at s (jobs_place k s) * 7) ∷ []))))))
 
 -- ---- the promise
 
@@ -98,8 +98,8 @@ pub data FirstFault (f : PlaceFault) : List PlaceFault → Type 0 where
 
 -- Of what follows the mark of a file of a kind: nothing where it is accepted; else the number that refuses it, with the first place that is at fault.
 pub data FaultAs (k : Kind) (s : List ℕ) : PlaceFault → Type 0 where
-  accepted : {R : Recorder} → readAs k s ≡ Format.accepted R → FaultAs k s noFault
-  refused : {f : PlaceFault} → readAs k s ≡ Format.refused f.number → FirstFault f (placesAs k s) → FaultAs k s f
+  accepted : {R : Recorder} → read_as k s ≡ Format.accepted R → FaultAs k s no_fault
+  refused : {f : PlaceFault} → read_as k s ≡ Format.refused f.number → FirstFault f (places_as k s) → FaultAs k s f
 
 -- ---- `fault_of`: a file by its own kind, so that `read_of` reads it
 

@@ -1,13 +1,13 @@
 // The records of a section in turn, each with its bytes.
 ghost use Rattle.std.specs.Prelude.{◌≡◌, ℕ, ◌≤◌, length};
-ghost use Rattle.faults.specs.Places.{place_of, calledFor, recordPlace, noFault};
-ghost use Rattle.faults.specs.inside.Walk.{recordsWalk};
+ghost use Rattle.faults.specs.Places.{place_of, called_for, record_place, no_fault};
+ghost use Rattle.faults.specs.inside.Walk.{records_walk};
 
 use crate::{Place, PlaceFault};
 use request::{Section, head_of, record_fault, size_of};
 
 pub(crate) fn no_fault() -> PlaceFault
-    ensures { result ≡ noFault }
+    ensures { result ≡ no_fault }
 {
     PlaceFault {
         number: 0,
@@ -29,7 +29,7 @@ fn place_of(k: Section, i: usize) -> Place
 
 // How many bytes of a record are called for when it is refused by a number: 4 and 26 come before the powers that a level count calls for.
 fn called_for(s: &[u8], k: Section, at: usize, number: u8) -> usize
-    ensures { result ≡ calledFor s.now k at number }
+    ensures { result ≡ called_for s.now k at number }
 {
     if number == 4 {
         return head_of(k);
@@ -43,7 +43,7 @@ fn called_for(s: &[u8], k: Section, at: usize, number: u8) -> usize
 // Record i of a section, which stands at a place, with its number.
 fn record_place(s: &[u8], mark: usize, k: Section, i: usize, at: usize) -> PlaceFault
     requires { (at ≤ length s.now) × (mark ≤ 2) }
-    ensures { result ≡ recordPlace mark s.now k i at }
+    ensures { result ≡ record_place mark s.now k i at }
 {
     let number = record_fault(s, k, at);
     let size = called_for(s, k, at, number);
@@ -65,7 +65,7 @@ pub(crate) fn records_place(
     from: usize,
 ) -> PlaceFault
     requires { (from ≤ length s.now) × (mark ≤ 2) }
-    ensures { result ≡ recordsWalk mark s.now k count 0 from }
+    ensures { result ≡ records_walk mark s.now k count 0 from }
 {
     let mut i: usize = 0;
     let mut at = from;

@@ -4,8 +4,8 @@ ghost use Rattle.base.specs.Bytes.{byte_at};
 ghost use Rattle.tables.specs.Layout.{marker};
 ghost use Rattle.request.specs.inside.Held.{SoundTasks};
 ghost use Rattle.faults.specs.declared.Place.TheVariants.{Horizon, End};
-ghost use Rattle.faults.specs.Places.{placeAt, FaultAs};
-ghost use Rattle.faults.specs.inside.Walk.{jobsWalk, jobWalk, taskWalk, walk};
+ghost use Rattle.faults.specs.Places.{place_at, FaultAs};
+ghost use Rattle.faults.specs.inside.Walk.{jobs_walk, job_walk, task_walk, walk};
 
 use crate::{Place, PlaceFault, records};
 use request::{Section, horizon_of, is_mixed, job_count};
@@ -14,7 +14,7 @@ use tables::{Kind, device_place};
 // A count, which is one byte, or would be.
 fn count_at(s: &[u8], mark: usize, place: Place, at: usize, number: u8) -> PlaceFault
     requires { (at ≤ length s.now) × (mark ≤ 2) }
-    ensures { result ≡ placeAt mark place at (at + 1) number }
+    ensures { result ≡ place_at mark place at (at + 1) number }
 {
     PlaceFault {
         number,
@@ -27,7 +27,7 @@ fn count_at(s: &[u8], mark: usize, place: Place, at: usize, number: u8) -> Place
 // What follows the last section, up to the end of the file.
 fn end_from(s: &[u8], mark: usize, at: usize) -> PlaceFault
     requires { (at ≤ length s.now) × (mark ≤ 2) }
-    ensures { result ≡ placeAt mark End at (length s.now) 2 }
+    ensures { result ≡ place_at mark End at (length s.now) 2 }
 {
     PlaceFault {
         number: 2,
@@ -40,7 +40,7 @@ fn end_from(s: &[u8], mark: usize, at: usize) -> PlaceFault
 // The horizon, which is two bytes, where they are not there.
 fn no_horizon(mark: usize) -> PlaceFault
     requires { mark ≤ 2 }
-    ensures { result ≡ placeAt mark Horizon 0 2 1 }
+    ensures { result ≡ place_at mark Horizon 0 2 1 }
 {
     PlaceFault {
         number: 1,
@@ -61,7 +61,7 @@ fn jobs_fault(
     h: u32,
 ) -> PlaceFault
     requires { SoundTasks s.now tasks from × (h ≤ 4096) × (at < length s.now) × (mark ≤ 2) }
-    ensures { result ≡ jobsWalk mark s.now n tasks from at h }
+    ensures { result ≡ jobs_walk mark s.now n tasks from at h }
 {
     let count = s[at] as usize;
     if 16 < job_count(s, tasks, from, count, h) {
@@ -81,7 +81,7 @@ fn jobs_fault(
 // From the job count on: 11, then 10, then the jobs.
 fn job_fault(s: &[u8], mark: usize, n: usize, tasks: usize, from: usize, at: usize) -> PlaceFault
     requires { SoundTasks s.now tasks from × (3 ≤ from) × (from ≤ at) × (at ≤ length s.now) × (mark ≤ 2) }
-    ensures { result ≡ jobWalk mark s.now n tasks from at }
+    ensures { result ≡ job_walk mark s.now n tasks from at }
 {
     if s.len() <= at {
         return count_at(s, mark, Place::JobCount, at, 1);
@@ -102,7 +102,7 @@ fn job_fault(s: &[u8], mark: usize, n: usize, tasks: usize, from: usize, at: usi
 // From the task count on.
 fn task_fault(s: &[u8], mark: usize, n: usize, at: usize) -> PlaceFault
     requires { (at ≤ length s.now) × (3 ≤ at) × (mark ≤ 2) }
-    ensures { result ≡ taskWalk mark s.now n at }
+    ensures { result ≡ task_walk mark s.now n at }
 {
     if s.len() <= at {
         return count_at(s, mark, Place::TaskCount, at, 1);

@@ -8,9 +8,9 @@ use Rattle.device.specs.declared.Sleeps.TheVariants.{Plain, Numbered}
 use Rattle.device.specs.Row.{Letter, at, W, D, U, byte_of}
 use Rattle.schedule.specs.Quantities.{jobs, release, deadline}
 use Rattle.schedule.specs.Listing.{Earlier}
-use Rattle.request.specs.Format.{recorderIn}
+use Rattle.request.specs.Format.{recorder_in}
 use Rattle.planner.specs.declared.Answer.{Answer}
-use Rattle.planner.specs.Promises.{success, refusal, refusalAfter, Reads, Checked, Margined, Judged, Rowed, Searched}
+use Rattle.planner.specs.Promises.{success, refusal, refusal_after, Reads, Checked, Margined, Judged, Rowed, Searched}
 
 -- ---- files
 
@@ -19,44 +19,44 @@ abbrev two : ℕ → List ℕ
 two n = 0 ∷ n ∷ []
 
 -- A device (Pw, Ps, P0) with T 1.
-abbrev deviceFile : ℕ → ℕ → ℕ → List ℕ
-deviceFile pw ps p0 = 1 ∷ two pw ++ two ps ++ two p0
+abbrev device_file : ℕ → ℕ → ℕ → List ℕ
+device_file pw ps p0 = 1 ∷ two pw ++ two ps ++ two p0
 
 -- Device A.
 abbrev A : List ℕ
-A = deviceFile 5 1 3
+A = device_file 5 1 3
 
 -- A job (a, d, c) with its device set.
-abbrev jobFile : ℕ → ℕ → ℕ → ℕ → List ℕ
-jobFile a d c set = two a ++ two d ++ two c ++ set ∷ []
+abbrev job_file : ℕ → ℕ → ℕ → ℕ → List ℕ
+job_file a d c set = two a ++ two d ++ two c ++ set ∷ []
 
 -- No task and no job.
 abbrev idle : List ℕ
 idle = 0 ∷ 0 ∷ []
 
 abbrev P3 : List ℕ
-P3 = two 5 ++ 1 ∷ A ++ 0 ∷ 1 ∷ jobFile 0 5 2 1
+P3 = two 5 ++ 1 ∷ A ++ 0 ∷ 1 ∷ job_file 0 5 2 1
 
 abbrev P5 : List ℕ
-P5 = two 4 ++ 0 ∷ 0 ∷ 2 ∷ jobFile 0 2 2 0 ++ jobFile 0 2 2 0
+P5 = two 4 ++ 0 ∷ 0 ∷ 2 ∷ job_file 0 2 2 0 ++ job_file 0 2 2 0
 
 abbrev P6 : List ℕ
-P6 = two 2 ++ 0 ∷ 0 ∷ 2 ∷ jobFile 0 2 2 0 ++ jobFile 0 2 1 0
+P6 = two 2 ++ 0 ∷ 0 ∷ 2 ∷ job_file 0 2 2 0 ++ job_file 0 2 1 0
 
 abbrev P7 : List ℕ
-P7 = two 3 ++ 1 ∷ A ++ 0 ∷ 2 ∷ jobFile 0 1 1 1 ++ jobFile 2 3 1 1
+P7 = two 3 ++ 1 ∷ A ++ 0 ∷ 2 ∷ job_file 0 1 1 1 ++ job_file 2 3 1 1
 
 abbrev P8 : List ℕ
-P8 = two 4 ++ 1 ∷ A ++ 0 ∷ 2 ∷ jobFile 0 1 1 1 ++ jobFile 3 4 1 1
+P8 = two 4 ++ 1 ∷ A ++ 0 ∷ 2 ∷ job_file 0 1 1 1 ++ job_file 3 4 1 1
 
 abbrev P9 : List ℕ
-P9 = two 6 ++ 1 ∷ A ++ 0 ∷ 3 ∷ jobFile 0 6 1 1 ++ jobFile 0 6 1 0 ++ jobFile 0 6 1 1
+P9 = two 6 ++ 1 ∷ A ++ 0 ∷ 3 ∷ job_file 0 6 1 1 ++ job_file 0 6 1 0 ++ job_file 0 6 1 1
 
 abbrev P10 : List ℕ
 P10 = two 0 ++ 0 ∷ 2 ∷ two 4 ++ two 1 ++ 0 ∷ two 6 ++ two 2 ++ 0 ∷ 0 ∷ []
 
 abbrev P11 : List ℕ
-P11 = two 5 ++ 0 ∷ 0 ∷ 1 ∷ jobFile 0 5 2 0
+P11 = two 5 ++ 0 ∷ 0 ∷ 1 ∷ job_file 0 5 2 0
 
 -- Periods 4,095 and 4,096; periods 64 and 4,096.
 abbrev P12 : List ℕ
@@ -67,7 +67,7 @@ P12' = two 0 ++ 0 ∷ 2 ∷ two 64 ++ two 1 ++ 0 ∷ 16 ∷ 0 ∷ two 1 ++ 0 ∷
 
 -- Jobs whose running order is not their job order.
 abbrev X1 : List ℕ
-X1 = two 7 ++ 1 ∷ A ++ 0 ∷ 3 ∷ jobFile 2 5 2 0 ++ jobFile 4 7 2 1 ++ jobFile 0 2 1 1
+X1 = two 7 ++ 1 ∷ A ++ 0 ∷ 3 ∷ job_file 2 5 2 0 ++ job_file 4 7 2 1 ++ job_file 0 2 1 1
 
 -- The two tasks of the pruning paper's Table 3, with a device A each.
 abbrev X3 : List ℕ
@@ -75,7 +75,7 @@ X3 = two 0 ++ 2 ∷ A ++ A ++ 2 ∷ two 4 ++ two 1 ++ 1 ∷ two 5 ++ two 3 ++ 2 
 
 -- A device that is dear to move, and device A: in the gap before start 2 only A sleeps. With start 1 both work throughout.
 abbrev E6 : List ℕ
-E6 = two 6 ++ 2 ∷ deviceFile 5 1 9 ++ A ++ 0 ∷ 2 ∷ jobFile 1 5 2 3 ++ jobFile 4 6 2 3
+E6 = two 6 ++ 2 ∷ device_file 5 1 9 ++ A ++ 0 ∷ 2 ∷ job_file 1 5 2 3 ++ job_file 4 6 2 3
 
 -- A file of the second kind; a device that wakes in 1 tick at 4 and shuts down in 3 at 2, Pw 9, Ps 1; and device A in such a file.
 abbrev second : List ℕ → List ℕ
@@ -88,10 +88,10 @@ abbrev A' : List ℕ
 A' = 1 ∷ 1 ∷ two 5 ++ two 1 ++ two 3 ++ two 3
 
 abbrev H4 : List ℕ
-H4 = second (two 9 ++ 1 ∷ B ++ 0 ∷ 1 ∷ jobFile 2 7 2 1)
+H4 = second (two 9 ++ 1 ∷ B ++ 0 ∷ 1 ∷ job_file 2 7 2 1)
 
 abbrev H7 : List ℕ
-H7 = second (two 5 ++ 1 ∷ A' ++ 0 ∷ 1 ∷ jobFile 0 5 2 1)
+H7 = second (two 5 ++ 1 ∷ A' ++ 0 ∷ 1 ∷ job_file 0 5 2 1)
 
 -- One task of running time 2 that uses the first device, over a round of p ticks.
 abbrev round : ℕ → List ℕ
@@ -139,7 +139,7 @@ pub data Figure : Type 0 where
   -- the jobs that it is unfolded to: the horizon, the releases and the deadlines
   unfolds : (horizon : ℕ) (releases deadlines : List ℕ) → Figure
   -- of two schedules the first comes first
-  comes-first : (s s' : List ℕ) → Figure
+  comes_first : (s s' : List ℕ) → Figure
 
 pub record Case : Type 0 where
   pub file : List ℕ
@@ -180,15 +180,15 @@ table =
     ∷ P3 has verdict (2 ∷ []) (success 5 21 0)
     ∷ P3 has verdict (3 ∷ []) (success 5 17 0)
     ∷ P3 has search 1000 (9 ∷ 9 ∷ []) (success 5 17 5) (0 ∷ 9 ∷ [])
-    ∷ P3 has search 4 (9 ∷ 9 ∷ []) (refusalAfter 20 4) (9 ∷ 9 ∷ [])
-    ∷ P5 has search 1000 (replicate 3 9) (refusalAfter 19 3) (replicate 3 9)
-    ∷ P6 has search 1000 (replicate 3 9) (refusalAfter 19 1) (replicate 3 9)
+    ∷ P3 has search 4 (9 ∷ 9 ∷ []) (refusal_after 20 4) (9 ∷ 9 ∷ [])
+    ∷ P5 has search 1000 (replicate 3 9) (refusal_after 19 3) (replicate 3 9)
+    ∷ P6 has search 1000 (replicate 3 9) (refusal_after 19 1) (replicate 3 9)
     ∷ P7 has rows (0 ∷ 2 ∷ []) (replicate 4 9) (success 3 15 0) (letters (W ∷ W ∷ W ∷ []) ++ 9 ∷ [])
     ∷ P8 has rows (0 ∷ 3 ∷ []) (replicate 5 9) (success 4 16 0) (letters (W ∷ D ∷ U ∷ W ∷ []) ++ 9 ∷ [])
     ∷ P9 has search 1000 (replicate 4 9) (success 6 18 95) (0 ∷ 1 ∷ 5 ∷ 9 ∷ [])
     ∷ P9 has verdict (0 ∷ 1 ∷ 2 ∷ []) (success 6 22 0)
     ∷ P9 has verdict (0 ∷ 2 ∷ 1 ∷ []) (success 6 18 0)
-    ∷ P9 has comes-first (0 ∷ 1 ∷ 5 ∷ []) (0 ∷ 2 ∷ 1 ∷ [])
+    ∷ P9 has comes_first (0 ∷ 1 ∷ 5 ∷ []) (0 ∷ 2 ∷ 1 ∷ [])
     ∷ P10 has unfolds 12 (0 ∷ 0 ∷ 4 ∷ 6 ∷ 8 ∷ []) (4 ∷ 6 ∷ 8 ∷ 12 ∷ 12 ∷ [])
     ∷ P11 has margins (0 ∷ []) (replicate 2 (pos 9)) (success 5 0 0) (pos 3 ∷ pos 9 ∷ [])
     ∷ P11 has margins (3 ∷ []) (replicate 2 (pos 9)) (success 5 0 0) (pos 0 ∷ pos 9 ∷ [])
@@ -198,11 +198,11 @@ table =
     ∷ X1 has search 1000 (replicate 4 9) (success 7 23 14) (2 ∷ 5 ∷ 0 ∷ 9 ∷ [])
     ∷ X3 has search 1000000 (replicate 10 9) (success 20 132 3180) (3 ∷ 0 ∷ 4 ∷ 5 ∷ 8 ∷ 10 ∷ 15 ∷ 17 ∷ 16 ∷ 9 ∷ [])
     -- E1 and E3: on equal cost it works. E2: slept. E4 and E5: moving, or work, at the power of sleep
-    ∷ (two 4 ++ 1 ∷ deviceFile 5 1 9 ++ idle) has rows [] (replicate 5 9) (success 4 20 0) (letters (W ∷ W ∷ W ∷ W ∷ []) ++ 9 ∷ [])
-    ∷ (two 5 ++ 1 ∷ deviceFile 5 1 9 ++ idle) has rows [] (replicate 6 9) (success 5 21 0) (letters (D ∷ S ∷ S ∷ S ∷ U ∷ []) ++ 9 ∷ [])
-    ∷ (two 2 ++ 1 ∷ deviceFile 5 1 5 ++ idle) has rows [] (replicate 3 9) (success 2 10 0) (letters (W ∷ W ∷ []) ++ 9 ∷ [])
-    ∷ (two 5 ++ 1 ∷ deviceFile 5 1 1 ++ idle) has check (refusal 5)
-    ∷ (two 5 ++ 1 ∷ deviceFile 1 1 5 ++ idle) has check (refusal 5)
+    ∷ (two 4 ++ 1 ∷ device_file 5 1 9 ++ idle) has rows [] (replicate 5 9) (success 4 20 0) (letters (W ∷ W ∷ W ∷ W ∷ []) ++ 9 ∷ [])
+    ∷ (two 5 ++ 1 ∷ device_file 5 1 9 ++ idle) has rows [] (replicate 6 9) (success 5 21 0) (letters (D ∷ S ∷ S ∷ S ∷ U ∷ []) ++ 9 ∷ [])
+    ∷ (two 2 ++ 1 ∷ device_file 5 1 5 ++ idle) has rows [] (replicate 3 9) (success 2 10 0) (letters (W ∷ W ∷ []) ++ 9 ∷ [])
+    ∷ (two 5 ++ 1 ∷ device_file 5 1 1 ++ idle) has check (refusal 5)
+    ∷ (two 5 ++ 1 ∷ device_file 1 1 5 ++ idle) has check (refusal 5)
     -- E6: a floor that took every gap of 2T ticks for slept would stand at 64 with start 2, and stay with 60
     ∷ E6 has search 1000 (replicate 3 9) (success 6 56 7) (2 ∷ 4 ∷ 9 ∷ [])
     ∷ E6 has verdict (1 ∷ 4 ∷ []) (success 6 60 0)
@@ -255,9 +255,9 @@ Says f (verdict starts a) = Judged f starts a
 Says f (rows starts lent a after) = Rowed f starts lent a after
 Says f (search budget lent a after) = Searched f budget lent a after
 Says f (unfolds h rs ds) =
-    let R = recorderIn f in
+    let R = recorder_in f in
     Reads f R × (R.horizon ≡ h) × (up_to (release R) (jobs R) ≡ rs) × (up_to (deadline R) (jobs R) ≡ ds)
-Says f (comes-first s s') = Reads f (recorderIn f) × Earlier (recorderIn f) s s'
+Says f (comes_first s s') = Reads f (recorder_in f) × Earlier (recorder_in f) s s'
 
 abbrev pub Hold : List Case → Type 0
 Hold [] = Unit {0}

@@ -7,8 +7,8 @@ use Rattle.schedule.specs.declared.Recorder.{Recorder}
 use Rattle.schedule.specs.Quantities.{jobs}
 use Rattle.schedule.specs.Listing.{Feasible}
 use Rattle.planner.specs.declared.Answer.{Answer}
-use Rattle.planner.specs.Promises.{success, refusal, stops, passes, gives-such}
-use Rattle.planner.proofs.Refusing.{unless-enough, unless-some}
+use Rattle.planner.specs.Promises.{success, refusal, stops, passes, gives_such}
+use Rattle.planner.proofs.Refusing.{unless_enough, unless_some}
 use Rattle.possible.specs.TillFound.{First}
 use Rattle.first.specs.Promises.{FirstOf}
 
@@ -18,12 +18,12 @@ pub data FirstCases (lent : List ℕ) (R : Recorder) : Answer → List ℕ → T
   found : {s : List ℕ} → jobs R ≤ length lent → First R s → FirstCases lent R (success R.horizon 0 0) (s ++ drop (jobs R) lent)
 
 module _ (lent : List ℕ) (R : Recorder) where
-  pub first-cases : {a : Answer} {l : List ℕ} → FirstOf lent R a l → FirstCases lent R a l
-  first-cases (stops h) = FirstCases.short h
-  first-cases (passes h (stops n)) = FirstCases.none (omega arith) n
-  first-cases (passes h (passes n (gives-such f))) = FirstCases.found (omega arith) f
+  pub first_cases : {a : Answer} {l : List ℕ} → FirstOf lent R a l → FirstCases lent R a l
+  first_cases (stops h) = FirstCases.short h
+  first_cases (passes h (stops n)) = FirstCases.none (omega arith) n
+  first_cases (passes h (passes n (gives_such f))) = FirstCases.found (omega arith) f
 
-  pub cases-first : {a : Answer} {l : List ℕ} → FirstCases lent R a l → FirstOf lent R a l
-  cases-first (FirstCases.short h) = stops h
-  cases-first (FirstCases.none h n) = unless-enough h (stops n)
-  cases-first (FirstCases.found h f) = unless-enough h (unless-some f.feasible (gives-such f))
+  pub cases_first : {a : Answer} {l : List ℕ} → FirstCases lent R a l → FirstOf lent R a l
+  cases_first (FirstCases.short h) = stops h
+  cases_first (FirstCases.none h n) = unless_enough h (stops n)
+  cases_first (FirstCases.found h f) = unless_enough h (unless_some f.feasible (gives_such f))

@@ -9,21 +9,21 @@ use lib.ListN.{length, get_or, set, drop, replicate, length-set, length-append, 
 use lib.Seq.{get_or-set_same, get_or-set_other, ext_get_or, set-append_left, get_or-append-add, get_or-drop}
 use lib.Pow.{pow_pos}
 use Rattle.base.specs.Lists.{In, up_from, remove}
-use Rattle.base.proofs.Numbers.{remove-in, in_remove, up_in}
+use Rattle.base.proofs.Numbers.{remove_in, in_remove, up_in}
 use Rattle.schedule.specs.declared.Recorder.{Recorder}
 use Rattle.schedule.specs.Quantities.{jobs, Valid}
 use Rattle.schedule.specs.Listing.{Place, start, running}
 use Rattle.schedule.specs.Visiting.{written}
-use Rattle.schedule.proofs.Runs.{Run, FullRun, startsBy, all_known, run-feasible, run-running, feasible-run, feasible-starts}
+use Rattle.schedule.proofs.Runs.{Run, FullRun, starts_by, all_known, run_feasible, run_running, feasible_run, feasible_starts}
 use Rattle.possible.specs.TillFound.{First}
-use Rattle.flat.specs.inside.Flat.{recorderOf}
-use Rattle.latest.specs.inside.Latest.{latestOf, Laid, Greedy, Led}
-use Rattle.latest.proofs.Members.{members-all}
-use Rattle.latest.proofs.Feasibility.{feasible-latest}
-use Rattle.latest.proofs.Tabled.{power-few}
-use Rattle.latest.proofs.Ordering.{greedy-run, greedy-first}
-use Rattle.planner.specs.Promises.{success, refusal, stops, gives-such}
-use Rattle.planner.proofs.Refusing.{unless-enough, unless-some}
+use Rattle.flat.specs.inside.Flat.{recorder_of}
+use Rattle.latest.specs.inside.Latest.{latest_of, Laid, Greedy, Led}
+use Rattle.latest.proofs.Members.{members_all}
+use Rattle.latest.proofs.Feasibility.{feasible_latest}
+use Rattle.latest.proofs.Tabled.{power_few}
+use Rattle.latest.proofs.Ordering.{greedy_run, greedy_first}
+use Rattle.planner.specs.Promises.{success, refusal, stops, gives_such}
+use Rattle.planner.proofs.Refusing.{unless_enough, unless_some}
 use Rattle.first.specs.Promises.{FirstOf}
 
 -- ---- written over another list
@@ -42,19 +42,19 @@ module _ (R : Recorder) where
       (λ j ne. by_cases (ℕ_discrete j p.job)
       (λ q. let l = fits p.job h.0 in
       rw q (get_or-set_same s p.job p.start 0 l ∙ sym (get_or-set_same s' p.job p.start 0 (omega arith))))
-      (λ q. get_or-set_other s p.job j p.start 0 q ∙ same j (λ m. ne (remove-in p.job j u m q)) ∙ sym (get_or-set_other s' p.job j p.start 0 q)))
+      (λ q. get_or-set_other s p.job j p.start 0 q ∙ same j (λ m. ne (remove_in p.job j u m q)) ∙ sym (get_or-set_other s' p.job j p.start 0 q)))
 
   -- What is lent beyond the jobs stays.
-  written-front :
+  written_front :
       (r : List Place) (t : ℕ) (u : List ℕ) → Run R t u r → (s l : List ℕ) → ((j : ℕ) → In j u → j < length s) → written r (s ++ l) ≡ written r s ++ l
   unfolding written
-  written-front [] t u h s l fits = refl
-  written-front (p ∷ r) t u h s l fits =
+  written_front [] t u h s l fits = refl
+  written_front (p ∷ r) t u h s l fits =
       rw (set-append_left s l p.job p.start (fits p.job h.0))
-      (written-front r _ (remove p.job u) h.3 (set s p.job p.start) l
+      (written_front r _ (remove p.job u) h.3 (set s p.job p.start) l
       (λ j m. rw (length-set s p.job p.start) (fits j (in_remove p.job j u m))))
 
-  pub written_over : (r : List Place) → FullRun R r → (lent : List ℕ) → jobs R ≤ length lent → written r lent ≡ startsBy R r ++ drop (jobs R) lent
+  pub written_over : (r : List Place) → FullRun R r → (lent : List ℕ) → jobs R ≤ length lent → written r lent ≡ starts_by R r ++ drop (jobs R) lent
   written_over r h lent room =
       let z : List ℕ = replicate (jobs R) 0 in
       let long : length z ≡ jobs R = length-replicate {A = ℕ} (jobs R) 0 in
@@ -62,7 +62,7 @@ module _ (R : Recorder) where
       written_same r 0 (up_from 0 (jobs R)) h lent (z ++ rest) (omega (arith, length-append z rest, length-drop (jobs R) lent))
       (λ j m. omega (arith, all_known R j m))
       (λ j ne. past j (λ l. ne (up_in 0 (jobs R) j (omega arith) (omega arith))) long)
-      ∙ written-front r 0 (up_from 0 (jobs R)) h z rest (λ j m. rw long (all_known R j m))
+      ∙ written_front r 0 (up_from 0 (jobs R)) h z rest (λ j m. rw long (all_known R j m))
     where
       past : (j : ℕ) → (j < jobs R → ⊥) → length (replicate {A = ℕ} (jobs R) 0) ≡ jobs R → get_or lent j 0 ≡ get_or (replicate (jobs R) 0 ++ drop (jobs R) lent) j 0
       past j ne long =
@@ -75,46 +75,46 @@ module _ (R : Recorder) where
   -- ---- the first
 
   module _ (valid : Valid R) where
-    pub full-run : (r : List Place) → Greedy R 0 (2 ^ jobs R - 1) r → FullRun R r
-    full-run r g = rw (members-all 0 (jobs R)) at (greedy-run R r 0 (2 ^ jobs R - 1) g)
+    pub full_run : (r : List Place) → Greedy R 0 (2 ^ jobs R - 1) r → FullRun R r
+    full_run r g = rw (members_all 0 (jobs R)) at (greedy_run R r 0 (2 ^ jobs R - 1) g)
 
-    pub greedy-is-first : (r : List Place) → Greedy R 0 (2 ^ jobs R - 1) r → First R (startsBy R r)
-    greedy-is-first r g =
-        let h = full-run r g in
+    pub greedy_is_first : (r : List Place) → Greedy R 0 (2 ^ jobs R - 1) r → First R (starts_by R r)
+    greedy_is_first r g =
+        let h = full_run r g in
         record {
-          feasible = run-feasible R r h;
+          feasible = run_feasible R r h;
           first = λ s f.
-              let w = feasible-run R valid s f in
-              ⊎_elim (λ e. inl (ap (startsBy R) e ∙ feasible-starts R valid s f)) (λ b. inr (rw (run-running R valid r h) b))
-              (greedy-first R valid r (running R s) 0 (2 ^ jobs R - 1) (omega (arith, pow_pos (jobs R))) g (rw (members-all 0 (jobs R)) w));
+              let w = feasible_run R valid s f in
+              ⊎_elim (λ e. inl (ap (starts_by R) e ∙ feasible_starts R valid s f)) (λ b. inr (rw (run_running R valid r h) b))
+              (greedy_first R valid r (running R s) 0 (2 ^ jobs R - 1) (omega (arith, pow_pos (jobs R))) g (rw (members_all 0 (jobs R)) w));
         }
 
 -- ---- the cases of `first_plan`, where f is the recorder laid flat, l the table, and m the set of all jobs
 
 module _
-    (R : Recorder) (valid : Valid R) (f : List ℕ) (flat : recorderOf f ≡ R) (l : List ℕ) (laid : Laid (recorderOf f) l) (m : ℕ)
-    (all : m ≡ 2 ^ jobs (recorderOf f) - 1)
+    (R : Recorder) (valid : Valid R) (f : List ℕ) (flat : recorder_of f ≡ R) (l : List ℕ) (laid : Laid (recorder_of f) l) (m : ℕ)
+    (all : m ≡ 2 ^ jobs (recorder_of f) - 1)
   where
-    whole_is : get_or l m 0 ≡ latestOf R (2 ^ jobs R - 1)
+    whole_is : get_or l m 0 ≡ latest_of R (2 ^ jobs R - 1)
     whole_is =
         rw (all, flat) ((subst (λ (x : Recorder). Laid x l) flat laid).laid (2 ^ jobs R - 1) (omega (arith, pow_pos (jobs R))))
 
-    pub whole-known : m < 65536
-    whole-known = omega (arith, ap (λ (x : Recorder). 2 ^ jobs x) flat, pow_pos (jobs R), power-few (jobs R) valid.few-jobs)
+    pub whole_known : m < 65536
+    whole_known = omega (arith, ap (λ (x : Recorder). 2 ^ jobs x) flat, pow_pos (jobs R), power_few (jobs R) valid.few_jobs)
 
     module _ (lent : List ℕ) (room : jobs R ≤ length lent) where
       pub is_none : get_or l m 0 ≡ 0 → FirstOf lent R (refusal 19) lent
-      is_none e = unless-enough room (stops (λ s w. omega (arith, feasible-latest R valid s w, whole_is)))
+      is_none e = unless_enough room (stops (λ s w. omega (arith, feasible_latest R valid s w, whole_is)))
 
-      pub is-ready : (get_or l m 0 ≡ 0 → ⊥)
-          → Valid (recorderOf f) × (Laid (recorderOf f) l × ((jobs (recorderOf f) ≤ length lent) × (0 < latestOf (recorderOf f) (2 ^ jobs (recorderOf f) - 1))))
-      is-ready ne =
-          subst (λ (x : Recorder). Valid x × (Laid x l × ((jobs x ≤ length lent) × (0 < latestOf x (2 ^ jobs x - 1))))) (sym flat)
+      pub is_ready : (get_or l m 0 ≡ 0 → ⊥)
+          → Valid (recorder_of f) × (Laid (recorder_of f) l × ((jobs (recorder_of f) ≤ length lent) × (0 < latest_of (recorder_of f) (2 ^ jobs (recorder_of f) - 1))))
+      is_ready ne =
+          subst (λ (x : Recorder). Valid x × (Laid x l × ((jobs x ≤ length lent) × (0 < latest_of x (2 ^ jobs x - 1))))) (sym flat)
           (valid, (subst (λ (x : Recorder). Laid x l) flat laid, (room, omega (arith, whole_is))))
 
-      pub is_found : (after : List ℕ) → Led (recorderOf f) lent after → FirstOf lent R (success R.horizon 0 0) after
+      pub is_found : (after : List ℕ) → Led (recorder_of f) lent after → FirstOf lent R (success R.horizon 0 0) after
       is_found after led =
           let w = subst (λ (x : Recorder). Led x lent after) flat led in
           let g = w.greedy in
-          let s = greedy-is-first R valid w.places g in
-          rw (w.is, written_over R w.places (full-run R valid w.places g) lent room) (unless-enough room (unless-some s.feasible (gives-such s)))
+          let s = greedy_is_first R valid w.places g in
+          rw (w.is, written_over R w.places (full_run R valid w.places g) lent room) (unless_enough room (unless_some s.feasible (gives_such s)))

@@ -9,66 +9,66 @@ use base.Fml.{Fml}
 use denote.Laws.{Is}
 use denote.Shadow.{shadow}
 use denote.Array.{each}
-use Rattle.base.proofs.Every.{Every, every-at}
+use Rattle.base.proofs.Every.{Every, every_at}
 use Rattle.device.specs.declared.Device.{Device}
 use Rattle.device.specs.contracts.Device.{the_field as device-field}
 use Rattle.schedule.specs.declared.Job.{Job}
 use Rattle.schedule.specs.declared.Recorder.{Recorder}
-use Rattle.schedule.specs.Quantities.{job, device, noJob, noDevice}
+use Rattle.schedule.specs.Quantities.{job, device, no_job, no_device}
 use Rattle.schedule.specs.contracts.Job.{the_field as job-field}
 use Rattle.schedule.specs.contracts.Recorder.{the_row}
 
 -- ---- an array
 
-mapped-long : {X D : Type 0} (into : X → D) (xs : List X) (n : ℕ) → length (map into xs) ≡ n → length xs ≡ n
-mapped-long into xs n e = sym (length-map xs into) ∙ e
+mapped_long : {X D : Type 0} (into : X → D) (xs : List X) (n : ℕ) → length (map into xs) ≡ n → length xs ≡ n
+mapped_long into xs n e = sym (length-map xs into) ∙ e
 
 -- What owning one element tells holds of each.
-each-every :
+each_every :
     {X D : Type 0} (into : X → D) (own : D → List Val → Fml) (P : X → Type 0) → ((x : X) (vs : List Val) → shadow (own (into x) vs) → P x)
     → (xs : List X) (us : List Val) → shadow (each D own (map into xs) us) → Every P xs
-each-every into own P h [] us p = tt
-each-every into own P h (x ∷ xs) [] p = absurd p
-each-every into own P h (x ∷ xs) (u ∷ us) p = (h x (u ∷ []) p.0, each-every into own P h xs us p.1)
+each_every into own P h [] us p = tt
+each_every into own P h (x ∷ xs) [] p = absurd p
+each_every into own P h (x ∷ xs) (u ∷ us) p = (h x (u ∷ []) p.0, each_every into own P h xs us p.1)
 
 -- ---- a recorder
 -- The relation of a struct is (the fields' machine values, (an equation, (the first field's relation, (the second's, ..)))), and that of an array
 -- (the elements' machine values, ((an equation, its length), the elements' relations)): hence the paths.
 
-job-shaped : (x : Job) (vs : List Val) → shadow (job-field.row.own_val (job-field.into x) vs) → length x.uses ≡ 8
-job-shaped x vs p = mapped-long (λ b. b) x.uses 8 p.1.1.1.1.1.0.1.0.1
+job_shaped : (x : Job) (vs : List Val) → shadow (job-field.row.own_val (job-field.into x) vs) → length x.uses ≡ 8
+job_shaped x vs p = mapped_long (λ b. b) x.uses 8 p.1.1.1.1.1.0.1.0.1
 
 pub record Figures (d : Device) : Type 0 where
-  pub shut-byte : d.shut < 256
-  pub wake-byte : d.wake < 256
-  pub levels-byte : d.levels < 256
-  pub powers-long : length d.powers ≡ 4
+  pub shut_byte : d.shut < 256
+  pub wake_byte : d.wake < 256
+  pub levels_byte : d.levels < 256
+  pub powers_long : length d.powers ≡ 4
 
-device-shaped : (x : Device) (vs : List Val) → shadow (device-field.row.own_val (device-field.into x) vs) → Figures x
-device-shaped x vs p = record {
-  shut-byte = p.1.1.0.1;
-  wake-byte = p.1.1.1.0.1;
-  levels-byte = p.1.1.1.1.1.1.1.0.1;
-  powers-long = mapped-long (λ n. n) x.powers 4 p.1.1.1.1.1.1.1.1.0.1.0.1;
+device_shaped : (x : Device) (vs : List Val) → shadow (device-field.row.own_val (device-field.into x) vs) → Figures x
+device_shaped x vs p = record {
+  shut_byte = p.1.1.0.1;
+  wake_byte = p.1.1.1.0.1;
+  levels_byte = p.1.1.1.1.1.1.1.0.1;
+  powers_long = mapped_long (λ n. n) x.powers 4 p.1.1.1.1.1.1.1.1.0.1.0.1;
 }
 
 pub record Shaped (R : Recorder) : Type 0 where
-  pub jobs-long : length R.jobs.list ≡ 16
-  pub uses-long : (j : ℕ) → j < 16 → length (job R j).uses ≡ 8
-  pub devices-long : length R.devices.list ≡ 8
+  pub jobs_long : length R.jobs.list ≡ 16
+  pub uses_long : (j : ℕ) → j < 16 → length (job R j).uses ≡ 8
+  pub devices_long : length R.devices.list ≡ 8
   pub figures : (k : ℕ) → k < 8 → Figures (device R k)
 
-pub recorder-shaped : (R : Recorder) (vs : List Val) → Is the_row R vs → Shaped R
-recorder-shaped R vs p =
+pub recorder_shaped : (R : Recorder) (vs : List Val) → Is the_row R vs → Shaped R
+recorder_shaped R vs p =
     let ds = p.1.1.1.1.1.0.1.1.1.0 in
     let js = p.1.1.1.1.1.1.0.1.1.1.0 in
-    let eight : length R.devices.list ≡ 8 = mapped-long device-field.into R.devices.list 8 ds.1.0.1 in
-    let sixteen : length R.jobs.list ≡ 16 = mapped-long job-field.into R.jobs.list 16 js.1.0.1 in
+    let eight : length R.devices.list ≡ 8 = mapped_long device-field.into R.devices.list 8 ds.1.0.1 in
+    let sixteen : length R.jobs.list ≡ 16 = mapped_long job-field.into R.jobs.list 16 js.1.0.1 in
     record {
-      jobs-long = sixteen;
-      uses-long =
-          λ j h. every-at _ R.jobs.list noJob (each-every job-field.into job-field.row.own_val (λ x. length x.uses ≡ 8) job-shaped R.jobs.list js.0 js.1.1) j (omega arith);
-      devices-long = eight;
+      jobs_long = sixteen;
+      uses_long =
+          λ j h. every_at _ R.jobs.list no_job (each_every job-field.into job-field.row.own_val (λ x. length x.uses ≡ 8) job_shaped R.jobs.list js.0 js.1.1) j (omega arith);
+      devices_long = eight;
       figures =
-          λ k h. every-at _ R.devices.list noDevice (each-every device-field.into device-field.row.own_val Figures device-shaped R.devices.list ds.0 ds.1.1) k (omega arith);
+          λ k h. every_at _ R.devices.list no_device (each_every device-field.into device-field.row.own_val Figures device_shaped R.devices.list ds.0 ds.1.1) k (omega arith);
     }

@@ -3,7 +3,7 @@
 ghost use Rattle.std.specs.Prelude.{◌≡◌, ◌<◌};
 ghost use Rattle.device.specs.Row.{Sound, deep};
 ghost use Rattle.schedule.specs.Quantities.{Valid, device, jobs, release, deadline, run, uses};
-ghost use Rattle.flat.specs.inside.Flat.{recorderOf, numbered, jobNumber, deviceNumber, ownNumber, number_of};
+ghost use Rattle.flat.specs.inside.Flat.{recorder_of, numbered, job_number, device_number, own_number, number_of};
 
 use device::{Device, Sleeps};
 use schedule::{Job, Recorder};
@@ -11,49 +11,49 @@ use schedule::{Job, Recorder};
 pub type Flat = [u16; 320];
 
 pub fn horizon_of(r: &Flat) -> u16
-    ensures { result ≡ (recorderOf r.now).horizon }
+    ensures { result ≡ (recorder_of r.now).horizon }
 {
     r[304]
 }
 
 // The counts are read through a reference of their own, of which it is known that the number fits its type.
 pub fn job_count(r: &Flat) -> usize
-    ensures { result ≡ jobs (recorderOf r.now) }
+    ensures { result ≡ jobs (recorder_of r.now) }
 {
     let count = &r[305];
     *count as usize
 }
 
 pub fn device_count(r: &Flat) -> usize
-    ensures { result ≡ (recorderOf r.now).devices.count }
+    ensures { result ≡ (recorder_of r.now).devices.count }
 {
     let count = &r[306];
     *count as usize
 }
 
 pub fn is_round(r: &Flat) -> bool
-    ensures { result ≡ (recorderOf r.now).round }
+    ensures { result ≡ (recorder_of r.now).round }
 {
     r[307] == 1
 }
 
 pub fn release_of(r: &Flat, j: usize) -> u16
     requires { j < 16 }
-    ensures { result ≡ release (recorderOf r.now) j }
+    ensures { result ≡ release (recorder_of r.now) j }
 {
     r[j]
 }
 
 pub fn deadline_of(r: &Flat, j: usize) -> u16
     requires { j < 16 }
-    ensures { result ≡ deadline (recorderOf r.now) j }
+    ensures { result ≡ deadline (recorder_of r.now) j }
 {
     r[16 + j]
 }
 
 pub fn run_of(r: &Flat, j: usize) -> u16
     requires { j < 16 }
-    ensures { result ≡ run (recorderOf r.now) j }
+    ensures { result ≡ run (recorder_of r.now) j }
 {
     r[32 + j]
 }
@@ -61,14 +61,14 @@ pub fn run_of(r: &Flat, j: usize) -> u16
 // Whether job j uses device k.
 pub fn is_used(r: &Flat, k: usize, j: usize) -> bool
     requires { (k < 8) × (j < 16) }
-    ensures { result ≡ uses (recorderOf r.now) k j }
+    ensures { result ≡ uses (recorder_of r.now) k j }
 {
     r[48 + 16 * k + j] == 1
 }
 
 pub fn device_of(r: &Flat, k: usize) -> Device
     requires { k < 8 }
-    ensures { result ≡ device (recorderOf r.now) k }
+    ensures { result ≡ device (recorder_of r.now) k }
 {
     let at = 176 + 16 * k;
     Device {
@@ -85,15 +85,15 @@ pub fn device_of(r: &Flat, k: usize) -> Device
 // The power of device k at work.
 pub fn work_power(r: &Flat, k: usize) -> u16
     requires { k < 8 }
-    ensures { result ≡ (device (recorderOf r.now) k).pw }
+    ensures { result ≡ (device (recorder_of r.now) k).pw }
 {
     r[178 + 16 * k]
 }
 
 // Its power in the deepest sleep.
 pub fn deep_power(r: &Flat, k: usize) -> u16
-    requires { (k < 8) × Sound (device (recorderOf r.now) k) }
-    ensures { result ≡ deep (device (recorderOf r.now) k) }
+    requires { (k < 8) × Sound (device (recorder_of r.now) k) }
+    ensures { result ≡ deep (device (recorder_of r.now) k) }
 {
     let levels = (r[181 + 16 * k] % 256) as usize;
     r[181 + 16 * k + levels]
@@ -102,7 +102,7 @@ pub fn deep_power(r: &Flat, k: usize) -> u16
 // What a job has in its column: its times, and 1 for each device that it uses.
 fn job_number(job: Job, row: usize) -> u16
     requires { row < 11 }
-    ensures { result ≡ jobNumber job row }
+    ensures { result ≡ job_number job row }
 {
     if row == 0 {
         return job.release;
@@ -119,7 +119,7 @@ fn job_number(job: Job, row: usize) -> u16
 // What a device has in its row.
 fn device_number(device: Device, column: usize) -> u16
     requires { column < 10 }
-    ensures { result ≡ deviceNumber device column }
+    ensures { result ≡ device_number device column }
 {
     if column == 0 {
         return device.shut as u16;
@@ -155,7 +155,7 @@ fn is_numbered(sleeps: Sleeps) -> bool
 // What the recorder has in the last row: the horizon, the counts, 1 for a round, and 1 where sleeps are numbered.
 fn own_number(r: Recorder, column: usize) -> u16
     requires { Valid r }
-    ensures { result ≡ ownNumber r column }
+    ensures { result ≡ own_number r column }
 {
     if column == 0 {
         return r.horizon;
@@ -194,7 +194,7 @@ fn number_of(r: Recorder, row: usize, column: usize) -> u16
 
 pub fn flat_of(r: Recorder) -> Flat
     requires { Valid r }
-    ensures { recorderOf result ≡ r }
+    ensures { recorder_of result ≡ r }
 {
     let mut flat = [0u16; 320];
     let mut i = 0;

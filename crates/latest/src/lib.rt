@@ -2,8 +2,8 @@
 // where job j is one of it.
 ghost use Rattle.std.specs.Prelude.{◌≡◌, suc, ◌-◌, ◌/◌, ◌^◌, ◌<◌, ◌≤◌, min, get_or, length};
 ghost use Rattle.schedule.specs.Quantities.{Valid, jobs};
-ghost use Rattle.flat.specs.inside.Flat.{recorderOf};
-ghost use Rattle.latest.specs.inside.Latest.{slot, offer, latestBy, Laid};
+ghost use Rattle.flat.specs.inside.Flat.{recorder_of};
+ghost use Rattle.latest.specs.inside.Latest.{slot, offer, latest_by, Laid};
 
 use base::later;
 use flat::{Flat, deadline_of, horizon_of, job_count, release_of, run_of};
@@ -47,8 +47,8 @@ pub fn power(n: usize) -> usize
 
 // The set of all jobs.
 pub fn all_jobs(r: &Flat) -> usize
-    requires { Valid (recorderOf r.now) }
-    ensures { result ≡ 2 ^ jobs (recorderOf r.now) - 1 }
+    requires { Valid (recorder_of r.now) }
+    ensures { result ≡ 2 ^ jobs (recorder_of r.now) - 1 }
 {
     power(job_count(r)) - 1
 }
@@ -64,7 +64,7 @@ pub(crate) fn offered(
     best: u16,
 ) -> u16
     requires { (j < 16) × ((m < 65536) × ((p ≡ 2 ^ j) × (rest ≡ m / 2 ^ j))) }
-    ensures { result ≡ offer (recorderOf r.now) (λ i. get_or table.now i 0) m j best }
+    ensures { result ≡ offer (recorder_of r.now) (λ i. get_or table.now i 0) m j best }
 {
     if rest % 2 != 1 {
         return best;
@@ -76,8 +76,8 @@ pub(crate) fn offered(
 
 // The latest of the set m, from those of the smaller sets.
 fn latest_of(r: &Flat, table: &Table, m: usize) -> u16
-    requires { Valid (recorderOf r.now) × (m < 65536) }
-    ensures { result ≡ latestBy (recorderOf r.now) (λ i. get_or table.now i 0) m }
+    requires { Valid (recorder_of r.now) × (m < 65536) }
+    ensures { result ≡ latest_by (recorder_of r.now) (λ i. get_or table.now i 0) m }
 {
     if m == 0 {
         return horizon_of(r) + 1;
@@ -98,8 +98,8 @@ fn latest_of(r: &Flat, table: &Table, m: usize) -> u16
 
 // Fills the table, whatever it held.
 pub fn lay_latest(r: &Flat, table: &mut Table)
-    requires { Valid (recorderOf r.now) × (length table.old ≡ 65536) }
-    ensures { Laid (recorderOf r.now) table.new }
+    requires { Valid (recorder_of r.now) × (length table.old ≡ 65536) }
+    ensures { Laid (recorder_of r.now) table.new }
 {
     let all = all_jobs(r);
     let mut m: usize = 0;

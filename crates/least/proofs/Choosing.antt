@@ -14,16 +14,16 @@ use Rattle.schedule.specs.declared.Recorder.{Recorder}
 use Rattle.schedule.specs.Quantities.{jobs, Valid}
 use Rattle.schedule.specs.Visiting.{Vertex}
 use Rattle.latest.specs.inside.Sets.{has}
-use Rattle.latest.proofs.Members.{has-le}
-use Rattle.value.specs.inside.Options.{lesser, leastIn, Answers}
-use Rattle.value.specs.inside.Leasts.{viaChild, startsTo}
-use Rattle.value.proofs.Waits.{leastTo}
-use Rattle.value.proofs.Tries.{ChosenTo, choosing-start, choosing-placed, choosing-tried, choosing-done}
+use Rattle.latest.proofs.Members.{has_le}
+use Rattle.value.specs.inside.Options.{lesser, least_in, Answers}
+use Rattle.value.specs.inside.Leasts.{via_child, starts_to}
+use Rattle.value.proofs.Waits.{least_to}
+use Rattle.value.proofs.Tries.{ChosenTo, choosing_start, choosing_placed, choosing_tried, choosing_done}
 use Rattle.least.specs.inside.Shown.{Shows, ShownAt}
 use Rattle.least.specs.inside.Effort.{most_of}
 use Rattle.least.specs.inside.Outcome.{Came, told, stopped}
-use Rattle.vertex.proofs.Showing.{set-some, job-in, in-job}
-use Rattle.least.proofs.Counting.{came-stop, came-small, came_from}
+use Rattle.vertex.proofs.Showing.{set_some, job_in_lem, in_job}
+use Rattle.least.proofs.Counting.{came_stop, came_small, came_from}
 
 -- A vertex that is held with jobs unplaced.
 pub record Open (R : Recorder) (l : List ℕ) (a t : ℕ) : Type 0 where
@@ -32,9 +32,9 @@ pub record Open (R : Recorder) (l : List ℕ) (a t : ℕ) : Type 0 where
   pub shows : Shows R l a (suc left) vertex
   pub time : vertex.time ≡ t
 
-pub held-open : (R : Recorder) → Valid R → (l : List ℕ) (a t : ℕ) → ShownAt R l a t → 0 < a → Open R l a t
-held-open R valid l a t h q =
-    let n = set-some R valid l a h.left h.vertex h.shows q in
+pub held_open : (R : Recorder) → Valid R → (l : List ℕ) (a t : ℕ) → ShownAt R l a t → 0 < a → Open R l a t
+held_open R valid l a t h q =
+    let n = set_some R valid l a h.left h.vertex h.shows q in
     record {
       left = n.0;
       vertex = h.vertex;
@@ -43,11 +43,11 @@ held-open R valid l a t h q =
     }
 
 pub has_some : (a j : ℕ) → has a j ≡ true → 0 < a
-has_some a j h = omega (arith, has-le a j h, pow_pos j)
+has_some a j h = omega (arith, has_le a j h, pow_pos j)
 
 -- The starts of job i before u.
 abbrev pub before : Recorder → ℕ → Vertex → ℕ → ℕ → Option ℕ
-before R m v u i = leastIn (viaChild R m v i) (startsTo R v.time u i)
+before R m v u i = least_in (via_child R m v i) (starts_to R v.time u i)
 
 module _ (R : Recorder) (l : List ℕ) (a time until limit budget start : ℕ) where
   -- What `tries` answers for job j, after e vertices and with the least `given` so far.
@@ -63,57 +63,57 @@ module _ (R : Recorder) (l : List ℕ) (a time until limit budget start : ℕ) w
         → (entered ≤ start + j * ((until - time) * most_of R m 0)) × ChosenTo (before R m u until) (has a) limit j best
 
   pub chosen_none : limit ≤ 2147483647 → Chosen 0 start 2147483647
-  chosen_none q = record { small = omega arith; so_far = λ m u h e. (omega arith, choosing-start (before R m u until) (has a) limit 2147483647 q) }
+  chosen_none q = record { small = omega arith; so_far = λ m u h e. (omega arith, choosing_start (before R m u until) (has a) limit 2147483647 q) }
 
-  pub chosen-as : (j e best f x : ℕ) → Chosen j e best → f ≡ e → x ≡ best → Chosen j f x
-  chosen-as j e best f x c p q = rw (p, q) c
+  pub chosen_as : (j e best f x : ℕ) → Chosen j e best → f ≡ e → x ≡ best → Chosen j f x
+  chosen_as j e best f x c p q = rw (p, q) c
 
 module _ (R : Recorder) (valid : Valid R) (l : List ℕ) (a time until limit budget start : ℕ) where
   module _ (j e best : ℕ) (c : Chosen R l a time until limit budget start j e best) where
-    pub chosen-passed : has a j ≡ false → Chosen R l a time until limit budget start (j + 1) e best
-    chosen-passed q =
+    pub chosen_passed : has a j ≡ false → Chosen R l a time until limit budget start (j + 1) e best
+    chosen_passed q =
         rw (add-one j)
         (record {
           small = c.small;
           so_far = λ m u h t.
               let p = c.so_far m u h t in
-              (omega (arith, p.0), choosing-placed (before R m u until) (has a) limit j best p.1 q);
+              (omega (arith, p.0), choosing_placed (before R m u until) (has a) limit j best p.1 q);
         })
 
     module _ (f x : ℕ) (turn : Turn R l a time until limit budget start j best e f x) where
       on : (m : ℕ) (u : Vertex) → Shows R l a (suc m) u → u.time ≡ time
           → Came budget start f (j * ((until - time) * most_of R m 0) + (until - time) * most_of R m 0) x
-          (Answers limit (lesser (leastIn (λ i. cond (has a i) (before R m u until i) none) (up_from 0 j)) (before R m u until j)) x)
+          (Answers limit (lesser (least_in (λ i. cond (has a i) (before R m u until i) none) (up_from 0 j)) (before R m u until j)) x)
       on m u h t =
           let p = c.so_far m u h t in
           came_from start (j * ((until - time) * most_of R m 0)) p.0
-          (turn m u (leastIn (λ i. cond (has a i) (before R m u until i) none) (up_from 0 j)) h t p.1)
+          (turn m u (least_in (λ i. cond (has a i) (before R m u until i) none) (up_from 0 j)) h t p.1)
 
-      pub chosen-tried : ShownAt R l a time → has a j ≡ true → (x ≡ 4294967295 → ⊥) → Chosen R l a time until limit budget start (j + 1) f x
-      chosen-tried held q z =
-          let o = held-open R valid l a time held (has_some a j q) in
+      pub chosen_tried : ShownAt R l a time → has a j ≡ true → (x ≡ 4294967295 → ⊥) → Chosen R l a time until limit budget start (j + 1) f x
+      chosen_tried held q z =
+          let o = held_open R valid l a time held (has_some a j q) in
           rw (add-one j)
-          (record { small = came-small (on o.left o.vertex o.shows o.time) z; so_far = λ m u h t. more m u (on m u h t) })
+          (record { small = came_small (on o.left o.vertex o.shows o.time) z; so_far = λ m u h t. more m u (on m u h t) })
         where
           more : (m : ℕ) (u : Vertex)
               → Came budget start f (j * ((until - time) * most_of R m 0) + (until - time) * most_of R m 0) x
-              (Answers limit (lesser (leastIn (λ i. cond (has a i) (before R m u until i) none) (up_from 0 j)) (before R m u until j)) x)
+              (Answers limit (lesser (least_in (λ i. cond (has a i) (before R m u until i) none) (up_from 0 j)) (before R m u until j)) x)
               → (f ≤ start + suc j * ((until - time) * most_of R m 0)) × ChosenTo (before R m u until) (has a) limit (suc j) x
-          more m u (told small k p) = (omega arith, choosing-tried (before R m u until) (has a) limit j x q p)
+          more m u (told small k p) = (omega arith, choosing_tried (before R m u until) (has a) limit j x q p)
           more m u (stopped k s) = absurd (z k)
 
-      pub chosen-stopped :
+      pub chosen_stopped :
           j < jobs R → x ≡ 4294967295 → (m : ℕ) (u : Vertex) → Shows R l a (suc m) u → u.time ≡ time
-          → Came budget start f (jobs R * ((until - time) * most_of R m 0)) 4294967295 (Answers limit (leastTo R m u until) 4294967295)
-      chosen-stopped b z m u h t =
+          → Came budget start f (jobs R * ((until - time) * most_of R m 0)) 4294967295 (Answers limit (least_to R m u until) 4294967295)
+      chosen_stopped b z m u h t =
           let q : suc j * ((until - time) * most_of R m 0) ≤ jobs R * ((until - time) * most_of R m 0) = mul-le-mul_right ((until - time) * most_of R m 0) b in
-          came-stop (Answers limit (leastTo R m u until) 4294967295) (jobs R * ((until - time) * most_of R m 0)) (omega arith) (on m u h t) z
+          came_stop (Answers limit (least_to R m u until) 4294967295) (jobs R * ((until - time) * most_of R m 0)) (omega arith) (on m u h t) z
 
-  pub chosen-all :
+  pub chosen_all :
       (j e best : ℕ) → Chosen R l a time until limit budget start j e best → j ≡ jobs R → (m : ℕ) (u : Vertex) → Shows R l a (suc m) u → u.time ≡ time
-      → Came budget start e (jobs R * ((until - time) * most_of R m 0)) best (Answers limit (leastTo R m u until) best)
-  chosen-all j e best c q m u h t =
+      → Came budget start e (jobs R * ((until - time) * most_of R m 0)) best (Answers limit (least_to R m u until) best)
+  chosen_all j e best c q m u h t =
       let p = c.so_far m u h t in
       let d = subst (λ (i : ℕ). (e ≤ start + i * ((until - time) * most_of R m 0)) × ChosenTo (before R m u until) (has a) limit i best) q p in
       told c.small d.0
-      (choosing-done (before R m u until) (has a) limit u.unplaced (jobs R) best (in-job R valid l a (suc m) u h) (job-in R valid l a (suc m) u h) d.1)
+      (choosing_done (before R m u until) (has a) limit u.unplaced (jobs R) best (in_job R valid l a (suc m) u h) (job_in_lem R valid l a (suc m) u h) d.1)

@@ -12,32 +12,32 @@ use Rattle.least.specs.inside.Outcome.{Came, told, stopped}
 -- ---- calls
 
 -- A call that stopped stops its caller; one that answered leaves what is made of its answer.
-pub came-stop :
+pub came_stop :
     {b e f n x : ℕ} {P : Type 0} (Q : Type 0) (k : ℕ) → n ≤ k → Came b e f n x P → x ≡ 4294967295 → Came b e f k 4294967295 Q
-came-stop Q k l (told small q p) z = absurd (omega arith)
-came-stop Q k l (stopped q s) z = stopped refl (omega arith)
+came_stop Q k l (told small q p) z = absurd (omega arith)
+came_stop Q k l (stopped q s) z = stopped refl (omega arith)
 
-pub came-go :
+pub came_go :
     {b e f n x : ℕ} {P : Type 0} (Q : Type 0) (k y : ℕ) → n ≤ k → Came b e f n x P → (x ≡ 4294967295 → ⊥)
     → (x ≤ 2147483647 → P → (y ≤ 2147483647) × Q) → Came b e f k y Q
-came-go Q k y l (told small q p) z g = told (g small p).0 (omega arith) (g small p).1
-came-go Q k y l (stopped q s) z g = absurd (z q)
+came_go Q k y l (told small q p) z g = told (g small p).0 (omega arith) (g small p).1
+came_go Q k y l (stopped q s) z g = absurd (z q)
 
-pub came-small : {b e f n x : ℕ} {P : Type 0} → Came b e f n x P → (x ≡ 4294967295 → ⊥) → x ≤ 2147483647
-came-small (told small q p) z = small
-came-small (stopped q s) z = absurd (z q)
+pub came_small : {b e f n x : ℕ} {P : Type 0} → Came b e f n x P → (x ≡ 4294967295 → ⊥) → x ≤ 2147483647
+came_small (told small q p) z = small
+came_small (stopped q s) z = absurd (z q)
 
-pub came-what : {b e f n x : ℕ} {P : Type 0} → Came b e f n x P → (x ≡ 4294967295 → ⊥) → P
-came-what (told small q p) z = p
-came-what (stopped q s) z = absurd (z q)
+pub came_what : {b e f n x : ℕ} {P : Type 0} → Came b e f n x P → (x ≡ 4294967295 → ⊥) → P
+came_what (told small q p) z = p
+came_what (stopped q s) z = absurd (z q)
 
-pub came-count : {b e f n x : ℕ} {P : Type 0} → Came b e f n x P → (x ≡ 4294967295 → ⊥) → f ≤ e + n
-came-count (told small q p) z = q
-came-count (stopped q s) z = absurd (z q)
+pub came_count : {b e f n x : ℕ} {P : Type 0} → Came b e f n x P → (x ≡ 4294967295 → ⊥) → f ≤ e + n
+came_count (told small q p) z = q
+came_count (stopped q s) z = absurd (z q)
 
-pub came-more : {b e f n x : ℕ} {P : Type 0} (k : ℕ) → n ≤ k → Came b e f n x P → Came b e f k x P
-came-more k l (told small q p) = told small (omega arith) p
-came-more k l (stopped q s) = stopped q (omega arith)
+pub came_more : {b e f n x : ℕ} {P : Type 0} (k : ℕ) → n ≤ k → Came b e f n x P → Came b e f k x P
+came_more k l (told small q p) = told small (omega arith) p
+came_more k l (stopped q s) = stopped q (omega arith)
 
 -- After m vertices.
 pub came_from : {b e f n x : ℕ} {P : Type 0} (d m : ℕ) → e ≤ d + m → Came b e f n x P → Came b d f (m + n) x P
@@ -53,30 +53,30 @@ far : (j a x y : ℕ) → 1 ≤ x → j * (x * a) + suc (y * suc (j * a)) ≤ (x
 far j a x y l = omega arith
 
 module _ (R : Recorder) where
-  pub most-less : (m t : ℕ) → most_of R m t ≤ most_of R m 0
+  pub most_less : (m t : ℕ) → most_of R m t ≤ most_of R m 0
   unfolding most_of
-  most-less zero t = omega arith
-  most-less (suc m) t =
+  most_less zero t = omega arith
+  most_less (suc m) t =
       let l : R.horizon - t ≤ R.horizon - 0 = omega arith in
       let q = mul-le-mul_right (suc (jobs R * most_of R m 0)) l in
       omega arith
 
   -- Up to u, and from there on.
-  pub most-near :
+  pub most_near :
       (m t u : ℕ) → t ≤ u → u ≤ R.horizon → jobs R * ((u - t) * most_of R m 0) ≤ (R.horizon - t) * suc (jobs R * most_of R m 0)
-  most-near m t u l b = near (jobs R) (most_of R m 0) (u - t) (R.horizon - t) (omega arith)
+  most_near m t u l b = near (jobs R) (most_of R m 0) (u - t) (R.horizon - t) (omega arith)
 
-  pub most-far :
+  pub most_far :
       (m t u : ℕ) → t < u → u ≤ R.horizon
       → jobs R * ((u - t) * most_of R m 0) + most_of R (suc m) u ≤ (R.horizon - t) * suc (jobs R * most_of R m 0)
   unfolding most_of
-  most-far m t u l b =
+  most_far m t u l b =
       let e : R.horizon - t ≡ (u - t) + (R.horizon - u) = omega arith in
       rw e (far (jobs R) (most_of R m 0) (u - t) (R.horizon - u) (omega arith))
 
-  pub most-own : (m t : ℕ) → most_of R (suc m) t ≡ suc ((R.horizon - t) * suc (jobs R * most_of R m 0))
+  pub most_own : (m t : ℕ) → most_of R (suc m) t ≡ suc ((R.horizon - t) * suc (jobs R * most_of R m 0))
   unfolding most_of
-  most-own m t = refl
+  most_own m t = refl
 
   -- More jobs, more vertices.
   one_more : (m : ℕ) → most_of R m 0 ≤ most_of R (suc m) 0
@@ -88,15 +88,15 @@ module _ (R : Recorder) where
       let k = mul-le-mul_left (R.horizon - 0) l in
       omega arith
 
-  pub most-grow : (m n : ℕ) → m ≤ n → most_of R m 0 ≤ most_of R n 0
-  most-grow m zero l = let e : m ≡ 0 = omega arith in rw e (omega arith)
-  most-grow m (suc n) l =
-      ⊎_elim (λ (e : m ≡ suc n). rw e (omega arith)) (λ (q : m < suc n). omega (arith, most-grow m n (omega arith), one_more n)) (eq-or-lt_of_le l)
+  pub most_grow : (m n : ℕ) → m ≤ n → most_of R m 0 ≤ most_of R n 0
+  most_grow m zero l = let e : m ≡ 0 = omega arith in rw e (omega arith)
+  most_grow m (suc n) l =
+      ⊎_elim (λ (e : m ≡ suc n). rw e (omega arith)) (λ (q : m < suc n). omega (arith, most_grow m n (omega arith), one_more n)) (eq-or-lt_of_le l)
 
   -- All children of a vertex with suc m jobs unplaced are no more than all vertices.
-  pub most-children : (m : ℕ) → suc m ≤ jobs R → jobs R * (R.horizon * most_of R m 0) ≤ most_of R (jobs R) 0
-  most-children m l =
+  pub most_children : (m : ℕ) → suc m ≤ jobs R → jobs R * (R.horizon * most_of R m 0) ≤ most_of R (jobs R) 0
+  most_children m l =
       let q = near (jobs R) (most_of R m 0) R.horizon R.horizon (omega arith) in
       let z : R.horizon - 0 ≡ R.horizon = omega arith in
-      let w : most_of R (suc m) 0 ≡ suc (R.horizon * suc (jobs R * most_of R m 0)) = most-own m 0 ∙ ap (λ (n : ℕ). suc (n * suc (jobs R * most_of R m 0))) z in
-      omega (arith, most-grow (suc m) (jobs R) l)
+      let w : most_of R (suc m) 0 ≡ suc (R.horizon * suc (jobs R * most_of R m 0)) = most_own m 0 ∙ ap (λ (n : ℕ). suc (n * suc (jobs R * most_of R m 0))) z in
+      omega (arith, most_grow (suc m) (jobs R) l)

@@ -17,30 +17,30 @@ use Rattle.schedule.specs.Quantities.{jobs, release, deadline, run, Valid}
 use Rattle.schedule.specs.Visiting.{Vertex, child, earliest}
 use Rattle.schedule.proofs.Runs.{Run}
 use Rattle.latest.specs.inside.Sets.{has}
-use Rattle.latest.specs.inside.Latest.{slot, latestOf, jobsOf, Laid}
-use Rattle.latest.proofs.Members.{has-le}
-use Rattle.latest.proofs.Feasibility.{latest-opens, run-latest}
-use Rattle.latest.proofs.Spared.{reached-set}
+use Rattle.latest.specs.inside.Latest.{slot, latest_of, jobs_of, Laid}
+use Rattle.latest.proofs.Members.{has_le}
+use Rattle.latest.proofs.Feasibility.{latest_opens, run_latest}
+use Rattle.latest.proofs.Spared.{reached_set}
 use Rattle.value.specs.inside.Options.{AtMost, Answers, Holds}
-use Rattle.value.specs.inside.Leasts.{closeOf, leastOf, waited}
-use Rattle.value.proofs.Limits.{answer-exact, answer-raise, answer-less, entry-answers}
-use Rattle.value.proofs.Waits.{leastTo, answer-waited}
-use Rattle.value.proofs.Steps.{wait-over, latest-gone}
+use Rattle.value.specs.inside.Leasts.{close_of, least_of, waited}
+use Rattle.value.proofs.Limits.{answer_exact, answer_raise, answer_less, entry_answers}
+use Rattle.value.proofs.Waits.{least_to, answer_waited}
+use Rattle.value.proofs.Steps.{wait_over, latest_gone}
 use Rattle.extras.specs.inside.Tabled.{Tabled, cap_at}
 use Rattle.stored.specs.declared.Key.{Key}
 use Rattle.least.specs.declared.memory.Spot.{Spot}
-use Rattle.least.specs.inside.Shown.{closesBy, keyBy, Ordered, Placed, Shows, ShownAt}
+use Rattle.least.specs.inside.Shown.{closes_by, key_by, Ordered, Placed, Shows, ShownAt}
 use Rattle.least.specs.inside.Entries.{Looked, kept, known_of}
 use Rattle.least.specs.inside.Effort.{most_of}
 use Rattle.least.specs.inside.Outcome.{Named, Recalls, Lent, Offers, Came, Tried, entered}
-use Rattle.vertex.proofs.Showing.{ordered-later, shown-ordered, closes-shown, set-few, set-none, set-some, child-shown, job-in, in-job}
-use Rattle.least.proofs.Falling.{waited-shown}
-use Rattle.stored.proofs.Keyed.{key-named}
-use Rattle.least.proofs.Keyed.{named-recalls, recalls-none}
-use Rattle.least.proofs.Kept.{right-looked, right_kept}
-use Rattle.least.proofs.Counting.{came-stop, came-go, came-what, came-count, came_from, most-near, most-far, most-own}
-use Rattle.least.proofs.Choosing.{held-open, has_some}
-use Rattle.least.proofs.Trials.{slot-late}
+use Rattle.vertex.proofs.Showing.{ordered_later, shown_ordered, closes_shown, set_few, set_none, set_some, child_shown, job_in_lem, in_job}
+use Rattle.least.proofs.Falling.{waited_shown}
+use Rattle.stored.proofs.Keyed.{key_named}
+use Rattle.least.proofs.Keyed.{named_recalls, recalls_none}
+use Rattle.least.proofs.Kept.{right_looked, right_kept}
+use Rattle.least.proofs.Counting.{came_stop, came_go, came_what, came_count, came_from, most_near, most_far, most_own}
+use Rattle.least.proofs.Choosing.{held_open, has_some}
+use Rattle.least.proofs.Trials.{slot_late}
 
 -- ---- a vertex that is held
 
@@ -48,29 +48,29 @@ module _ (R : Recorder) (valid : Valid R) (l : List ℕ) (a t : ℕ) (h : ShownA
   pub held_by : t ≤ R.horizon
   held_by = omega (arith, h.time, h.shows.reached.time)
 
-  pub held-ordered : Ordered R l t
-  held-ordered = subst (Ordered R l) h.time (shown-ordered R valid l a h.left h.vertex h.shows)
+  pub held_ordered : Ordered R l t
+  held_ordered = subst (Ordered R l) h.time (shown_ordered R valid l a h.left h.vertex h.shows)
 
-  pub held-few : (a < 2 ^ jobs R) × (a < 65536)
-  held-few = set-few R valid l a h.left h.vertex h.shows
+  pub held_few : (a < 2 ^ jobs R) × (a < 65536)
+  held_few = set_few R valid l a h.left h.vertex h.shows
 
-  pub held-later : (u : ℕ) → t ≤ u → u ≤ R.horizon → ShownAt R l a u
-  held-later u q b =
+  pub held_later : (u : ℕ) → t ≤ u → u ≤ R.horizon → ShownAt R l a u
+  held_later u q b =
       record {
         left = h.left;
         vertex = waited R h.vertex u;
-        shows = waited-shown R valid l a h.left h.vertex h.shows u (omega (arith, h.time)) b;
+        shows = waited_shown R valid l a h.left h.vertex h.shows u (omega (arith, h.time)) b;
         time = refl;
       }
 
-  pub held-offers : (j s : ℕ) → j < jobs R → has a j ≡ true → earliest R t j ≤ s → s + run R j ≤ deadline R j → Offers R l a j s
-  held-offers j s known one early late =
-      let o = held-open R valid l a t h (has_some a j one) in
+  pub held_offers : (j s : ℕ) → j < jobs R → has a j ≡ true → earliest R t j ≤ s → s + run R j ≤ deadline R j → Offers R l a j s
+  held_offers j s known one early late =
+      let o = held_open R valid l a t h (has_some a j one) in
       record {
         left = o.left;
         vertex = o.vertex;
         shows = o.shows;
-        job = job-in R valid l a (suc o.left) o.vertex o.shows j known one;
+        job = job_in_lem R valid l a (suc o.left) o.vertex o.shows j known one;
         early = subst (λ (n : ℕ). earliest R n j ≤ s) (sym o.time) early;
         late = late;
       }
@@ -78,62 +78,62 @@ module _ (R : Recorder) (valid : Valid R) (l : List ℕ) (a t : ℕ) (h : ShownA
 -- With jobs unplaced it has one more than some number of them.
 pub some_left :
     (R : Recorder) → Valid R → (l : List ℕ) (a m : ℕ) (u : Vertex) → Shows R l a m u → 0 < a → (t : ℕ) {b e f s x : ℕ}
-    → ((n : ℕ) → Shows R l a (suc n) u → Came b e f (most_of R (suc n) t) x (Answers s (leastOf R (suc n) u) x))
-    → Came b e f (most_of R m t) x (Answers s (leastOf R m u) x)
+    → ((n : ℕ) → Shows R l a (suc n) u → Came b e f (most_of R (suc n) t) x (Answers s (least_of R (suc n) u) x))
+    → Came b e f (most_of R m t) x (Answers s (least_of R m u) x)
 some_left R valid l a m u h q t {b} {e} {f} {s} {x} g =
-    let n = set-some R valid l a m u h q in
-    subst (λ (k : ℕ). Came b e f (most_of R k t) x (Answers s (leastOf R k u) x)) (sym n.1) (g n.0 (subst (λ (k : ℕ). Shows R l a k u) n.1 h))
+    let n = set_some R valid l a m u h q in
+    subst (λ (k : ℕ). Came b e f (most_of R k t) x (Answers s (least_of R k u) x)) (sym n.1) (g n.0 (subst (λ (k : ℕ). Shows R l a k u) n.1 h))
 
 -- ---- a child
 
 module _ (R : Recorder) (valid : Valid R) (l : List ℕ) (a j s : ℕ) (o : Offers R l a j s) where
-  pub offers-known : (j < jobs R) × (j < 16)
-  offers-known = let k = o.shows.reached.known j o.job in (k, omega (arith, valid.few-jobs))
+  pub offers_known : (j < jobs R) × (j < 16)
+  offers_known = let k = o.shows.reached.known j o.job in (k, omega (arith, valid.few_jobs))
 
-  pub offers-end : s + run R j ≤ 4096
-  offers-end = omega (arith, o.late, valid.ends j offers-known.0, valid.few-ticks)
+  pub offers_end : s + run R j ≤ 4096
+  offers_end = omega (arith, o.late, valid.ends j offers_known.0, valid.few_ticks)
 
-  pub offers-ordered : Ordered R l s
-  offers-ordered =
-      ordered-later R valid l o.vertex.time s (shown-ordered R valid l a (suc o.left) o.vertex o.shows) (omega (arith, o.early))
-      (omega (arith, o.late, valid.ends j offers-known.0))
+  pub offers_ordered : Ordered R l s
+  offers_ordered =
+      ordered_later R valid l o.vertex.time s (shown_ordered R valid l a (suc o.left) o.vertex o.shows) (omega (arith, o.early))
+      (omega (arith, o.late, valid.ends j offers_known.0))
 
-  pub offers-bit : (p : ℕ) → p ≡ 2 ^ j → (1 ≤ p) × (p ≤ a)
-  offers-bit p e = let b = has-le a j (in-job R valid l a (suc o.left) o.vertex o.shows j o.job).1 in (omega (arith, pow_pos j), omega arith)
+  pub offers_bit : (p : ℕ) → p ≡ 2 ^ j → (1 ≤ p) × (p ≤ a)
+  offers_bit p e = let b = has_le a j (in_job R valid l a (suc o.left) o.vertex o.shows j o.job).1 in (omega (arith, pow_pos j), omega arith)
 
   module _ (p end : ℕ) (p-is : p ≡ 2 ^ j) (end_is : end ≡ s + run R j) (w : List ℕ) (placed : Placed R l w j s) where
-    pub child-shows : (m : ℕ) (u : Vertex) → Shows R l a (suc m) u → u.time ≤ s → Shows R w (a - p) m (child R u j s)
-    child-shows m u h t =
-        let one = (in-job R valid l a (suc o.left) o.vertex o.shows j o.job).1 in
+    pub child_shows : (m : ℕ) (u : Vertex) → Shows R l a (suc m) u → u.time ≤ s → Shows R w (a - p) m (child R u j s)
+    child_shows m u h t =
+        let one = (in_job R valid l a (suc o.left) o.vertex o.shows j o.job).1 in
         subst (λ (n : ℕ). Shows R w (a - n) m (child R u j s)) (sym p-is)
-        (child-shown R valid l a m u h j s (job-in R valid l a (suc m) u h j offers-known.0 one) (omega (arith, o.early)) o.late w placed)
+        (child_shown R valid l a m u h j s (job_in_lem R valid l a (suc m) u h j offers_known.0 one) (omega (arith, o.early)) o.late w placed)
 
-    pub child-held : ShownAt R w (a - p) end
-    child-held =
+    pub child_held : ShownAt R w (a - p) end
+    child_held =
         record {
           left = o.left;
           vertex = child R o.vertex j s;
-          shows = child-shows o.left o.vertex o.shows (omega (arith, o.early));
+          shows = child_shows o.left o.vertex o.shows (omega (arith, o.early));
           time = sym end_is;
         }
 
 -- ---- a complete vertex
 
-least-end : (R : Recorder) (v : Vertex) → leastOf R 0 v ≡ some (closeOf R v)
-unfolding leastOf
-least-end R v = refl
+least_end : (R : Recorder) (v : Vertex) → least_of R 0 v ≡ some (close_of R v)
+unfolding least_of
+least_end R v = refl
 
-pub complete-answers :
-    (R : Recorder) → Valid R → (l : List ℕ) (a m : ℕ) (v : Vertex) → Shows R l a m v → a ≡ 0 → (s x : ℕ) → x ≡ closesBy R l → Answers s (leastOf R m v) x
-complete-answers R valid l a m v h z s x e =
-    subst (λ (n : ℕ). Answers s (leastOf R n v) x) (sym (set-none R valid l a m v h z))
-    (answer-exact s x (leastOf R 0 v) (least-end R v ∙ ap some (sym (closes-shown R valid l a m v h)) ∙ ap some (sym e)))
+pub complete_answers :
+    (R : Recorder) → Valid R → (l : List ℕ) (a m : ℕ) (v : Vertex) → Shows R l a m v → a ≡ 0 → (s x : ℕ) → x ≡ closes_by R l → Answers s (least_of R m v) x
+complete_answers R valid l a m v h z s x e =
+    subst (λ (n : ℕ). Answers s (least_of R n v) x) (sym (set_none R valid l a m v h z))
+    (answer_exact s x (least_of R 0 v) (least_end R v ∙ ap some (sym (closes_shown R valid l a m v h)) ∙ ap some (sym e)))
 
 -- ---- what is known
 
-known-of : (o : Option ℕ) (best limit : ℕ) → Answers limit o best → Holds o (known_of best limit / 2) (eqb (known_of best limit % 2) 1)
+known_of_lem : (o : Option ℕ) (best limit : ℕ) → Answers limit o best → Holds o (known_of best limit / 2) (eqb (known_of best limit % 2) 1)
 unfolding known_of
-known-of o best limit h =
+known_of_lem o best limit h =
     cond_cases (λ (k : ℕ). Holds o (k / 2) (eqb (k % 2) 1)) (ltb best limit)
     (λ t. exactly best h.low (h.exact (ltb-true best limit t))) (λ t. bounded best h.low)
   where
@@ -157,141 +157,141 @@ enough known slack = go (eqb (known % 2) 1)
     go true e = inl refl
     go false e = inr (leb-true _ _ e)
 
-name-at :
+name_at :
     (R : Recorder) (ex : List ℕ) → Tabled R ex → (l : List ℕ) (a m : ℕ) (u : Vertex) → Shows R l a m u → (time : ℕ) → u.time ≡ time
-    → Named R (cap_at ex) (keyBy R (cap_at ex) l a time) u
-name-at R ex tabled l a m u h time t =
-    subst (λ (n : ℕ). Named R (cap_at ex) (keyBy R (cap_at ex) l a n) u) t (key-named R tabled.valid (cap_at ex) tabled.caps tabled.cap-most l a m u h)
+    → Named R (cap_at ex) (key_by R (cap_at ex) l a time) u
+name_at R ex tabled l a m u h time t =
+    subst (λ (n : ℕ). Named R (cap_at ex) (key_by R (cap_at ex) l a n) u) t (key_named R tabled.valid (cap_at ex) tabled.caps tabled.cap_most l a m u h)
 
 -- Its head fits 29 bits.
-pub head_few : (R : Recorder) (cap : ℕ → ℕ) (l : List ℕ) (a time : ℕ) → a < 65536 → time ≤ 4096 → (keyBy R cap l a time).head < 536870912
-unfolding keyBy
+pub head_few : (R : Recorder) (cap : ℕ → ℕ) (l : List ℕ) (a time : ℕ) → a < 65536 → time ≤ 4096 → (key_by R cap l a time).head < 536870912
+unfolding key_by
 head_few R cap l a time few early = omega arith
 
 module _ (R : Recorder) (ex table memory l : List ℕ) (lent : Lent R ex table memory) (a time : ℕ) (spot : Spot)
-    (looked : Looked memory (keyBy R (cap_at ex) l a time) spot) where
-  holds : (m : ℕ) (u : Vertex) → Shows R l a (suc m) u → u.time ≡ time → Holds (leastOf R (suc m) u) (spot.known / 2) (eqb (spot.known % 2) 1)
+    (looked : Looked memory (key_by R (cap_at ex) l a time) spot) where
+  holds : (m : ℕ) (u : Vertex) → Shows R l a (suc m) u → u.time ≡ time → Holds (least_of R (suc m) u) (spot.known / 2) (eqb (spot.known % 2) 1)
   unfolding Recalls
   holds m u h t =
       let valid = lent.tabled.valid in
-      let q = keyBy R (cap_at ex) l a time in
-      let named = name-at R ex lent.tabled l a (suc m) u h time t in
+      let q = key_by R (cap_at ex) l a time in
+      let named = name_at R ex lent.tabled l a (suc m) u h time t in
       ⊎_elim
-      (λ (z : spot.known ≡ 0). subst (λ (k : ℕ). Holds (leastOf R (suc m) u) (k / 2) (eqb (k % 2) 1)) (sym z)
-      (recalls-none R valid (cap_at ex) lent.tabled.caps lent.tabled.cap-most q m u h.reached named))
+      (λ (z : spot.known ≡ 0). subst (λ (k : ℕ). Holds (least_of R (suc m) u) (k / 2) (eqb (k % 2) 1)) (sym z)
+      (recalls_none R valid (cap_at ex) lent.tabled.caps lent.tabled.cap_most q m u h.reached named))
       (λ (r : Recalls R (cap_at ex) q spot.known). r m u h.reached named)
-      (right-looked (Recalls R (cap_at ex)) memory lent.right q spot looked)
+      (right_looked (Recalls R (cap_at ex)) memory lent.right q spot looked)
 
-  pub known-answers :
+  pub known_answers :
       (slack : ℕ) → (eqb (spot.known % 2) 1 || leb slack (spot.known / 2)) ≡ true → (m : ℕ) (u : Vertex) → Shows R l a (suc m) u → u.time ≡ time
-      → Answers slack (leastOf R (suc m) u) (spot.known / 2)
-  known-answers slack q m u h t =
-      entry-answers slack (spot.known / 2) (eqb (spot.known % 2) 1) (leastOf R (suc m) u) (holds m u h t) (enough spot.known slack q)
+      → Answers slack (least_of R (suc m) u) (spot.known / 2)
+  known_answers slack q m u h t =
+      entry_answers slack (spot.known / 2) (eqb (spot.known % 2) 1) (least_of R (suc m) u) (holds m u h t) (enough spot.known slack q)
 
   -- What is worked out and what was known.
-  pub raised-answers :
-      (limit found : ℕ) (m : ℕ) (u : Vertex) → Shows R l a (suc m) u → u.time ≡ time → Answers limit (leastOf R (suc m) u) found
-      → Answers limit (leastOf R (suc m) u) (max found (spot.known / 2))
-  raised-answers limit found m u h t w = answer-raise limit found (spot.known / 2) (leastOf R (suc m) u) w (holds m u h t).low
+  pub raised_answers :
+      (limit found : ℕ) (m : ℕ) (u : Vertex) → Shows R l a (suc m) u → u.time ≡ time → Answers limit (least_of R (suc m) u) found
+      → Answers limit (least_of R (suc m) u) (max found (spot.known / 2))
+  raised_answers limit found m u h t w = answer_raise limit found (spot.known / 2) (least_of R (suc m) u) w (holds m u h t).low
 
   pub learnt :
       (slack limit b e f found best : ℕ) → slack ≤ limit → spot.known ≤ 4294967295 → best ≡ max found (spot.known / 2) → (found ≡ 4294967295 → ⊥) → (m : ℕ) (u : Vertex)
       → Shows R l a (suc m) u → u.time ≡ time
-      → Came b (e + 1) f ((R.horizon - time) * suc (jobs R * most_of R m 0)) found (Answers limit (leastOf R (suc m) u) found)
-      → Came b e f (most_of R (suc m) time) best (Answers slack (leastOf R (suc m) u) best)
-  learnt slack limit b e f found best q k best-is z m u h t w =
-      came-go (Answers slack (leastOf R (suc m) u) best) (most_of R (suc m) time) best (omega (arith, most-own R m time)) (came_from e 1 (omega arith) w) z
+      → Came b (e + 1) f ((R.horizon - time) * suc (jobs R * most_of R m 0)) found (Answers limit (least_of R (suc m) u) found)
+      → Came b e f (most_of R (suc m) time) best (Answers slack (least_of R (suc m) u) best)
+  learnt slack limit b e f found best q k best_is z m u h t w =
+      came_go (Answers slack (least_of R (suc m) u) best) (most_of R (suc m) time) best (omega (arith, most_own R m time)) (came_from e 1 (omega arith) w) z
       (λ small p. (
         omega arith,
-        answer-less limit slack best (leastOf R (suc m) u) q
-            (subst (λ (n : ℕ). Answers limit (leastOf R (suc m) u) n) (sym best-is) (raised-answers limit found m u h t p)),
+        answer_less limit slack best (least_of R (suc m) u) q
+            (subst (λ (n : ℕ). Answers limit (least_of R (suc m) u) n) (sym best_is) (raised_answers limit found m u h t p)),
       ))
 
-  pub learnt-kept :
+  pub learnt_kept :
       (limit b e f n found best : ℕ) → best ≡ max found (spot.known / 2) → (found ≡ 4294967295 → ⊥) → (m : ℕ) (u : Vertex)
-      → Shows R l a (suc m) u → u.time ≡ time → Came b e f n found (Answers limit (leastOf R (suc m) u) found) → Answers limit (leastOf R (suc m) u) best
-  learnt-kept limit b e f n found best best-is z m u h t w =
-      subst (λ (n : ℕ). Answers limit (leastOf R (suc m) u) n) (sym best-is) (raised-answers limit found m u h t (came-what w z))
+      → Shows R l a (suc m) u → u.time ≡ time → Came b e f n found (Answers limit (least_of R (suc m) u) found) → Answers limit (least_of R (suc m) u) best
+  learnt_kept limit b e f n found best best_is z m u h t w =
+      subst (λ (n : ℕ). Answers limit (least_of R (suc m) u) n) (sym best_is) (raised_answers limit found m u h t (came_what w z))
 
 -- ---- what is remembered
 
-pub kept-lent :
-    (R : Recorder) (ex table memory l : List ℕ) → Lent R ex table memory → (a time : ℕ) → a < 65536 → time ≤ 4096 → (q : Key) → q ≡ keyBy R (cap_at ex) l a time
-    → (m : ℕ) (u : Vertex) → Shows R l a (suc m) u → u.time ≡ time → (best limit : ℕ) → Answers limit (leastOf R (suc m) u) best → (i effort : ℕ) → effort < 8
+pub kept_lent :
+    (R : Recorder) (ex table memory l : List ℕ) → Lent R ex table memory → (a time : ℕ) → a < 65536 → time ≤ 4096 → (q : Key) → q ≡ key_by R (cap_at ex) l a time
+    → (m : ℕ) (u : Vertex) → Shows R l a (suc m) u → u.time ≡ time → (best limit : ℕ) → Answers limit (least_of R (suc m) u) best → (i effort : ℕ) → effort < 8
     → (after : List ℕ) → after ≡ kept memory i q effort (known_of best limit) → Lent R ex table after
-kept-lent R ex table memory l lent a time few early q q-is m u h t best limit w i effort b after after_is =
+kept_lent R ex table memory l lent a time few early q q-is m u h t best limit w i effort b after after_is =
     subst (Lent R ex table) (sym after_is)
     (record {
       tabled = lent.tabled;
       laid = lent.laid;
       right = right_kept (Recalls R (cap_at ex)) memory lent.right q (subst (λ (k : Key). k.head < 536870912) (sym q-is) (head_few R (cap_at ex) l a time few early))
           i effort (known_of best limit) b
-          (named-recalls R lent.tabled.valid (cap_at ex) lent.tabled.caps lent.tabled.cap-most m u h.reached q
-          (subst (λ (k : Key). Named R (cap_at ex) k u) (sym q-is) (name-at R ex lent.tabled l a (suc m) u h time t)) (known_of best limit)
-          (known-of (leastOf R (suc m) u) best limit w));
+          (named_recalls R lent.tabled.valid (cap_at ex) lent.tabled.caps lent.tabled.cap_most m u h.reached q
+          (subst (λ (k : Key). Named R (cap_at ex) k u) (sym q-is) (name_at R ex lent.tabled l a (suc m) u h time t)) (known_of best limit)
+          (known_of_lem (least_of R (suc m) u) best limit w));
     })
 
 -- ---- a child entered
 
-pub tried-entered :
+pub tried_entered :
     (most lead ahead : ℕ) (o : Option ℕ) (x y : ℕ) → y ≡ max x ahead → lead ≤ most → x ≤ 2147483647 → ahead ≤ 2147483647 → Answers (most - lead) o x
     → (y ≤ 2147483647) × Tried most lead ahead o y
-tried-entered most lead ahead o x y e q small low w = (omega arith, subst (λ (z : ℕ). Tried most lead ahead o z) (sym e) (entered q w))
+tried_entered most lead ahead o x y e q small low w = (omega arith, subst (λ (z : ℕ). Tried most lead ahead o z) (sym e) (entered q w))
 
 -- ---- waiting
 
 module _ (R : Recorder) (valid : Valid R) where
   -- From a time at which a set can still be run there is a tick to go.
-  pub alive-early : (a t : ℕ) → 0 < a → t < latestOf R a → t < R.horizon
-  alive-early a t q h =
-      let o = latest-opens R t a (λ z. omega arith) h in
+  pub alive_early : (a t : ℕ) → 0 < a → t < latest_of R a → t < R.horizon
+  alive_early a t q h =
+      let o = latest_opens R t a (λ z. omega arith) h in
       let j = o.0 in
       omega (arith, o.1.fits, valid.runs j o.1.known, valid.ends j o.1.known)
 
   module _ (l : List ℕ) (a m : ℕ) (u : Vertex) (h : Shows R l a (suc m) u) (until : ℕ) (by : until ≤ R.horizon) where
     -- From a time on at which it can't any more, all starts are before.
-    pub over-answers :
-        u.time ≤ until → latestOf R a ≤ until → (limit x : ℕ) → Answers limit (leastTo R m u until) x → Answers limit (leastOf R (suc m) u) x
-    over-answers t q limit x w =
-        let r = reached-set R valid (suc m) u h.reached in
+    pub over_answers :
+        u.time ≤ until → latest_of R a ≤ until → (limit x : ℕ) → Answers limit (least_to R m u until) x → Answers limit (least_of R (suc m) u) x
+    over_answers t q limit x w =
+        let r = reached_set R valid (suc m) u h.reached in
         let few : a < 2 ^ jobs R = subst (λ (n : ℕ). n < 2 ^ jobs R) h.set r.0 in
-        let all : jobsOf R a ≡ u.unplaced = subst (λ (n : ℕ). jobsOf R n ≡ u.unplaced) h.set r.1 in
+        let all : jobs_of R a ≡ u.unplaced = subst (λ (n : ℕ). jobs_of R n ≡ u.unplaced) h.set r.1 in
         subst (λ (o : Option ℕ). Answers limit o x)
-        (sym (wait-over R m u until t
-        (latest-gone R (suc m) (waited R u until) h.reached.size (latestOf R a)
-        (λ p w. run-latest R valid p until a few by (subst (λ (n : List ℕ). Run R until n p) (sym all) w)) q))) w
+        (sym (wait_over R m u until t
+        (latest_gone R (suc m) (waited R u until) h.reached.size (latest_of R a)
+        (λ p w. run_latest R valid p until a few by (subst (λ (n : List ℕ). Run R until n p) (sym all) w)) q))) w
 
-    pub far-answers :
-        u.time ≤ until → (limit near far slack : ℕ) → slack ≡ min near limit → Answers limit (leastTo R m u until) near
-        → Answers slack (leastOf R (suc m) (waited R u until)) far → Answers limit (leastOf R (suc m) u) (min near far)
-    far-answers t limit near far slack e w w' = answer-waited R m u until t limit slack near far w (omega arith) w'
+    pub far_answers :
+        u.time ≤ until → (limit near far slack : ℕ) → slack ≡ min near limit → Answers limit (least_to R m u until) near
+        → Answers slack (least_of R (suc m) (waited R u until)) far → Answers limit (least_of R (suc m) u) (min near far)
+    far_answers t limit near far slack e w w' = answer_waited R m u until t limit slack near far w (omega arith) w'
 
     -- The same of the calls.
     module _ (time : ℕ) (t : u.time ≡ time) (order : time ≤ until) (b e f near limit : ℕ) (z : near ≡ 4294967295 → ⊥)
-        (w : Came b e f (jobs R * ((until - time) * most_of R m 0)) near (Answers limit (leastTo R m u until) near)) where
-      pub near-comes :
-          latestOf R a ≤ until → Came b e f ((R.horizon - time) * suc (jobs R * most_of R m 0)) near (Answers limit (leastOf R (suc m) u) near)
-      near-comes q =
-          came-go (Answers limit (leastOf R (suc m) u) near) ((R.horizon - time) * suc (jobs R * most_of R m 0)) near (most-near R m time until order by) w z
-          (λ small p. (small, over-answers (omega arith) q limit near p))
+        (w : Came b e f (jobs R * ((until - time) * most_of R m 0)) near (Answers limit (least_to R m u until) near)) where
+      pub near_comes :
+          latest_of R a ≤ until → Came b e f ((R.horizon - time) * suc (jobs R * most_of R m 0)) near (Answers limit (least_of R (suc m) u) near)
+      near_comes q =
+          came_go (Answers limit (least_of R (suc m) u) near) ((R.horizon - time) * suc (jobs R * most_of R m 0)) near (most_near R m time until order by) w z
+          (λ small p. (small, over_answers (omega arith) q limit near p))
 
       module _ (later : time < until) (g far slack : ℕ)
-          (w' : Came b f g (most_of R (suc m) until) far (Answers slack (leastOf R (suc m) (waited R u until)) far)) where
-        far-on : Came b e g (jobs R * ((until - time) * most_of R m 0) + most_of R (suc m) until) far (Answers slack (leastOf R (suc m) (waited R u until)) far)
-        far-on = came_from e (jobs R * ((until - time) * most_of R m 0)) (came-count w z) w'
+          (w' : Came b f g (most_of R (suc m) until) far (Answers slack (least_of R (suc m) (waited R u until)) far)) where
+        far_on : Came b e g (jobs R * ((until - time) * most_of R m 0) + most_of R (suc m) until) far (Answers slack (least_of R (suc m) (waited R u until)) far)
+        far_on = came_from e (jobs R * ((until - time) * most_of R m 0)) (came_count w z) w'
 
-        pub far-stops : (Q : Type 0) → far ≡ 4294967295 → Came b e g ((R.horizon - time) * suc (jobs R * most_of R m 0)) 4294967295 Q
-        far-stops Q z' = came-stop Q ((R.horizon - time) * suc (jobs R * most_of R m 0)) (most-far R m time until later by) far-on z'
+        pub far_stops : (Q : Type 0) → far ≡ 4294967295 → Came b e g ((R.horizon - time) * suc (jobs R * most_of R m 0)) 4294967295 Q
+        far_stops Q z' = came_stop Q ((R.horizon - time) * suc (jobs R * most_of R m 0)) (most_far R m time until later by) far_on z'
 
-        pub far-comes :
+        pub far_comes :
             (x : ℕ) → x ≡ min near far → slack ≡ min near limit → (far ≡ 4294967295 → ⊥)
-            → Came b e g ((R.horizon - time) * suc (jobs R * most_of R m 0)) x (Answers limit (leastOf R (suc m) u) x)
-        far-comes x x-is slack-is z' =
-            came-go (Answers limit (leastOf R (suc m) u) x) ((R.horizon - time) * suc (jobs R * most_of R m 0)) x (most-far R m time until later by) far-on z'
+            → Came b e g ((R.horizon - time) * suc (jobs R * most_of R m 0)) x (Answers limit (least_of R (suc m) u) x)
+        far_comes x x-is slack-is z' =
+            came_go (Answers limit (least_of R (suc m) u) x) ((R.horizon - time) * suc (jobs R * most_of R m 0)) x (most_far R m time until later by) far_on z'
             (λ small p. (
               omega arith,
-              subst (λ (n : ℕ). Answers limit (leastOf R (suc m) u) n) (sym x-is)
-                  (far-answers (omega arith) limit near far slack slack-is (came-what w z) p),
+              subst (λ (n : ℕ). Answers limit (least_of R (suc m) u) n) (sym x-is)
+                  (far_answers (omega arith) limit near far slack slack-is (came_what w z) p),
             ))
 
 pub waits : (x h t : ℕ) → (x < h → t < x) → x ≤ h → t ≤ h → t ≤ x
@@ -299,18 +299,18 @@ waits x h t g b q = ⊎_elim (λ (l : x ≡ h). omega arith) (λ (l : x < h). om
 
 -- ---- the starts of a job
 
-pub starts-late : (R : Recorder) (j to until x y : ℕ) → to ≡ min until x → x ≡ slot (release R j) (deadline R j) (run R j) y → (s : ℕ) → s < to → s + run R j ≤ deadline R j
-starts-late R j to until x y e q s b =
-    slot-late (release R j) (deadline R j) (run R j) y s (omega arith)
+pub starts_late : (R : Recorder) (j to until x y : ℕ) → to ≡ min until x → x ≡ slot (release R j) (deadline R j) (run R j) y → (s : ℕ) → s < to → s + run R j ≤ deadline R j
+starts_late R j to until x y e q s b =
+    slot_late (release R j) (deadline R j) (run R j) y s (omega arith)
 
-pub starts-slot :
+pub starts_slot :
     (R : Recorder) (table : List ℕ) → Laid R table → (a p j x : ℕ) → a < 2 ^ jobs R → p ≡ 2 ^ j
-    → x ≡ slot (release R j) (deadline R j) (run R j) (get_or table (a - p) 0) → x ≡ slot (release R j) (deadline R j) (run R j) (latestOf R (a - 2 ^ j))
-starts-slot R table laid a p j x few p-is q =
+    → x ≡ slot (release R j) (deadline R j) (run R j) (get_or table (a - p) 0) → x ≡ slot (release R j) (deadline R j) (run R j) (latest_of R (a - 2 ^ j))
+starts_slot R table laid a p j x few p-is q =
     q ∙ ap (slot (release R j) (deadline R j) (run R j)) (ap (λ (n : ℕ). get_or table (a - n) 0) p-is ∙ laid.laid (a - 2 ^ j) (omega arith))
 
-pub starts-to :
+pub starts_to_lem :
     (R : Recorder) (table : List ℕ) → Laid R table → (a p j to until x : ℕ) → a < 2 ^ jobs R → p ≡ 2 ^ j → to ≡ min until x
     → x ≡ slot (release R j) (deadline R j) (run R j) (get_or table (a - p) 0)
-    → to ≡ min until (slot (release R j) (deadline R j) (run R j) (latestOf R (a - 2 ^ j)))
-starts-to R table laid a p j to until x few p-is e q = e ∙ ap (min until) (starts-slot R table laid a p j x few p-is q)
+    → to ≡ min until (slot (release R j) (deadline R j) (run R j) (latest_of R (a - 2 ^ j)))
+starts_to_lem R table laid a p j to until x few p-is e q = e ∙ ap (min until) (starts_slot R table laid a p j x few p-is q)

@@ -10,54 +10,54 @@ use native.Mathlib.Numerals.{add-one}
 use native.Mathlib.Omega.{arith}
 use lib.Dec.{ltb}
 use borrow.Author.Tests.{ltb-true, ltb-false}
-use Rattle.base.proofs.Cases.{test-cases}
+use Rattle.base.proofs.Cases.{test_cases}
 use Rattle.schedule.specs.declared.Recorder.{Recorder}
 use Rattle.schedule.specs.Quantities.{jobs, release, deadline, run, Valid}
 use Rattle.schedule.specs.Visiting.{Vertex, child, earliest}
-use Rattle.schedule.proofs.Tree.{in-starts, starts-in}
+use Rattle.schedule.proofs.Tree.{in_starts, starts_in_lem}
 use Rattle.latest.specs.inside.Sets.{has}
-use Rattle.latest.specs.inside.Latest.{slot, latestOf}
+use Rattle.latest.specs.inside.Latest.{slot, latest_of}
 use Rattle.value.specs.inside.Options.{plus, Answers}
-use Rattle.value.specs.inside.Leasts.{leadOf, leastOf, viaChild}
-use Rattle.value.proofs.Steps.{answer-hits, hits-answer, lead-misses, none-misses}
-use Rattle.least.specs.inside.Shown.{leadsBy, Shows}
+use Rattle.value.specs.inside.Leasts.{lead_of, least_of, via_child}
+use Rattle.value.proofs.Steps.{answer_hits, hits_answer, lead_misses, none_misses}
+use Rattle.least.specs.inside.Shown.{leads_by, Shows}
 use Rattle.least.specs.inside.Effort.{most_of}
 use Rattle.least.specs.inside.Outcome.{Came, told, stopped}
 use Rattle.least.specs.inside.Readings.{Hit, hit, missed, FirstStart, first, nowhere}
-use Rattle.vertex.proofs.Showing.{leads-shown, job-in}
-use Rattle.least.proofs.Counting.{came-stop, came-go, came_from}
+use Rattle.vertex.proofs.Showing.{leads_shown, job_in_lem}
+use Rattle.least.proofs.Counting.{came_stop, came_go, came_from}
 use Rattle.least.proofs.Trials.{gone}
 
 -- ---- one start
 
 module _ (goal lead n : ℕ) (o : Option ℕ) (e : lead ≡ n) where
-  pub hit-far : goal < lead → Hit goal (plus n o) 0
-  hit-far q = missed (lead-misses goal n o (omega arith))
+  pub hit_far : goal < lead → Hit goal (plus n o) 0
+  hit_far q = missed (lead_misses goal n o (omega arith))
 
   module _ (a : ℕ) (l : lead ≤ goal) (w : Answers (goal - lead + 1) o a) where
-    told-by : Answers (suc (goal - n)) o a
-    told-by = subst (λ (k : ℕ). Answers k o a) (add-one (goal - lead) ∙ ap (λ (k : ℕ). suc (goal - k)) e) w
+    told_by : Answers (suc (goal - n)) o a
+    told_by = subst (λ (k : ℕ). Answers k o a) (add-one (goal - lead) ∙ ap (λ (k : ℕ). suc (goal - k)) e) w
 
-    pub hit-one : lead + a ≡ goal → Hit goal (plus n o) 1
-    hit-one q = hit (answer-hits goal n a o (omega arith) told-by (omega arith))
+    pub hit_one : lead + a ≡ goal → Hit goal (plus n o) 1
+    hit_one q = hit (answer_hits goal n a o (omega arith) told_by (omega arith))
 
-    pub hit-none : (lead + a ≡ goal → ⊥) → Hit goal (plus n o) 0
-    hit-none q = missed (λ z. q (let k = hits-answer goal n a o (omega arith) told-by z in omega arith))
+    pub hit_none : (lead + a ≡ goal → ⊥) → Hit goal (plus n o) 0
+    hit_none q = missed (λ z. q (let k = hits_answer goal n a o (omega arith) told_by z in omega arith))
 
-was-hit : {goal : ℕ} {o : Option ℕ} (x : ℕ) → Hit goal o x → x ≡ 1 → o ≡ some goal
-was-hit x (hit e) z = e
-was-hit x (missed q) z = absurd (omega arith)
+was_hit : {goal : ℕ} {o : Option ℕ} (x : ℕ) → Hit goal o x → x ≡ 1 → o ≡ some goal
+was_hit x (hit e) z = e
+was_hit x (missed q) z = absurd (omega arith)
 
-was-missed : {goal : ℕ} {o : Option ℕ} (x : ℕ) → Hit goal o x → (x ≡ 1 → ⊥) → o ≡ some goal → ⊥
-was-missed x (hit e) z = absurd (z refl)
-was-missed x (missed q) z = q
+was_missed : {goal : ℕ} {o : Option ℕ} (x : ℕ) → Hit goal o x → (x ≡ 1 → ⊥) → o ≡ some goal → ⊥
+was_missed x (hit e) z = absurd (z refl)
+was_missed x (missed q) z = q
 
 -- ---- the loop
 
 -- A start that is not below the slot is too late for the other jobs.
-slot-over : (a d c x y : ℕ) → slot a d c x ≤ y → a ≤ y → y + c ≤ d → x ≤ y + c
+slot_over : (a d c x y : ℕ) → slot a d c x ≤ y → a ≤ y → y + c ≤ d → x ≤ y + c
 unfolding slot
-slot-over a d c x y h l q = go (ltb (a + c) (min x (suc d))) refl h
+slot_over a d c x y h l q = go (ltb (a + c) (min x (suc d))) refl h
   where
     go : (b : Bool) → ltb (a + c) (min x (suc d)) ≡ b → cond b (min x (suc d) - c) 0 ≤ y → x ≤ y + c
     go true t h = omega arith
@@ -70,19 +70,19 @@ module _ (R : Recorder) (l : List ℕ) (a j time goal start from : ℕ) where
     pub high : s - from ≤ R.horizon
     pub so_far :
         (m : ℕ) (u : Vertex) → Shows R l a (suc m) u → u.time ≡ time
-        → (enters ≤ start + (s - from) * most_of R m 0) × ((y : ℕ) → from ≤ y → y < s → viaChild R m u j y ≡ some goal → ⊥)
+        → (enters ≤ start + (s - from) * most_of R m 0) × ((y : ℕ) → from ≤ y → y < s → via_child R m u j y ≡ some goal → ⊥)
 
   pub passed_none : Passed from start
   passed_none = record { low = omega arith; high = omega arith; so_far = λ m u h t. (omega arith, λ y q k z. omega arith) }
 
 module _ (R : Recorder) (valid : Valid R) (l : List ℕ) (a j time goal budget start from to : ℕ) (known : j < jobs R) (one : has a j ≡ true) (from_is : from ≡ earliest R time j) where
-  module _ (s e : ℕ) (c : Passed R l a j time goal start from s e) (late : s + run R j ≤ deadline R j) (f x lead : ℕ) (lead_is : lead ≡ leadsBy R l j s)
-      (turn : (m : ℕ) (u : Vertex) → Shows R l a (suc m) u → u.time ≤ s → lead ≡ leadOf R u j s → Came budget e f (most_of R m 0) x (Hit goal (viaChild R m u j s) x)) where
+  module _ (s e : ℕ) (c : Passed R l a j time goal start from s e) (late : s + run R j ≤ deadline R j) (f x lead : ℕ) (lead_is : lead ≡ leads_by R l j s)
+      (turn : (m : ℕ) (u : Vertex) → Shows R l a (suc m) u → u.time ≤ s → lead ≡ lead_of R u j s → Came budget e f (most_of R m 0) x (Hit goal (via_child R m u j s) x)) where
     on : (m : ℕ) (u : Vertex) → Shows R l a (suc m) u → u.time ≡ time
-        → Came budget start f ((s - from) * most_of R m 0 + most_of R m 0) x (Hit goal (viaChild R m u j s) x)
+        → Came budget start f ((s - from) * most_of R m 0 + most_of R m 0) x (Hit goal (via_child R m u j s) x)
     on m u h t =
         came_from start ((s - from) * most_of R m 0) (c.so_far m u h t).0
-        (turn m u h (omega (arith, c.low, from_is)) (lead_is ∙ leads-shown R valid l a (suc m) u h j s))
+        (turn m u h (omega (arith, c.low, from_is)) (lead_is ∙ leads_shown R valid l a (suc m) u h j s))
 
     enough : (m : ℕ) → (s - from) * most_of R m 0 + most_of R m 0 ≤ R.horizon * most_of R m 0
     enough m =
@@ -90,23 +90,23 @@ module _ (R : Recorder) (valid : Valid R) (l : List ℕ) (a j time goal budget s
         let k = mul-le-mul_right (most_of R m 0) q in
         omega arith
 
-    pub start-stopped :
+    pub start_stopped :
         x ≡ 4294967295 → (m : ℕ) (u : Vertex) → Shows R l a (suc m) u → u.time ≡ time → (Q : Type 0) → Came budget start f (R.horizon * most_of R m 0) 4294967295 Q
-    start-stopped z m u h t Q = came-stop Q (R.horizon * most_of R m 0) (enough m) (on m u h t) z
+    start_stopped z m u h t Q = came_stop Q (R.horizon * most_of R m 0) (enough m) (on m u h t) z
 
-    pub start-found :
+    pub start_found :
         (x ≡ 4294967295 → ⊥) → x ≡ 1 → (m : ℕ) (u : Vertex) → Shows R l a (suc m) u → u.time ≡ time
         → Came budget start f (R.horizon * most_of R m 0) s (FirstStart R m u j goal s)
-    start-found z y m u h t =
-        came-go (FirstStart R m u j goal s) (R.horizon * most_of R m 0) s (enough m) (on m u h t) z
+    start_found z y m u h t =
+        came_go (FirstStart R m u j goal s) (R.horizon * most_of R m 0) s (enough m) (on m u h t) z
         (λ small w. (
-          omega (arith, valid.ends j known, valid.few-ticks),
-          first (starts-in R u.time j s (omega (arith, c.low, from_is)) late) (was-hit x w y)
-              (λ k q i. (c.so_far m u h t).1 k (omega (arith, (in-starts R u.time j k i).0, from_is)) q),
+          omega (arith, valid.ends j known, valid.few_ticks),
+          first (starts_in_lem R u.time j s (omega (arith, c.low, from_is)) late) (was_hit x w y)
+              (λ k q i. (c.so_far m u h t).1 k (omega (arith, (in_starts R u.time j k i).0, from_is)) q),
         ))
 
-    pub passed-next : (x ≡ 4294967295 → ⊥) → (x ≡ 1 → ⊥) → Passed R l a j time goal start from (s + 1) f
-    passed-next z y =
+    pub passed_next : (x ≡ 4294967295 → ⊥) → (x ≡ 1 → ⊥) → Passed R l a j time goal start from (s + 1) f
+    passed_next z y =
         rw (add-one s)
         (record {
           low = omega (arith, c.low);
@@ -115,29 +115,29 @@ module _ (R : Recorder) (valid : Valid R) (l : List ℕ) (a j time goal budget s
         })
       where
         more : (m : ℕ) (u : Vertex) → Shows R l a (suc m) u → u.time ≡ time
-            → Came budget start f ((s - from) * most_of R m 0 + most_of R m 0) x (Hit goal (viaChild R m u j s) x)
-            → (f ≤ start + (suc s - from) * most_of R m 0) × ((k : ℕ) → from ≤ k → k < suc s → viaChild R m u j k ≡ some goal → ⊥)
+            → Came budget start f ((s - from) * most_of R m 0 + most_of R m 0) x (Hit goal (via_child R m u j s) x)
+            → (f ≤ start + (suc s - from) * most_of R m 0) × ((k : ℕ) → from ≤ k → k < suc s → via_child R m u j k ≡ some goal → ⊥)
         more m u h t (stopped k r) = absurd (z k)
         more m u h t (told small q w) =
             let one_more : suc (s - from) ≡ suc s - from = omega (arith, c.low) in (
               rw (← one_more) (omega arith),
               λ k low b p. ⊎_elim
-                  (λ (i : k ≡ s). was-missed x w y (subst (λ (n : ℕ). viaChild R m u j n ≡ some goal) i p))
+                  (λ (i : k ≡ s). was_missed x w y (subst (λ (n : ℕ). via_child R m u j n ≡ some goal) i p))
                   (λ (i : k < s). (c.so_far m u h t).1 k low i p)
                   (eq-or-lt_of_le (omega arith)),
             )
 
-  pub start-nowhere :
-      (s e : ℕ) → Passed R l a j time goal start from s e → to ≡ slot (release R j) (deadline R j) (run R j) (latestOf R (a - 2 ^ j)) → to ≤ s
+  pub start_nowhere :
+      (s e : ℕ) → Passed R l a j time goal start from s e → to ≡ slot (release R j) (deadline R j) (run R j) (latest_of R (a - 2 ^ j)) → to ≤ s
       → (m : ℕ) (u : Vertex) → Shows R l a (suc m) u → u.time ≡ time → Came budget start e (R.horizon * most_of R m 0) 2147483647 (FirstStart R m u j goal 2147483647)
-  start-nowhere s e c to_is q m u h t =
+  start_nowhere s e c to_is q m u h t =
       let k = mul-le-mul_right (most_of R m 0) c.high in
       told (omega arith) (omega (arith, (c.so_far m u h t).0))
       (nowhere (λ y i p.
-      let r = in-starts R u.time j y i in
-      test-cases (λ (b : Bool). ltb y s ≡ b → ⊥) (ltb y s)
+      let r = in_starts R u.time j y i in
+      test_cases (λ (b : Bool). ltb y s ≡ b → ⊥) (ltb y s)
       (λ _ w. (c.so_far m u h t).1 y (omega (arith, r.0, from_is)) (ltb-true y s w) p)
-      (λ _ w. none-misses goal (leadOf R u j y) (leastOf R m (child R u j y))
-      (gone R valid l a m u h j (job-in R valid l a (suc m) u h j known one) y
-      (slot-over (release R j) (deadline R j) (run R j) (latestOf R (a - 2 ^ j)) y (omega (arith, ltb-false y s w)) (omega (arith, r.0)) r.1) r.1) p)
+      (λ _ w. none_misses goal (lead_of R u j y) (least_of R m (child R u j y))
+      (gone R valid l a m u h j (job_in_lem R valid l a (suc m) u h j known one) y
+      (slot_over (release R j) (deadline R j) (run R j) (latest_of R (a - 2 ^ j)) y (omega (arith, ltb-false y s w)) (omega (arith, r.0)) r.1) r.1) p)
       refl))

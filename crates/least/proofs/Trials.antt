@@ -11,43 +11,43 @@ use lib.Dec.{ltb}
 use borrow.Author.Tests.{ltb-true, ltb-false}
 use Rattle.base.specs.Lists.{In, up_from, remove}
 use Rattle.base.proofs.Cases.{cond_cases}
-use Rattle.base.proofs.Numbers.{length-remove}
+use Rattle.base.proofs.Numbers.{length_remove}
 use Rattle.schedule.specs.declared.Recorder.{Recorder}
 use Rattle.schedule.specs.Quantities.{jobs, release, deadline, run, Valid}
 use Rattle.schedule.specs.Visiting.{Vertex, child, earliest}
 use Rattle.schedule.proofs.Runs.{Run}
 use Rattle.latest.specs.inside.Sets.{has}
-use Rattle.latest.specs.inside.Latest.{slot, latestOf, jobsOf}
-use Rattle.latest.proofs.Feasibility.{run-latest, jobs-without}
-use Rattle.latest.proofs.Spared.{reached-set}
-use Rattle.value.specs.inside.Options.{lesser, plus, leastIn, NoMore, Answers}
-use Rattle.value.specs.inside.Leasts.{leadOf, leastOf, viaChild}
-use Rattle.value.proofs.Ticks.{one-tick}
-use Rattle.value.proofs.Steps.{least-span, latest-gone}
-use Rattle.value.proofs.Tries.{Trying, Falling, trying_start, trying-pass, trying-enter}
-use Rattle.extras.specs.inside.Tabled.{Tabled, riseAt, fallAt}
-use Rattle.least.specs.inside.Shown.{leadsBy, fallsBy, Shows, ShownAt}
+use Rattle.latest.specs.inside.Latest.{slot, latest_of, jobs_of}
+use Rattle.latest.proofs.Feasibility.{run_latest, jobs_without}
+use Rattle.latest.proofs.Spared.{reached_set}
+use Rattle.value.specs.inside.Options.{lesser, plus, least_in, NoMore, Answers}
+use Rattle.value.specs.inside.Leasts.{lead_of, least_of, via_child}
+use Rattle.value.proofs.Ticks.{one_tick}
+use Rattle.value.proofs.Steps.{least_span, latest_gone}
+use Rattle.value.proofs.Tries.{Trying, Falling, trying_start, trying_pass, trying_enter}
+use Rattle.extras.specs.inside.Tabled.{Tabled, rise_at, fall_at}
+use Rattle.least.specs.inside.Shown.{leads_by, falls_by, Shows, ShownAt}
 use Rattle.least.specs.inside.Effort.{most_of}
 use Rattle.least.specs.inside.Outcome.{Came, told, stopped, Tried, passed, entered}
-use Rattle.vertex.proofs.Showing.{leads-shown, job-in, in-job}
-use Rattle.least.proofs.Falling.{falls-shown}
-use Rattle.least.proofs.Counting.{came-stop, came-small, came_from}
-use Rattle.least.proofs.Choosing.{held-open, has_some, before}
+use Rattle.vertex.proofs.Showing.{leads_shown, job_in_lem, in_job}
+use Rattle.least.proofs.Falling.{falls_shown}
+use Rattle.least.proofs.Counting.{came_stop, came_small, came_from}
+use Rattle.least.proofs.Choosing.{held_open, has_some, before}
 
 -- ---- which starts
 
 -- One more than the last start of a job, with and without its release.
-slot-span : (a d c x e u : ℕ) → 1 ≤ c → a ≤ e → min u (suc (min (x - 1) d) - c) - e ≡ min u (slot a d c x) - e
+slot_span : (a d c x e u : ℕ) → 1 ≤ c → a ≤ e → min u (suc (min (x - 1) d) - c) - e ≡ min u (slot a d c x) - e
 unfolding slot
-slot-span a d c x e u q l =
+slot_span a d c x e u q l =
     cond_cases (λ (z : ℕ). min u (suc (min (x - 1) d) - c) - e ≡ min u z - e) (ltb (a + c) (min x (suc d)))
-    (λ t. open-one a d c x e u (ltb-true _ _ t)) (λ t. shut a d c x e u q l (ltb-false _ _ t))
+    (λ t. open_one a d c x e u (ltb-true _ _ t)) (λ t. shut a d c x e u q l (ltb-false _ _ t))
   where
     one_less : (x d c : ℕ) → 1 ≤ x → suc (min (x - 1) d) - c ≡ min x (suc d) - c
     one_less x d c q = omega arith
 
-    open-one : (a d c x e u : ℕ) → a + c < min x (suc d) → min u (suc (min (x - 1) d) - c) - e ≡ min u (min x (suc d) - c) - e
-    open-one a d c x e u h = ap (λ (z : ℕ). min u z - e) (one_less x d c (omega arith))
+    open_one : (a d c x e u : ℕ) → a + c < min x (suc d) → min u (suc (min (x - 1) d) - c) - e ≡ min u (min x (suc d) - c) - e
+    open_one a d c x e u h = ap (λ (z : ℕ). min u z - e) (one_less x d c (omega arith))
 
     none_left : (z e u : ℕ) → z ≤ e → min u z - e ≡ min u 0 - e
     none_left z e u l = omega arith
@@ -59,9 +59,9 @@ slot-span a d c x e u q l =
     shut a d c x e u q l h = let k = late a d c x q h in none_left (suc (min (x - 1) d) - c) e u (omega arith)
 
 -- A start below it meets the deadline.
-pub slot-late : (a d c x s : ℕ) → s < slot a d c x → s + c ≤ d
+pub slot_late : (a d c x s : ℕ) → s < slot a d c x → s + c ≤ d
 unfolding slot
-slot-late a d c x s h = go (ltb (a + c) (min x (suc d))) h
+slot_late a d c x s h = go (ltb (a + c) (min x (suc d))) h
   where
     go : (b : Bool) → s < cond b (min x (suc d) - c) 0 → s + c ≤ d
     go true h = omega arith
@@ -69,112 +69,112 @@ slot-late a d c x s h = go (ltb (a + c) (min x (suc d))) h
 
 module _ (R : Recorder) (valid : Valid R) (l : List ℕ) (a m : ℕ) (v : Vertex) (h : Shows R l a (suc m) v) (j : ℕ) (i : In j v.unplaced) where
   -- From where on the other jobs can't be run any more.
-  pub gone : (x : ℕ) → latestOf R (a - 2 ^ j) ≤ x + run R j → x + run R j ≤ deadline R j → leastOf R m (child R v j x) ≡ none
+  pub gone : (x : ℕ) → latest_of R (a - 2 ^ j) ≤ x + run R j → x + run R j ≤ deadline R j → least_of R m (child R v j x) ≡ none
   gone x q late =
       let known = h.reached.known j i in
-      let r = reached-set R valid (suc m) v h.reached in
+      let r = reached_set R valid (suc m) v h.reached in
       let few : a < 2 ^ jobs R = subst (λ (n : ℕ). n < 2 ^ jobs R) h.set r.0 in
-      let all : jobsOf R a ≡ v.unplaced = subst (λ (n : ℕ). jobsOf R n ≡ v.unplaced) h.set r.1 in
-      let e : jobsOf R (a - 2 ^ j) ≡ remove j v.unplaced = jobs-without R a j known (in-job R valid l a (suc m) v h j i).1 ∙ ap (remove j) all in
-      latest-gone R m (child R v j x) (omega (arith, h.reached.size, length-remove j v.unplaced i)) (latestOf R (a - 2 ^ j))
-      (λ p w. run-latest R valid p (x + run R j) (a - 2 ^ j) (omega arith) (omega (arith, valid.ends j known)) (subst (λ (u : List ℕ). Run R (x + run R j) u p) (sym e) w)) q
+      let all : jobs_of R a ≡ v.unplaced = subst (λ (n : ℕ). jobs_of R n ≡ v.unplaced) h.set r.1 in
+      let e : jobs_of R (a - 2 ^ j) ≡ remove j v.unplaced = jobs_without R a j known (in_job R valid l a (suc m) v h j i).1 ∙ ap (remove j) all in
+      latest_gone R m (child R v j x) (omega (arith, h.reached.size, length_remove j v.unplaced i)) (latest_of R (a - 2 ^ j))
+      (λ p w. run_latest R valid p (x + run R j) (a - 2 ^ j) (omega arith) (omega (arith, valid.ends j known)) (subst (λ (u : List ℕ). Run R (x + run R j) u p) (sym e) w)) q
 
-  pub span-is :
+  pub span_is :
       (u : ℕ) → before R m v u j
-      ≡ leastIn (viaChild R m v j) (up_from (earliest R v.time j) (min u (slot (release R j) (deadline R j) (run R j) (latestOf R (a - 2 ^ j))) - earliest R v.time j))
-  span-is u =
+      ≡ least_in (via_child R m v j) (up_from (earliest R v.time j) (min u (slot (release R j) (deadline R j) (run R j) (latest_of R (a - 2 ^ j))) - earliest R v.time j))
+  span_is u =
       let known = h.reached.known j i in
-      least-span R m v j u (latestOf R (a - 2 ^ j) - 1) (λ x q late. gone x (omega arith) late)
-      ∙ ap (λ (n : ℕ). leastIn (viaChild R m v j) (up_from (earliest R v.time j) n))
-      (slot-span (release R j) (deadline R j) (run R j) (latestOf R (a - 2 ^ j)) (earliest R v.time j) u (valid.runs j known) (omega arith))
+      least_span R m v j u (latest_of R (a - 2 ^ j) - 1) (λ x q late. gone x (omega arith) late)
+      ∙ ap (λ (n : ℕ). least_in (via_child R m v j) (up_from (earliest R v.time j) n))
+      (slot_span (release R j) (deadline R j) (run R j) (latest_of R (a - 2 ^ j)) (earliest R v.time j) u (valid.runs j known) (omega arith))
 
 same_span :
-    (f : ℕ → Option ℕ) (from to s y w : ℕ) → from ≡ y → to ≡ w → s - from ≡ to - from → leastIn f (up_from y (w - y)) ≡ leastIn f (up_from from (s - from))
+    (f : ℕ → Option ℕ) (from to s y w : ℕ) → from ≡ y → to ≡ w → s - from ≡ to - from → least_in f (up_from y (w - y)) ≡ least_in f (up_from from (s - from))
 same_span f from to s y w q r n =
     let e : w - y ≡ s - from = omega arith in
-    subst (λ (z : ℕ). leastIn f (up_from z (w - y)) ≡ leastIn f (up_from from (s - from))) q (ap (λ (k : ℕ). leastIn f (up_from from k)) e)
+    subst (λ (z : ℕ). least_in f (up_from z (w - y)) ≡ least_in f (up_from from (s - from))) q (ap (λ (k : ℕ). least_in f (up_from from k)) e)
 
 -- ---- the loop
 
 -- One start more.
-tried-on :
+tried_on :
     (R : Recorder) (m : ℕ) (v : Vertex) (j from to limit drop : ℕ) (o : Option ℕ) → Falling R m v j from to limit drop o → (i best ahead z lead : ℕ)
-    → Trying R m v j from to limit drop o i best ahead → from + i < to → lead ≡ leadOf R v j (from + i)
-    → Tried (min limit best) lead ahead (leastOf R m (child R v j (from + i))) z → Trying R m v j from to limit drop o (suc i) (min best (lead + z)) (z - drop)
-tried-on R m v j from to limit drop o falling i best ahead z lead t b e (passed q) =
+    → Trying R m v j from to limit drop o i best ahead → from + i < to → lead ≡ lead_of R v j (from + i)
+    → Tried (min limit best) lead ahead (least_of R m (child R v j (from + i))) z → Trying R m v j from to limit drop o (suc i) (min best (lead + z)) (z - drop)
+tried_on R m v j from to limit drop o falling i best ahead z lead t b e (passed q) =
     subst (λ (n : ℕ). Trying R m v j from to limit drop o (suc i) (min best (n + ahead)) (ahead - drop)) (sym e)
-    (trying-pass R m v j from to limit drop o falling i best ahead t b (subst (λ (n : ℕ). min limit best ≤ n + ahead) e q))
-tried-on R m v j from to limit drop o falling i best ahead z lead t b e (entered {x} q h) =
+    (trying_pass R m v j from to limit drop o falling i best ahead t b (subst (λ (n : ℕ). min limit best ≤ n + ahead) e q))
+tried_on R m v j from to limit drop o falling i best ahead z lead t b e (entered {x} q h) =
     subst (λ (n : ℕ). Trying R m v j from to limit drop o (suc i) (min best (n + max x ahead)) (max x ahead - drop)) (sym e)
-    (trying-enter R m v j from to limit drop o falling i best ahead x t b (subst (λ (n : ℕ). n ≤ min limit best) e q)
-    (subst (λ (n : ℕ). Answers (min limit best - n) (leastOf R m (child R v j (from + i))) x) e h))
+    (trying_enter R m v j from to limit drop o falling i best ahead x t b (subst (λ (n : ℕ). n ≤ min limit best) e q)
+    (subst (λ (n : ℕ). Answers (min limit best - n) (least_of R m (child R v j (from + i))) x) e h))
 
 module _ (R : Recorder) (l : List ℕ) (a j time limit given budget start from to drop : ℕ) where
   pub record Trial (s enters best ahead : ℕ) : Type 0 where
     pub low : from ≤ s
     pub high : s - from ≤ to - from
     pub small : best ≤ 2147483647
-    pub small-ahead : ahead ≤ 2147483647
+    pub small_ahead : ahead ≤ 2147483647
     pub so_far :
         (m : ℕ) (u : Vertex) (o : Option ℕ) → Shows R l a (suc m) u → u.time ≡ time → Answers limit o given
         → (enters ≤ start + (s - from) * most_of R m 0) × Trying R m u j from to limit drop o (s - from) best ahead
 
-  pub trial-start : given ≤ 2147483647 → Trial from start given 0
-  trial-start q =
+  pub trial_start : given ≤ 2147483647 → Trial from start given 0
+  trial_start q =
       record {
         low = omega arith;
         high = omega arith;
         small = q;
-        small-ahead = omega arith;
+        small_ahead = omega arith;
         so_far = λ m u o h t p.
             let e : 0 ≡ from - from = omega arith in
             (omega arith, subst (λ (i : ℕ). Trying R m u j from to limit drop o i given 0) e (trying_start R m u j from to limit drop o given p));
       }
 
-  pub trial-as : (s e best ahead f x y : ℕ) → Trial s e best ahead → f ≡ e → x ≡ best → y ≡ ahead → Trial s f x y
-  trial-as s e best ahead f x y c p q r = rw (p, q, r) c
+  pub trial_as : (s e best ahead f x y : ℕ) → Trial s e best ahead → f ≡ e → x ≡ best → y ≡ ahead → Trial s f x y
+  trial_as s e best ahead f x y c p q r = rw (p, q, r) c
 
 module _ (R : Recorder) (valid : Valid R) (l : List ℕ) (a j time limit given budget start from to drop : ℕ) where
   module _ (s e best ahead : ℕ) (c : Trial R l a j time limit given budget start from to drop s e best ahead) (b : s < to) (f x lead most : ℕ) (most-is : most ≡ min limit best)
-      (turn : (m : ℕ) (u : Vertex) → Shows R l a (suc m) u → u.time ≤ s → Came budget e f (most_of R m 0) x (Tried most lead ahead (leastOf R m (child R u j s)) x))
+      (turn : (m : ℕ) (u : Vertex) → Shows R l a (suc m) u → u.time ≤ s → Came budget e f (most_of R m 0) x (Tried most lead ahead (least_of R m (child R u j s)) x))
       (by : time ≤ s) where
     on : (m : ℕ) (u : Vertex) (o : Option ℕ) → Shows R l a (suc m) u → u.time ≡ time → Answers limit o given
-        → Came budget start f ((s - from) * most_of R m 0 + most_of R m 0) x (Tried (min limit best) lead ahead (leastOf R m (child R u j s)) x)
+        → Came budget start f ((s - from) * most_of R m 0 + most_of R m 0) x (Tried (min limit best) lead ahead (least_of R m (child R u j s)) x)
     on m u o h t p =
         came_from start ((s - from) * most_of R m 0) (c.so_far m u o h t p).0
-        (subst (λ (n : ℕ). Came budget e f (most_of R m 0) x (Tried n lead ahead (leastOf R m (child R u j s)) x)) most-is (turn m u h (omega arith)))
+        (subst (λ (n : ℕ). Came budget e f (most_of R m 0) x (Tried n lead ahead (least_of R m (child R u j s)) x)) most-is (turn m u h (omega arith)))
 
-    pub trial-stopped :
+    pub trial_stopped :
         (n : ℕ) → to - from ≤ n → x ≡ 4294967295 → (m : ℕ) (u : Vertex) (o : Option ℕ) → Shows R l a (suc m) u → u.time ≡ time → Answers limit o given
         → (Q : Type 0) → Came budget start f (n * most_of R m 0) 4294967295 Q
-    trial-stopped n q z m u o h t p Q =
+    trial_stopped n q z m u o h t p Q =
         let r : suc (s - from) * most_of R m 0 ≤ n * most_of R m 0 = mul-le-mul_right (most_of R m 0) (omega (arith, c.low)) in
-        came-stop Q (n * most_of R m 0) (omega arith) (on m u o h t p) z
+        came_stop Q (n * most_of R m 0) (omega arith) (on m u o h t p) z
 
     module _ (ex : List ℕ) (tabled : Tabled R ex) (held : ShownAt R l a time) (known : j < jobs R) (one : has a j ≡ true) (early : earliest R time j ≤ from)
-        (late : (y : ℕ) → y < to → y + run R j ≤ deadline R j) (drop-is : drop ≡ fallsBy R (riseAt ex) (fallAt ex) l j) (lead_is : lead ≡ leadsBy R l j s)
+        (late : (y : ℕ) → y < to → y + run R j ≤ deadline R j) (drop-is : drop ≡ falls_by R (rise_at ex) (fall_at ex) l j) (lead_is : lead ≡ leads_by R l j s)
         (z : x ≡ 4294967295 → ⊥) where
       falling : (m : ℕ) (u : Vertex) (o : Option ℕ) → Shows R l a (suc m) u → u.time ≡ time → Falling R m u j from to limit drop o
       falling m u o h t y q k =
-          subst (λ (d : ℕ). NoMore (leastOf R m (child R u j y)) (plus d (leastOf R m (child R u j (suc y)))))
-          (sym (drop-is ∙ falls-shown R valid l a (suc m) u h (riseAt ex) (fallAt ex) j))
-          (one-tick R valid m u h.reached j y (job-in R valid l a (suc m) u h j known one) (subst (λ (n : ℕ). earliest R n j ≤ y) (sym t) (omega arith)) (late (suc y) k)
-          (riseAt ex) (fallAt ex) tabled.rises tabled.falls)
+          subst (λ (d : ℕ). NoMore (least_of R m (child R u j y)) (plus d (least_of R m (child R u j (suc y)))))
+          (sym (drop-is ∙ falls_shown R valid l a (suc m) u h (rise_at ex) (fall_at ex) j))
+          (one_tick R valid m u h.reached j y (job_in_lem R valid l a (suc m) u h j known one) (subst (λ (n : ℕ). earliest R n j ≤ y) (sym t) (omega arith)) (late (suc y) k)
+          (rise_at ex) (fall_at ex) tabled.rises tabled.falls)
 
-      pub trial-next : Trial R l a j time limit given budget start from to drop (s + 1) f (min best (lead + x)) (x - drop)
-      trial-next =
-          let o = held-open R valid l a time held (has_some a j one) in
+      pub trial_next : Trial R l a j time limit given budget start from to drop (s + 1) f (min best (lead + x)) (x - drop)
+      trial_next =
+          let o = held_open R valid l a time held (has_some a j one) in
           rw (add-one s)
           (record {
             low = omega (arith, c.low);
             high = omega (arith, c.low, c.high);
             small = omega (arith, c.small);
-            small-ahead = omega (arith, came-small (turn o.left o.vertex o.shows (omega (arith, o.time))) z);
+            small_ahead = omega (arith, came_small (turn o.left o.vertex o.shows (omega (arith, o.time))) z);
             so_far = λ m u p h t q. more m u p h t q (on m u p h t q);
           })
         where
           more : (m : ℕ) (u : Vertex) (o : Option ℕ) → Shows R l a (suc m) u → u.time ≡ time → Answers limit o given
-              → Came budget start f ((s - from) * most_of R m 0 + most_of R m 0) x (Tried (min limit best) lead ahead (leastOf R m (child R u j s)) x)
+              → Came budget start f ((s - from) * most_of R m 0 + most_of R m 0) x (Tried (min limit best) lead ahead (least_of R m (child R u j s)) x)
               → (f ≤ start + (suc s - from) * most_of R m 0) × Trying R m u j from to limit drop o (suc s - from) (min best (lead + x)) (x - drop)
           more m u o h t p (stopped k r) = absurd (z k)
           more m u o h t p (told small k r) =
@@ -182,23 +182,23 @@ module _ (R : Recorder) (valid : Valid R) (l : List ℕ) (a j time limit given b
               let one_more : suc (s - from) ≡ suc s - from = omega (arith, c.low) in (
                 rw (← one_more) (omega arith),
                 subst (λ (n : ℕ). Trying R m u j from to limit drop o n (min best (lead + x)) (x - drop)) one_more
-                    (tried-on R m u j from to limit drop o (falling m u o h t) (s - from) best ahead x lead (c.so_far m u o h t p).1 (omega arith)
-                    (lead_is ∙ leads-shown R valid l a (suc m) u h j s ∙ ap (leadOf R u j) at)
-                    (subst (λ (n : ℕ). Tried (min limit best) lead ahead (leastOf R m (child R u j n)) x) at r)),
+                    (tried_on R m u j from to limit drop o (falling m u o h t) (s - from) best ahead x lead (c.so_far m u o h t p).1 (omega arith)
+                    (lead_is ∙ leads_shown R valid l a (suc m) u h j s ∙ ap (lead_of R u j) at)
+                    (subst (λ (n : ℕ). Tried (min limit best) lead ahead (least_of R m (child R u j n)) x) at r)),
               )
 
-  pub trial-end :
+  pub trial_end :
       (until : ℕ) → j < jobs R → has a j ≡ true → from ≡ earliest R time j
-      → to ≡ min until (slot (release R j) (deadline R j) (run R j) (latestOf R (a - 2 ^ j)))
+      → to ≡ min until (slot (release R j) (deadline R j) (run R j) (latest_of R (a - 2 ^ j)))
       → (s e best ahead : ℕ) → Trial R l a j time limit given budget start from to drop s e best ahead → to ≤ s → (m : ℕ) (u : Vertex) (o : Option ℕ) → Shows R l a (suc m) u → u.time ≡ time → Answers limit o given
       → Came budget start e ((until - time) * most_of R m 0) best (Answers limit (lesser o (before R m u until j)) best)
-  trial-end until known one from_is to_is s e best ahead c q m u o h t p =
+  trial_end until known one from_is to_is s e best ahead c q m u o h t p =
       let d = c.so_far m u o h t p in
       let n : s - from ≡ to - from = omega (arith, c.high) in
       let r : (s - from) * most_of R m 0 ≤ (until - time) * most_of R m 0 = mul-le-mul_right (most_of R m 0) (omega (arith, c.high)) in
-      let i = job-in R valid l a (suc m) u h j known one in
-      let w : before R m u until j ≡ leastIn (viaChild R m u j) (up_from from (s - from)) =
-      span-is R valid l a m u h j i until ∙ same_span (viaChild R m u j) from to s (earliest R u.time j) (min until (slot (release R j) (deadline R j) (run R j) (latestOf R (a - 2 ^ j))))
+      let i = job_in_lem R valid l a (suc m) u h j known one in
+      let w : before R m u until j ≡ least_in (via_child R m u j) (up_from from (s - from)) =
+      span_is R valid l a m u h j i until ∙ same_span (via_child R m u j) from to s (earliest R u.time j) (min until (slot (release R j) (deadline R j) (run R j) (latest_of R (a - 2 ^ j))))
       (subst (λ (k : ℕ). from ≡ earliest R k j) (sym t) from_is) to_is n in
       told c.small (omega (arith, d.0))
       (subst (λ (z : Option ℕ). Answers limit (lesser o z) best) (sym w) d.1.answers)

@@ -1,10 +1,10 @@
 // By how much the rest may fall from one start of a job to the next; how long a vertex waits.
 ghost use Rattle.std.specs.Prelude.{◌≡◌, cond, ◌+◌, ◌-◌, ◌<◌, ◌≤◌};
 ghost use Rattle.schedule.specs.Quantities.{uses};
-ghost use Rattle.flat.specs.inside.Flat.{recorderOf};
+ghost use Rattle.flat.specs.inside.Flat.{recorder_of};
 ghost use Rattle.vertex.specs.inside.Shown.{unused};
-ghost use Rattle.extras.specs.inside.Tabled.{Tabled, riseAt, fallAt};
-ghost use Rattle.least.specs.inside.Shown.{fallsBy, Ordered};
+ghost use Rattle.extras.specs.inside.Tabled.{Tabled, rise_at, fall_at};
+ghost use Rattle.least.specs.inside.Shown.{falls_by, Ordered};
 
 use base::{smaller, wide};
 use extras::{cap_of, fall_of, rise_of};
@@ -14,8 +14,8 @@ use vertex::gaps::is_unused;
 
 // By how much device k can lower the rest, where job j starts one tick later.
 fn fall_with(r: &Flat, extras: &[u32], round: bool, k: usize, j: usize, end: u32) -> u32
-    requires { Tabled (recorderOf r.now) extras.now × ((k < (recorderOf r.now).devices.count) × (j < 16)) }
-    ensures { (result ≡ cond (uses (recorderOf r.now) k j) (cond (unused round end) (riseAt extras.now k + fallAt extras.now k) (riseAt extras.now k)) 0) × (result ≤ 536862720) }
+    requires { Tabled (recorder_of r.now) extras.now × ((k < (recorder_of r.now).devices.count) × (j < 16)) }
+    ensures { (result ≡ cond (uses (recorder_of r.now) k j) (cond (unused round end) (rise_at extras.now k + fall_at extras.now k) (rise_at extras.now k)) 0) × (result ≤ 536862720) }
 {
     if is_used(r, k, j) {
         if is_unused(round, end) {
@@ -28,8 +28,8 @@ fn fall_with(r: &Flat, extras: &[u32], round: bool, k: usize, j: usize, end: u32
 
 // By how much all devices can.
 pub fn falls_of(r: &Flat, extras: &[u32], v: &Cells, j: usize) -> u32
-    requires { Tabled (recorderOf r.now) extras.now × (j < 16) }
-    ensures { result ≡ fallsBy (recorderOf r.now) (riseAt extras.now) (fallAt extras.now) v.now j }
+    requires { Tabled (recorder_of r.now) extras.now × (j < 16) }
+    ensures { result ≡ falls_by (recorder_of r.now) (rise_at extras.now) (fall_at extras.now) v.now j }
 {
     let round = is_round(r);
     let m = device_count(r);
@@ -62,8 +62,8 @@ fn wait_with(cap: u32, unused: bool, end: u32, ahead: u32, time: u32, until: u32
 // Up to which time a vertex looks at starts itself; from there on it is the same vertex at that time. It is when one more device has reached its cap; with all there,
 // the next step of 32 ticks; or the horizon.
 pub fn wait_of(r: &Flat, extras: &[u32], v: &Cells, time: u32) -> u32
-    requires { Tabled (recorderOf r.now) extras.now × Ordered (recorderOf r.now) v.now time }
-    ensures { (result ≤ (recorderOf r.now).horizon) × (result < (recorderOf r.now).horizon → time < result) }
+    requires { Tabled (recorder_of r.now) extras.now × Ordered (recorder_of r.now) v.now time }
+    ensures { (result ≤ (recorder_of r.now).horizon) × (result < (recorder_of r.now).horizon → time < result) }
 {
     let round = is_round(r);
     let m = device_count(r);

@@ -3,10 +3,10 @@ ghost use Rattle.std.specs.Prelude.{◌≡◌, true, ℕ, suc, ◌-◌, ◌*◌,
 ghost use Rattle.std.proofs.Math.Option.{some};
 ghost use Rattle.schedule.specs.Quantities.{jobs};
 ghost use Rattle.schedule.specs.Visiting.{Vertex};
-ghost use Rattle.flat.specs.inside.Flat.{recorderOf};
+ghost use Rattle.flat.specs.inside.Flat.{recorder_of};
 ghost use Rattle.latest.specs.inside.Sets.{has};
-ghost use Rattle.latest.specs.inside.Latest.{latestOf};
-ghost use Rattle.value.specs.inside.Leasts.{leadOf, leastOf, viaChild, FirstChild};
+ghost use Rattle.latest.specs.inside.Latest.{latest_of};
+ghost use Rattle.value.specs.inside.Leasts.{lead_of, least_of, via_child, FirstChild};
 ghost use Rattle.least.specs.inside.Shown.{Shows, ShownAt};
 ghost use Rattle.least.specs.inside.Effort.{most_of};
 ghost use Rattle.least.specs.inside.Outcome.{Lent, Offers, Came, ReadOff};
@@ -44,9 +44,9 @@ fn hits(
     lead: u32,
     goal: u32,
 ) -> u32
-    requires { Lent (recorderOf r.now) extras.now latest.now memory.old × ((entered.old ≤ budget) × (Offers (recorderOf r.now) v.now set j s × ((p ≡ 2 ^ j) × (goal ≤ 2147450880)))) }
-    ensures lent { Lent (recorderOf r.now) extras.now latest.now memory.new × (entered.new ≤ budget) }
-    ensures answer { (m : ℕ) (u : Vertex) → Shows (recorderOf r.now) v.now set (suc m) u → u.time ≤ s → lead ≡ leadOf (recorderOf r.now) u j s → Came budget entered.old entered.new (most_of (recorderOf r.now) m 0) result (Hit goal (viaChild (recorderOf r.now) m u j s) result) }
+    requires { Lent (recorder_of r.now) extras.now latest.now memory.old × ((entered.old ≤ budget) × (Offers (recorder_of r.now) v.now set j s × ((p ≡ 2 ^ j) × (goal ≤ 2147450880)))) }
+    ensures lent { Lent (recorder_of r.now) extras.now latest.now memory.new × (entered.new ≤ budget) }
+    ensures answer { (m : ℕ) (u : Vertex) → Shows (recorder_of r.now) v.now set (suc m) u → u.time ≤ s → lead ≡ lead_of (recorder_of r.now) u j s → Came budget entered.old entered.new (most_of (recorder_of r.now) m 0) result (Hit goal (via_child (recorder_of r.now) m u j s) result) }
 {
     if goal < lead {
         return 0;
@@ -88,9 +88,9 @@ fn first_start(
     time: u32,
     goal: u32,
 ) -> u32
-    requires { Lent (recorderOf r.now) extras.now latest.now memory.old × ((entered.old ≤ budget) × (ShownAt (recorderOf r.now) v.now set time × ((goal ≤ 2147450880) × ((j < jobs (recorderOf r.now)) × ((has set j ≡ true) × (p ≡ 2 ^ j)))))) }
-    ensures lent { Lent (recorderOf r.now) extras.now latest.now memory.new × (entered.new ≤ budget) }
-    ensures answer { (m : ℕ) (u : Vertex) → Shows (recorderOf r.now) v.now set (suc m) u → u.time ≡ time → Came budget entered.old entered.new ((recorderOf r.now).horizon * most_of (recorderOf r.now) m 0) result (FirstStart (recorderOf r.now) m u j goal result) }
+    requires { Lent (recorder_of r.now) extras.now latest.now memory.old × ((entered.old ≤ budget) × (ShownAt (recorder_of r.now) v.now set time × ((goal ≤ 2147450880) × ((j < jobs (recorder_of r.now)) × ((has set j ≡ true) × (p ≡ 2 ^ j)))))) }
+    ensures lent { Lent (recorder_of r.now) extras.now latest.now memory.new × (entered.new ≤ budget) }
+    ensures answer { (m : ℕ) (u : Vertex) → Shows (recorder_of r.now) v.now set (suc m) u → u.time ≡ time → Came budget entered.old entered.new ((recorder_of r.now).horizon * most_of (recorder_of r.now) m 0) result (FirstStart (recorder_of r.now) m u j goal result) }
 {
     let to = last_of(r, latest, set - p, j);
     let mut s = larger(time, wide(release_of(r, j)));
@@ -124,9 +124,9 @@ fn first_child(
     time: u32,
     goal: u32,
 ) -> Child
-    requires { Lent (recorderOf r.now) extras.now latest.now memory.old × ((entered.old ≤ budget) × (ShownAt (recorderOf r.now) v.now set time × (goal ≤ 2147450880))) }
-    ensures lent { Lent (recorderOf r.now) extras.now latest.now memory.new × (entered.new ≤ budget) }
-    ensures answer { (m : ℕ) (u : Vertex) → Shows (recorderOf r.now) v.now set (suc m) u → u.time ≡ time → leastOf (recorderOf r.now) (suc m) u ≡ some goal → Came budget entered.old entered.new (jobs (recorderOf r.now) * ((recorderOf r.now).horizon * most_of (recorderOf r.now) m 0)) result.start (FirstChild (recorderOf r.now) m u result.job result.start) }
+    requires { Lent (recorder_of r.now) extras.now latest.now memory.old × ((entered.old ≤ budget) × (ShownAt (recorder_of r.now) v.now set time × (goal ≤ 2147450880))) }
+    ensures lent { Lent (recorder_of r.now) extras.now latest.now memory.new × (entered.new ≤ budget) }
+    ensures answer { (m : ℕ) (u : Vertex) → Shows (recorder_of r.now) v.now set (suc m) u → u.time ≡ time → least_of (recorder_of r.now) (suc m) u ≡ some goal → Came budget entered.old entered.new (jobs (recorder_of r.now) * ((recorder_of r.now).horizon * most_of (recorder_of r.now) m 0)) result.start (FirstChild (recorder_of r.now) m u result.job result.start) }
 {
     let n = job_count(r);
     let mut rest = set;
@@ -165,8 +165,8 @@ fn read_off(
     total: u32,
     starts: &mut [u16; 16],
 ) -> bool
-    requires { Lent (recorderOf r.now) extras.now latest.now memory.old × ((entered.old ≤ budget) × Reads (recorderOf r.now) root.now starts.old all 0 total entered.old) }
-    ensures { ReadOff (recorderOf r.now) budget starts.new result }
+    requires { Lent (recorder_of r.now) extras.now latest.now memory.old × ((entered.old ≤ budget) × Reads (recorder_of r.now) root.now starts.old all 0 total entered.old) }
+    ensures { ReadOff (recorder_of r.now) budget starts.new result }
 {
     let mut v = *root;
     let mut set = all;
@@ -203,7 +203,7 @@ fn lift_of(extras: &[u32]) -> u32
     most % 268435456 * 8
 }
 
-// Writes the starts of the first of the least-energy schedules, by job number. Answers whether the budget was enough.
+// Writes the starts of the first of the least_energy schedules, by job number. Answers whether the budget was enough.
 pub fn least_starts(
     r: &Flat,
     extras: &[u32],
@@ -212,8 +212,8 @@ pub fn least_starts(
     budget: u32,
     starts: &mut [u16; 16],
 ) -> bool
-    requires { Lent (recorderOf r.now) extras.now latest.now memory.old × ((starts.old ≡ replicate 16 0) × (0 < latestOf (recorderOf r.now) (2 ^ jobs (recorderOf r.now) - 1))) }
-    ensures { ReadOff (recorderOf r.now) budget starts.new result }
+    requires { Lent (recorder_of r.now) extras.now latest.now memory.old × ((starts.old ≡ replicate 16 0) × (0 < latest_of (recorder_of r.now) (2 ^ jobs (recorder_of r.now) - 1))) }
+    ensures { ReadOff (recorder_of r.now) budget starts.new result }
 {
     let v = root_of(r);
     let all = power(job_count(r)) - 1;

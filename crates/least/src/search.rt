@@ -4,14 +4,14 @@ ghost use Rattle.std.specs.Prelude.{◌≡◌, true, ◌||◌, ℕ, suc, ◌+◌
 ghost use Rattle.std.proofs.Math.Option.{Option};
 ghost use Rattle.schedule.specs.Quantities.{jobs, release, deadline, run};
 ghost use Rattle.schedule.specs.Visiting.{Vertex, child};
-ghost use Rattle.flat.specs.inside.Flat.{recorderOf};
+ghost use Rattle.flat.specs.inside.Flat.{recorder_of};
 ghost use Rattle.latest.specs.inside.Sets.{has};
 ghost use Rattle.latest.specs.inside.Latest.{slot};
-ghost use Rattle.value.specs.inside.Options.{lesser, leastIn, Answers};
-ghost use Rattle.value.specs.inside.Leasts.{leastOf, viaChild, startsTo};
-ghost use Rattle.value.proofs.Waits.{leastTo};
+ghost use Rattle.value.specs.inside.Options.{lesser, least_in, Answers};
+ghost use Rattle.value.specs.inside.Leasts.{least_of, via_child, starts_to};
+ghost use Rattle.value.proofs.Waits.{least_to};
 ghost use Rattle.extras.specs.inside.Tabled.{cap_at};
-ghost use Rattle.least.specs.inside.Shown.{keyBy, Shows, ShownAt};
+ghost use Rattle.least.specs.inside.Shown.{key_by, Shows, ShownAt};
 ghost use Rattle.least.specs.inside.Entries.{Looked};
 ghost use Rattle.least.specs.inside.Effort.{most_of};
 ghost use Rattle.least.specs.inside.Outcome.{Lent, Offers, Came, Tried};
@@ -57,7 +57,7 @@ fn is_enough(known: u32, slack: u32) -> bool
 // One more than the last start of job j after which the jobs of the set can still be run; 0 where there is none.
 pub fn last_of(r: &Flat, latest: &Table, set: usize, j: usize) -> u32
     requires { (j < 16) × (set < 65536) }
-    ensures { result ≡ slot (release (recorderOf r.now) j) (deadline (recorderOf r.now) j) (run (recorderOf r.now) j) (get_or latest.now set 0) }
+    ensures { result ≡ slot (release (recorder_of r.now) j) (deadline (recorder_of r.now) j) (run (recorder_of r.now) j) (get_or latest.now set 0) }
 {
     let x = latest[set];
     wide(slot_of(release_of(r, j), deadline_of(r, j), run_of(r, j), x))
@@ -80,9 +80,9 @@ pub fn enter(
     s: u32,
     slack: u32,
 ) -> u32
-    requires { Lent (recorderOf r.now) extras.now latest.now memory.old × ((entered.old ≤ budget) × (Offers (recorderOf r.now) v.now set j s × ((p ≡ 2 ^ j) × (slack ≤ 2147483647)))) }
-    ensures lent { Lent (recorderOf r.now) extras.now latest.now memory.new × (entered.new ≤ budget) }
-    ensures answer { (m : ℕ) (u : Vertex) → Shows (recorderOf r.now) v.now set (suc m) u → u.time ≤ s → Came budget entered.old entered.new (most_of (recorderOf r.now) m 0) result (Answers slack (leastOf (recorderOf r.now) m (child (recorderOf r.now) u j s)) result) }
+    requires { Lent (recorder_of r.now) extras.now latest.now memory.old × ((entered.old ≤ budget) × (Offers (recorder_of r.now) v.now set j s × ((p ≡ 2 ^ j) × (slack ≤ 2147483647)))) }
+    ensures lent { Lent (recorder_of r.now) extras.now latest.now memory.new × (entered.new ≤ budget) }
+    ensures answer { (m : ℕ) (u : Vertex) → Shows (recorder_of r.now) v.now set (suc m) u → u.time ≤ s → Came budget entered.old entered.new (most_of (recorder_of r.now) m 0) result (Answers slack (least_of (recorder_of r.now) m (child (recorder_of r.now) u j s)) result) }
 {
     let mut w = *v;
     place(r, &mut w, j, s);
@@ -117,9 +117,9 @@ pub fn least(
     time: u32,
     slack: u32,
 ) -> u32
-    requires { Lent (recorderOf r.now) extras.now latest.now memory.old × ((entered.old ≤ budget) × (ShownAt (recorderOf r.now) v.now set time × (slack ≤ 2147483647))) }
-    ensures lent { Lent (recorderOf r.now) extras.now latest.now memory.new × (entered.new ≤ budget) }
-    ensures answer { (m : ℕ) (u : Vertex) → Shows (recorderOf r.now) v.now set m u → u.time ≡ time → Came budget entered.old entered.new (most_of (recorderOf r.now) m time) result (Answers slack (leastOf (recorderOf r.now) m u) result) }
+    requires { Lent (recorder_of r.now) extras.now latest.now memory.old × ((entered.old ≤ budget) × (ShownAt (recorder_of r.now) v.now set time × (slack ≤ 2147483647))) }
+    ensures lent { Lent (recorder_of r.now) extras.now latest.now memory.new × (entered.new ≤ budget) }
+    ensures answer { (m : ℕ) (u : Vertex) → Shows (recorder_of r.now) v.now set m u → u.time ≡ time → Came budget entered.old entered.new (most_of (recorder_of r.now) m time) result (Answers slack (least_of (recorder_of r.now) m u) result) }
 {
     if set == 0 {
         return close_of(r, extras, v);
@@ -151,9 +151,9 @@ fn learn(
     key: Key,
     spot: Spot,
 ) -> u32
-    requires { Lent (recorderOf r.now) extras.now latest.now memory.old × ((entered.old ≤ budget) × (ShownAt (recorderOf r.now) v.now set time × ((slack ≤ 2147483647) × ((0 < set) × ((key ≡ keyBy (recorderOf r.now) (cap_at extras.now) v.now set time) × Looked memory.old key spot))))) }
-    ensures lent { Lent (recorderOf r.now) extras.now latest.now memory.new × (entered.new ≤ budget) }
-    ensures answer { (m : ℕ) (u : Vertex) → Shows (recorderOf r.now) v.now set (suc m) u → u.time ≡ time → Came budget entered.old entered.new (most_of (recorderOf r.now) (suc m) time) result (Answers slack (leastOf (recorderOf r.now) (suc m) u) result) }
+    requires { Lent (recorder_of r.now) extras.now latest.now memory.old × ((entered.old ≤ budget) × (ShownAt (recorder_of r.now) v.now set time × ((slack ≤ 2147483647) × ((0 < set) × ((key ≡ key_by (recorder_of r.now) (cap_at extras.now) v.now set time) × Looked memory.old key spot))))) }
+    ensures lent { Lent (recorder_of r.now) extras.now latest.now memory.new × (entered.new ≤ budget) }
+    ensures answer { (m : ℕ) (u : Vertex) → Shows (recorder_of r.now) v.now set (suc m) u → u.time ≡ time → Came budget entered.old entered.new (most_of (recorder_of r.now) (suc m) time) result (Answers slack (least_of (recorder_of r.now) (suc m) u) result) }
 {
     let before = *entered;
     if before == budget {
@@ -188,9 +188,9 @@ fn examine(
     time: u32,
     limit: u32,
 ) -> u32
-    requires { Lent (recorderOf r.now) extras.now latest.now memory.old × ((entered.old ≤ budget) × (ShownAt (recorderOf r.now) v.now set time × ((limit ≤ 2147483647) × (0 < set)))) }
-    ensures lent { Lent (recorderOf r.now) extras.now latest.now memory.new × (entered.new ≤ budget) }
-    ensures answer { (m : ℕ) (u : Vertex) → Shows (recorderOf r.now) v.now set (suc m) u → u.time ≡ time → Came budget entered.old entered.new (((recorderOf r.now).horizon - time) * suc (jobs (recorderOf r.now) * most_of (recorderOf r.now) m 0)) result (Answers limit (leastOf (recorderOf r.now) (suc m) u) result) }
+    requires { Lent (recorder_of r.now) extras.now latest.now memory.old × ((entered.old ≤ budget) × (ShownAt (recorder_of r.now) v.now set time × ((limit ≤ 2147483647) × (0 < set)))) }
+    ensures lent { Lent (recorder_of r.now) extras.now latest.now memory.new × (entered.new ≤ budget) }
+    ensures answer { (m : ℕ) (u : Vertex) → Shows (recorder_of r.now) v.now set (suc m) u → u.time ≡ time → Came budget entered.old entered.new (((recorder_of r.now).horizon - time) * suc (jobs (recorder_of r.now) * most_of (recorder_of r.now) m 0)) result (Answers limit (least_of (recorder_of r.now) (suc m) u) result) }
 {
     let until = wait_of(r, extras, v, time);
     let near = choices(
@@ -238,9 +238,9 @@ fn choices(
     until: u32,
     limit: u32,
 ) -> u32
-    requires { Lent (recorderOf r.now) extras.now latest.now memory.old × ((entered.old ≤ budget) × (ShownAt (recorderOf r.now) v.now set time × ((limit ≤ 2147483647) × (0 < set)))) }
-    ensures lent { Lent (recorderOf r.now) extras.now latest.now memory.new × (entered.new ≤ budget) }
-    ensures answer { (m : ℕ) (u : Vertex) → Shows (recorderOf r.now) v.now set (suc m) u → u.time ≡ time → Came budget entered.old entered.new (jobs (recorderOf r.now) * ((until - time) * most_of (recorderOf r.now) m 0)) result (Answers limit (leastTo (recorderOf r.now) m u until) result) }
+    requires { Lent (recorder_of r.now) extras.now latest.now memory.old × ((entered.old ≤ budget) × (ShownAt (recorder_of r.now) v.now set time × ((limit ≤ 2147483647) × (0 < set)))) }
+    ensures lent { Lent (recorder_of r.now) extras.now latest.now memory.new × (entered.new ≤ budget) }
+    ensures answer { (m : ℕ) (u : Vertex) → Shows (recorder_of r.now) v.now set (suc m) u → u.time ≡ time → Came budget entered.old entered.new (jobs (recorder_of r.now) * ((until - time) * most_of (recorder_of r.now) m 0)) result (Answers limit (least_to (recorder_of r.now) m u until) result) }
 {
     let n = job_count(r);
     let mut best: u32 = NEVER;
@@ -284,9 +284,9 @@ fn tries(
     limit: u32,
     given: u32,
 ) -> u32
-    requires { Lent (recorderOf r.now) extras.now latest.now memory.old × ((entered.old ≤ budget) × (ShownAt (recorderOf r.now) v.now set time × ((limit ≤ 2147483647) × ((given ≤ 2147483647) × ((j < jobs (recorderOf r.now)) × ((has set j ≡ true) × (p ≡ 2 ^ j))))))) }
-    ensures lent { Lent (recorderOf r.now) extras.now latest.now memory.new × (entered.new ≤ budget) }
-    ensures answer { (m : ℕ) (u : Vertex) (o : Option ℕ) → Shows (recorderOf r.now) v.now set (suc m) u → u.time ≡ time → Answers limit o given → Came budget entered.old entered.new ((until - time) * most_of (recorderOf r.now) m 0) result (Answers limit (lesser o (leastIn (viaChild (recorderOf r.now) m u j) (startsTo (recorderOf r.now) u.time until j))) result) }
+    requires { Lent (recorder_of r.now) extras.now latest.now memory.old × ((entered.old ≤ budget) × (ShownAt (recorder_of r.now) v.now set time × ((limit ≤ 2147483647) × ((given ≤ 2147483647) × ((j < jobs (recorder_of r.now)) × ((has set j ≡ true) × (p ≡ 2 ^ j))))))) }
+    ensures lent { Lent (recorder_of r.now) extras.now latest.now memory.new × (entered.new ≤ budget) }
+    ensures answer { (m : ℕ) (u : Vertex) (o : Option ℕ) → Shows (recorder_of r.now) v.now set (suc m) u → u.time ≡ time → Answers limit o given → Came budget entered.old entered.new ((until - time) * most_of (recorder_of r.now) m 0) result (Answers limit (lesser o (least_in (via_child (recorder_of r.now) m u j) (starts_to (recorder_of r.now) u.time until j))) result) }
 {
     let to = smaller(until, last_of(r, latest, set - p, j));
     let fall = falls_of(r, extras, v, j);
@@ -328,9 +328,9 @@ fn attempt(
     lead: u32,
     ahead: u32,
 ) -> u32
-    requires { Lent (recorderOf r.now) extras.now latest.now memory.old × ((entered.old ≤ budget) × (Offers (recorderOf r.now) v.now set j s × ((p ≡ 2 ^ j) × ((most ≤ 2147483647) × ((lead ≤ 2147450880) × (ahead ≤ 2147483647)))))) }
-    ensures lent { Lent (recorderOf r.now) extras.now latest.now memory.new × (entered.new ≤ budget) }
-    ensures answer { (m : ℕ) (u : Vertex) → Shows (recorderOf r.now) v.now set (suc m) u → u.time ≤ s → Came budget entered.old entered.new (most_of (recorderOf r.now) m 0) result (Tried most lead ahead (leastOf (recorderOf r.now) m (child (recorderOf r.now) u j s)) result) }
+    requires { Lent (recorder_of r.now) extras.now latest.now memory.old × ((entered.old ≤ budget) × (Offers (recorder_of r.now) v.now set j s × ((p ≡ 2 ^ j) × ((most ≤ 2147483647) × ((lead ≤ 2147450880) × (ahead ≤ 2147483647)))))) }
+    ensures lent { Lent (recorder_of r.now) extras.now latest.now memory.new × (entered.new ≤ budget) }
+    ensures answer { (m : ℕ) (u : Vertex) → Shows (recorder_of r.now) v.now set (suc m) u → u.time ≤ s → Came budget entered.old entered.new (most_of (recorder_of r.now) m 0) result (Tried most lead ahead (least_of (recorder_of r.now) m (child (recorder_of r.now) u j s)) result) }
 {
     if most <= lead + ahead {
         return ahead;

@@ -10,51 +10,51 @@ use lib.Dec.{ltb}
 use lib.ListN.{length, drop}
 use borrow.Author.Tests.{ltb-true, ltb-false, lt-ltb, le-ltb}
 use Rattle.base.specs.Lists.{up_to, padded}
-use Rattle.base.proofs.Arrays.{getD-padded, upTo-whole}
+use Rattle.base.proofs.Arrays.{get_d_padded, up_to_whole}
 use Rattle.schedule.specs.declared.Recorder.{Recorder}
 use Rattle.schedule.specs.Quantities.{jobs}
 use Rattle.schedule.specs.Listing.{start}
-use Rattle.planner.specs.Promises.{success, refusalAt}
+use Rattle.planner.specs.Promises.{success, refusal_at}
 use Rattle.mend.specs.declared.settling.Settled.{Settled}
 use Rattle.mend.specs.Mending.{Mends, moves, numbers}
 use Rattle.mend.specs.inside.Settling as S
 use Rattle.mend.specs.inside.Settling.{Settles}
 use Rattle.mend.specs.Promises as P
 use Rattle.mend.specs.Promises.{Lent, lending, Room, MendOf}
-use Rattle.mend.proofs.Outcome.{late-none}
-use Rattle.mend.proofs.Moves.{moves-same}
+use Rattle.mend.proofs.Outcome.{late_none}
+use Rattle.mend.proofs.Moves.{moves_same}
 
 -- The test for room.
-pub lacks-none : (n s m : ℕ) → cond (ltb s n) true (ltb m (3 * n)) ≡ true → n ≤ s → 3 * n ≤ m → ⊥
-lacks-none n s m e h h' = omega (arith, ltb-true m (3 * n) (rw (le-ltb s n h) at e))
+pub lacks_none : (n s m : ℕ) → cond (ltb s n) true (ltb m (3 * n)) ≡ true → n ≤ s → 3 * n ≤ m → ⊥
+lacks_none n s m e h h' = omega (arith, ltb-true m (3 * n) (rw (le-ltb s n h) at e))
 
-pub lacks-not : (n s m : ℕ) → cond (ltb s n) true (ltb m (3 * n)) ≡ false → (n ≤ s) × (3 * n ≤ m)
-lacks-not n s m e =
+pub lacks_not : (n s m : ℕ) → cond (ltb s n) true (ltb m (3 * n)) ≡ false → (n ≤ s) × (3 * n ≤ m)
+lacks_not n s m e =
     by_cases (dec_lt s n) (λ h. absurd (true≢false (rw (lt-ltb s n h) at e)))
     (λ h. let l : n ≤ s = omega arith in (l, ltb-false m (3 * n) (rw (le-ltb s n l) at e)))
 
 module _ (given : List ℕ) (lent : Lent) (R : Recorder) (e : length given ≡ jobs R) (room : Room R lent) where
-  pub settled-late : (x : Settled) → Settles R given x → x.late ≡ true → MendOf given lent R (refusalAt 17 x.job.0) lent
-  settled-late x (S.Settles.late out f) q = P.MendOf.late e room (late-none R given out f) out f
-  settled-late x (S.Settles.done m) q = absurd (true≢false (sym q))
+  pub settled_late : (x : Settled) → Settles R given x → x.late ≡ true → MendOf given lent R (refusal_at 17 x.job.0) lent
+  settled_late x (S.Settles.late out f) q = P.MendOf.late e room (late_none R given out f) out f
+  settled_late x (S.Settles.done m) q = absurd (true≢false (sym q))
 
   -- The starts stand in front of an array, and are written from there.
   abbrev written : List ℕ → ℕ → Lent
   written new n =
       lending (up_to (start new) n ++ drop n lent.starts) (numbers (moves given new n) ++ drop (3 * length (moves given new n)) lent.moved)
 
-  mends-given :
+  mends_given :
       (s : List ℕ) → Mends R given s
       → MendOf given lent R (success R.horizon 0 (length (moves given (padded 16 0 s) (jobs R)))) (written (padded 16 0 s) (jobs R))
-  mends-given s m =
+  mends_given s m =
       rw (
-        upTo-whole (start (padded 16 0 s)) s 0 (jobs R) m.such.feasible.one_each (λ i h. getD-padded 16 0 s i),
-        moves-same given (padded 16 0 s) s (jobs R) (λ i h. getD-padded 16 0 s i),
+        up_to_whole (start (padded 16 0 s)) s 0 (jobs R) m.such.feasible.one_each (λ i h. get_d_padded 16 0 s i),
+        moves_same given (padded 16 0 s) s (jobs R) (λ i h. get_d_padded 16 0 s i),
       )
       (P.MendOf.mended e room m)
 
-  pub settled-given :
+  pub settled_given :
       (x : Settled) → Settles R given x → x.late ≡ false
       → MendOf given lent R (success R.horizon 0 (length (moves given x.starts (jobs R)))) (written x.starts (jobs R))
-  settled-given x (S.Settles.late out f) q = absurd (true≢false q)
-  settled-given x (S.Settles.done {s = s} m) q = mends-given s m
+  settled_given x (S.Settles.late out f) q = absurd (true≢false q)
+  settled_given x (S.Settles.done {s = s} m) q = mends_given s m

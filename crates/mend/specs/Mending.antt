@@ -13,7 +13,7 @@ Ahead s i j = (start s i < start s j) ⊎ ((start s i ≡ start s j) × (i < j))
 -- The starts s have the jobs in the order of the given starts, and none before its given start.
 pub record Keeps (R : Recorder) (given s : List ℕ) : Type 0 where
   pub in_order : (i j : ℕ) → i < jobs R → j < jobs R → Ahead given i j → Ahead s i j
-  pub not-before : (j : ℕ) → j < jobs R → start given j ≤ start s j
+  pub not_before : (j : ℕ) → j < jobs R → start given j ≤ start s j
 
 -- Such starts that are feasible (rule 66);
 pub record Fits (R : Recorder) (given s : List ℕ) : Type 0 where

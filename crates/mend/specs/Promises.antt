@@ -4,7 +4,7 @@ use Rattle.std.specs.Prelude.{◌≡◌, List, ◌++◌, ℕ, ◌*◌, ◌≤◌
 use Rattle.schedule.specs.declared.Recorder.{Recorder}
 use Rattle.schedule.specs.Quantities.{jobs}
 use Rattle.planner.specs.declared.Answer.{Answer}
-use Rattle.planner.specs.Promises.{success, refusal, refusalAt, OfFile}
+use Rattle.planner.specs.Promises.{success, refusal, refusal_at, OfFile}
 use Rattle.mend.specs.Mending.{Fits, Mends, ComesOut, FirstLate, moves, numbers}
 
 -- What is lent: a list for the new starts, and one for the moves.
@@ -25,7 +25,7 @@ pub data MendOf (given : List ℕ) (lent : Lent) (R : Recorder) : Answer → Len
   unequal : (length given ≡ jobs R → ⊥) → MendOf given lent R (refusal 14) lent
   short : length given ≡ jobs R → (Room R lent → ⊥) → MendOf given lent R (refusal 15) lent
   late : {s : List ℕ} {j : ℕ} → length given ≡ jobs R → Room R lent → ((s' : List ℕ) → Fits R given s' → ⊥) → ComesOut R given s → FirstLate R s j
-      → MendOf given lent R (refusalAt 17 j) lent
+      → MendOf given lent R (refusal_at 17 j) lent
   mended : {s : List ℕ} → length given ≡ jobs R → Room R lent → Mends R given s
       → MendOf given lent R (success R.horizon 0 (length (moves given s (jobs R))))
       (lending (s ++ drop (jobs R) lent.starts)

@@ -3,7 +3,7 @@ ghost use Rattle.std.specs.Prelude.{◌≡◌, ◌++◌, ◌+◌, ◌*◌, ◌�
 ghost use Rattle.base.specs.Lists.{up_to};
 ghost use Rattle.schedule.specs.Listing.{start};
 ghost use Rattle.mend.specs.Mending.{moves, numbers};
-ghost use Rattle.mend.specs.inside.Moving.{countWith, listWith};
+ghost use Rattle.mend.specs.inside.Moving.{count_with, list_with};
 
 use base::JobNumber;
 
@@ -22,8 +22,8 @@ pub fn write_starts(new: [u16; 16], n: usize, starts: &mut [u16])
 // Lists a job after `count` others if it moved, and says how many there are then.
 fn list_move(job: JobNumber, given: u16, new: u16, count: usize, moved: &mut [u16]) -> usize
     requires { (job.0 < 16) × (3 * count + 3 ≤ length moved.old) }
-    ensures number { result ≡ countWith given new count }
-    ensures list { moved.new ≡ listWith job.0 given new count moved.old }
+    ensures number { result ≡ count_with given new count }
+    ensures list { moved.new ≡ list_with job.0 given new count moved.old }
 {
     if given == new {
         return count;

@@ -14,9 +14,9 @@ pub record Negated (z : ℤ) : Type 0 where
   pub fits : SFits w64 (pos 0 -ℤ z)
   pub size : T (non_neg (pos 0 -ℤ z)) × Fits w64 (nat_abs (pos 0 -ℤ z))
 
-pub size-neg : (z : ℤ) → SFits w32 z → lt_z z (pos 0) ≡ true → Negated z
-size-neg (pos n) f e = absurd (omega (arith, ltb-true n 0 e))
-size-neg (negsuc n) f e =
+pub size_neg : (z : ℤ) → SFits w32 z → lt_z z (pos 0) ≡ true → Negated z
+size_neg (pos n) f e = absurd (omega (arith, ltb-true n 0 e))
+size_neg (negsuc n) f e =
     record {
       wide = record { sfits = omega (arith, f.sfits) };
       fits = record { sfits = omega (arith, f.sfits) };

@@ -19,11 +19,11 @@ module _ (count : Recorder → ℕ) (Rest : Recorder → Answer → List ℕ →
   larger R h n (passes s (stops o)) = absurd (n refl)
   larger R h n (passes s (passes o r)) = passes s (passes (λ o'. o (omega arith)) r)
 
-  pub larger-counted : {a : Answer} {l : List ℕ} → b ≤ b' → Enough a
+  pub larger_counted : {a : Answer} {l : List ℕ} → b ≤ b' → Enough a
       → OfFile file lent (λ R. Counted b (count R) lent R (Rest R)) a l → OfFile file lent (λ R. Counted b' (count R) lent R (Rest R)) a l
-  larger-counted h n (refused r) = refused r
-  larger-counted h n (read {R = R} r t) = read r (larger R h n t)
+  larger_counted h n (refused r) = refused r
+  larger_counted h n (read {R = R} r t) = read r (larger R h n t)
 
-pub larger-budget : (file : List ℕ) (b b' : ℕ) (lent : List ℕ) {a : Answer} {l : List ℕ} → b ≤ b' → Enough a
+pub larger_budget : (file : List ℕ) (b b' : ℕ) (lent : List ℕ) {a : Answer} {l : List ℕ} → b ≤ b' → Enough a
     → Searched file b lent a l → Searched file b' lent a l
-larger-budget file b b' lent = larger-counted vertices (λ R. GivesLeast R (vertices R) lent) file b b' lent
+larger_budget file b b' lent = larger_counted vertices (λ R. GivesLeast R (vertices R) lent) file b b' lent

@@ -7,14 +7,14 @@ use Rattle.schedule.specs.declared.Recorder.{Recorder}
 use Rattle.planner.specs.declared.Answer.{Answer}
 use Rattle.planner.specs.Promises as P
 use Rattle.planner.specs.Promises.{stops, passes, SearchOf, Searched, SearchedIn}
-use Rattle.planner.proofs.Only.{only-searched}
+use Rattle.planner.proofs.Only.{only_searched}
 
 -- No more vertices are counted than the budget has.
-count-within : (budget : ℕ) (lent : List ℕ) (R : Recorder) {a : Answer} {l : List ℕ} → SearchOf budget lent R a l → a.count ≤ budget
-count-within budget lent R (stops h) = omega arith
-count-within budget lent R (passes h (stops o)) = omega arith
-count-within budget lent R (passes h (passes o (stops n))) = omega arith
-count-within budget lent R (passes h (passes o (passes n (P.GivesLeast.found f)))) = omega arith
+count_within : (budget : ℕ) (lent : List ℕ) (R : Recorder) {a : Answer} {l : List ℕ} → SearchOf budget lent R a l → a.count ≤ budget
+count_within budget lent R (stops h) = omega arith
+count_within budget lent R (passes h (stops o)) = omega arith
+count_within budget lent R (passes h (passes o (stops n))) = omega arith
+count_within budget lent R (passes h (passes o (passes n (P.GivesLeast.found f)))) = omega arith
 
 -- None are told with a refusal but 19 and 20.
 pub none_told : (budget : ℕ) (lent : List ℕ) (R : Recorder) {a : Answer} {l : List ℕ} → SearchOf budget lent R a l
@@ -25,22 +25,22 @@ none_told budget lent R (passes h (passes b (stops f))) z n o = absurd (n refl)
 none_told budget lent R (passes h (passes b (passes f (P.GivesLeast.found g)))) z n o = absurd (z refl)
 
 module _ (file : List ℕ) (budget : ℕ) (memory lent : List ℕ) where
-  file-within : {a : Answer} {l : List ℕ} → Searched file budget lent a l → a.count ≤ budget
-  file-within (P.OfFile.refused r) = omega arith
-  file-within (P.OfFile.read {R = R} r t) = count-within budget lent R t
+  file_within : {a : Answer} {l : List ℕ} → Searched file budget lent a l → a.count ≤ budget
+  file_within (P.OfFile.refused r) = omega arith
+  file_within (P.OfFile.read {R = R} r t) = count_within budget lent R t
 
-  pub few-kept : {a : Answer} {m l : List ℕ} → budget ≤ 256 → SearchedIn file budget memory lent a m l → m ≡ memory
-  few-kept h p = p.1 (λ more. omega (arith, more, file-within p.0))
+  pub few_kept : {a : Answer} {m l : List ℕ} → budget ≤ 256 → SearchedIn file budget memory lent a m l → m ≡ memory
+  few_kept h p = p.1 (λ more. omega (arith, more, file_within p.0))
 
-  file-none : {a : Answer} {l : List ℕ} → Searched file budget lent a l → (a.number ≡ 0 → ⊥) → (a.number ≡ 19 → ⊥) → (a.number ≡ 20 → ⊥) → a.count ≡ 0
-  file-none (P.OfFile.refused r) z n o = refl
-  file-none (P.OfFile.read {R = R} r t) z n o = none_told budget lent R t z n o
+  file_none : {a : Answer} {l : List ℕ} → Searched file budget lent a l → (a.number ≡ 0 → ⊥) → (a.number ≡ 19 → ⊥) → (a.number ≡ 20 → ⊥) → a.count ≡ 0
+  file_none (P.OfFile.refused r) z n o = refl
+  file_none (P.OfFile.read {R = R} r t) z n o = none_told budget lent R t z n o
 
-  pub refusals-keep : {a : Answer} {m l : List ℕ} → SearchedIn file budget memory lent a m l
+  pub refusals_keep : {a : Answer} {m l : List ℕ} → SearchedIn file budget memory lent a m l
       → (a.number ≡ 0 → ⊥) → (a.number ≡ 19 → ⊥) → (a.number ≡ 20 → ⊥) → m ≡ memory
-  refusals-keep p z n o = p.1 (λ more. omega (arith, more, file-none p.0 z n o))
+  refusals_keep p z n o = p.1 (λ more. omega (arith, more, file_none p.0 z n o))
 
   -- With another memory the answer is the same, and so is the lent list.
-  pub whatever-memory : (memory' : List ℕ) {a a' : Answer} {m m' l l' : List ℕ}
+  pub whatever_memory : (memory' : List ℕ) {a a' : Answer} {m m' l l' : List ℕ}
       → SearchedIn file budget memory lent a m l → SearchedIn file budget memory' lent a' m' l' → (a ≡ a') × (l ≡ l')
-  whatever-memory memory' p p' = only-searched file budget lent p.0 p'.0
+  whatever_memory memory' p p' = only_searched file budget lent p.0 p'.0

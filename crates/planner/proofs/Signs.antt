@@ -8,6 +8,6 @@ use lib.Signed.{lt_z, non_neg}
 use mir.Syntax.{w32, w64}
 use mir.Val.{Fits, SFits}
 
-pub size-pos : (z : ℤ) → SFits w32 z → lt_z z (pos 0) ≡ false → T (non_neg z) × Fits w64 (nat_abs z)
-size-pos (pos n) f e = (tt, record { fits = omega (arith, f.sfits) })
-size-pos (negsuc n) f e = absurd (true≢false e)
+pub size_pos : (z : ℤ) → SFits w32 z → lt_z z (pos 0) ≡ false → T (non_neg z) × Fits w64 (nat_abs z)
+size_pos (pos n) f e = (tt, record { fits = omega (arith, f.sfits) })
+size_pos (negsuc n) f e = absurd (true≢false e)

@@ -10,8 +10,8 @@ use Rattle.schedule.specs.Quantities.{device, jobs}
 use Rattle.schedule.specs.Listing.{Feasible, Fault, Rows, Costs, FirstLeast, laid, margin}
 use Rattle.schedule.specs.Visiting.{vertices}
 use Rattle.tables.specs.declared.Tables.{Tables}
-use Rattle.tables.specs.Layout.{layout_of, bytes_of, tables_of, noTables}
-use Rattle.request.specs.Format.{readAs, read_of}
+use Rattle.tables.specs.Layout.{layout_of, bytes_of, tables_of, no_tables}
+use Rattle.request.specs.Format.{read_as, read_of}
 use Rattle.request.specs.Format as Format
 use Rattle.planner.specs.declared.Answer.{Answer}
 use Rattle.planner.specs.declared.FileTables.{FileTables}
@@ -26,11 +26,11 @@ success h e c = record { number = 0; job = record { 0 = 0 }; horizon = h; energy
 abbrev pub refusal : ℕ → Answer
 refusal n = record { number = n; job = record { 0 = 0 }; horizon = 0; energy = 0; count = 0 }
 
-abbrev pub refusalAt : ℕ → ℕ → Answer
-refusalAt n j = record { number = n; job = record { 0 = j }; horizon = 0; energy = 0; count = 0 }
+abbrev pub refusal_at : ℕ → ℕ → Answer
+refusal_at n j = record { number = n; job = record { 0 = j }; horizon = 0; energy = 0; count = 0 }
 
-abbrev pub refusalAfter : ℕ → ℕ → Answer
-refusalAfter n c = record { number = n; job = record { 0 = 0 }; horizon = 0; energy = 0; count = c }
+abbrev pub refusal_after : ℕ → ℕ → Answer
+refusal_after n c = record { number = n; job = record { 0 = 0 }; horizon = 0; energy = 0; count = c }
 
 -- ---- the order of refusals
 
@@ -42,7 +42,7 @@ pub data Unless {L : Type 0} (Test : Type 0) (a : Answer) (lent : L) (Rest : Ans
 
 -- The same for given start times: the first fault is answered with its job (rules 22, 23), unless they are feasible (rule 20).
 pub data UnlessFaulty {L : Type 0} (R : Recorder) (starts : List ℕ) (lent : L) (Rest : Answer → L → Type 0) : Answer → L → Type 0 where
-  faulty : {n j : ℕ} → Fault R starts n j → UnlessFaulty R starts lent Rest (refusalAt n j) lent
+  faulty : {n j : ℕ} → Fault R starts n j → UnlessFaulty R starts lent Rest (refusal_at n j) lent
   feasible : {b : Answer} {after : L} → Feasible R starts → Rest b after → UnlessFaulty R starts lent Rest b after
 
 -- At last, where no refusal is: the answer, and the lent memory after it;
@@ -51,7 +51,7 @@ pub data Gives {L : Type 0} (a : Answer) (after : L) : Answer → L → Type 0 w
 
 -- or both for an x of which `Such` holds, an energy or rows.
 pub data GivesSuch {L X : Type 0} (Such : X → Type 0) (a : X → Answer) (after : X → L) : Answer → L → Type 0 where
-  gives-such : {x : X} → Such x → GivesSuch Such a after (a x) (after x)
+  gives_such : {x : X} → Such x → GivesSuch Such a after (a x) (after x)
 
 -- ---- the file
 
@@ -129,8 +129,8 @@ Rowed file starts lent a after = OfFile file lent (RowsOf starts lent) a after
 abbrev pub Counted : (budget count : ℕ) (lent : List ℕ) (R : Recorder) (Rest : Answer → List ℕ → Type 0) → Answer → List ℕ → Type 0
 Counted budget count lent R Rest =
     Unless (length lent < jobs R) (refusal 15) lent
-    (Unless (budget < count) (refusalAfter 20 budget) lent
-    (Unless ((s : List ℕ) → Feasible R s → ⊥) (refusalAfter 19 count) lent Rest))
+    (Unless (budget < count) (refusal_after 20 budget) lent
+    (Unless ((s : List ℕ) → Feasible R s → ⊥) (refusal_after 19 count) lent Rest))
 
 -- The start of job j goes to place j, and what is lent beyond stays as it was.
 pub data GivesLeast (R : Recorder) (count : ℕ) (lent : List ℕ) : Answer → List ℕ → Type 0 where
@@ -161,8 +161,8 @@ WriteOf T lent R =
     (Gives (success R.horizon 0 (length (bytes_of T))) (bytes_of T ++ drop (length (bytes_of T)) lent))
 
 pub data Written (T : Tables) (lent : List ℕ) : Answer → List ℕ → Type 0 where
-  refused : {n : ℕ} → readAs T.kind (layout_of T) ≡ Format.refused n → Written T lent (refusal n) lent
-  read : {R : Recorder} {a : Answer} {after : List ℕ} → readAs T.kind (layout_of T) ≡ Format.accepted R → WriteOf T lent R a after → Written T lent a after
+  refused : {n : ℕ} → read_as T.kind (layout_of T) ≡ Format.refused n → Written T lent (refusal n) lent
+  read : {R : Recorder} {a : Answer} {after : List ℕ} → read_as T.kind (layout_of T) ≡ Format.accepted R → WriteOf T lent R a after → Written T lent a after
 
 -- ---- `tables_of`: the tables of the file as it gives them, tasks as tasks; none with a refusal (rule 54)
 
@@ -170,4 +170,4 @@ pub data TablesOf (file : List ℕ) (R : Recorder) : Answer → Tables → Type 
   listed : TablesOf file R (success R.horizon 0 0) (tables_of file)
 
 abbrev pub TablesGiven : List ℕ → FileTables → Type 0
-TablesGiven file r = OfFile file noTables (TablesOf file) r.answer r.tables
+TablesGiven file r = OfFile file no_tables (TablesOf file) r.answer r.tables

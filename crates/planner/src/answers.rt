@@ -32,7 +32,7 @@ pub fn refusal(number: u8) -> Answer
 
 // A refusal of start times, with the job at fault.
 pub fn refusal_at(number: u8, job: JobNumber) -> Answer
-    ensures { result ≡ Promises.refusalAt number job.0 }
+    ensures { result ≡ Promises.refusal_at number job.0 }
 {
     Answer {
         number,
@@ -45,7 +45,7 @@ pub fn refusal_at(number: u8, job: JobNumber) -> Answer
 
 // A refusal of the search, with its count.
 pub fn refusal_after(number: u8, count: u32) -> Answer
-    ensures { result ≡ Promises.refusalAfter number count }
+    ensures { result ≡ Promises.refusal_after number count }
 {
     Answer {
         number,
@@ -58,7 +58,7 @@ pub fn refusal_after(number: u8, count: u32) -> Answer
 
 // The answer of a search, by what it found.
 pub fn answer_of(horizon: u16, found: Found) -> Answer
-    ensures { ((found.number ≡ 0 → ⊥) → result ≡ Promises.refusalAfter found.number found.count) × (found.number ≡ 0 → result ≡ Promises.success horizon found.energy found.count) }
+    ensures { ((found.number ≡ 0 → ⊥) → result ≡ Promises.refusal_after found.number found.count) × (found.number ≡ 0 → result ≡ Promises.success horizon found.energy found.count) }
 {
     if found.number != 0 {
         return refusal_after(found.number, found.count);

@@ -5,74 +5,74 @@ use mathlib.Core.Option.{Option, none, some}
 use mathlib.Core.List.{List}
 use Prim.Native.Nat.{ℕ, zero, suc}
 use native.Mathlib.Omega.{arith}
-use Rattle.base.proofs.Cases.{test-cases}
+use Rattle.base.proofs.Cases.{test_cases}
 use Rattle.schedule.specs.declared.Recorder.{Recorder}
 use Rattle.schedule.specs.Quantities.{jobs, Valid}
-use Rattle.schedule.specs.Visiting.{Vertex, Visited, counted, root, choices, cutA, cutB, better, complete, examine}
+use Rattle.schedule.specs.Visiting.{Vertex, Visited, counted, root, choices, cut_a, cut_b, better, complete, examine}
 use Rattle.visit.specs.declared.Found.{Found}
-use Rattle.visit.specs.inside.Stops.{unlessEnded, visitBy, visitedBy}
+use Rattle.visit.specs.inside.Stops.{unless_ended, visit_by, visited_by}
 use Rattle.visit.specs.inside.Lent.{Finds}
 use Rattle.visit.specs.inside.Lent as Visit
-use Rattle.visit.proofs.Stopping.{choices-same}
+use Rattle.visit.proofs.Stopping.{choices_same}
 use Rattle.planner.specs.declared.Answer.{Answer}
-use Rattle.planner.specs.Promises.{success, refusalAfter, stops, gives-such}
-use Rattle.planner.proofs.Refusing.{unless-enough, unless-some}
-use Rattle.possible.specs.TillFound.{unlessFound, found, enter, visitTillFound, visitedTillFound}
+use Rattle.planner.specs.Promises.{success, refusal_after, stops, gives_such}
+use Rattle.planner.proofs.Refusing.{unless_enough, unless_some}
+use Rattle.possible.specs.TillFound.{unless_found, found, enter, visit_till_found, visited_till_found}
 use Rattle.possible.specs.inside.Bare.{Bare}
 use Rattle.possible.specs.Promises.{PossibleOf}
 use Rattle.possible.proofs.Found.{found_first, found_none}
-use Rattle.possible.proofs.Without.{bare-energy, visited-same}
+use Rattle.possible.proofs.Without.{bare_energy, visited_same}
 
 module _ (R : Recorder) where
-  complete-till : (v : Vertex) (n : ℕ) (b : Option (List ℕ)) → let w : Visited = record { count = n; best = b } in visitBy R true zero v w ≡ visitTillFound R zero v w
-  unfolding visitBy visitTillFound unlessEnded unlessFound complete enter better
-  complete-till v n none =
+  complete_till : (v : Vertex) (n : ℕ) (b : Option (List ℕ)) → let w : Visited = record { count = n; best = b } in visit_by R true zero v w ≡ visit_till_found R zero v w
+  unfolding visit_by visit_till_found unless_ended unless_found complete enter better
+  complete_till v n none =
       let w : Visited = record { count = n; best = none } in
-      test-cases (λ (t : Bool). cond t (counted w) (found R v w) ≡ cond t counted (found R v) w) (cutA R v) (λ e. refl) (λ e. refl)
-  complete-till v n (some s) = refl
+      test_cases (λ (t : Bool). cond t (counted w) (found R v w) ≡ cond t counted (found R v) w) (cut_a R v) (λ e. refl) (λ e. refl)
+  complete_till v n (some s) = refl
 
-  examine-till :
-      (m : ℕ) (v : Vertex) → ((st : Visited) → choices R (visitBy R true m) v st ≡ choices R (visitTillFound R m) v st) → (n : ℕ) (b : Option (List ℕ))
-      → let w : Visited = record { count = n; best = b } in visitBy R true (suc m) v w ≡ visitTillFound R (suc m) v w
-  unfolding visitBy visitTillFound unlessEnded unlessFound examine enter cutB
-  examine-till m v below n none =
+  examine_till :
+      (m : ℕ) (v : Vertex) → ((st : Visited) → choices R (visit_by R true m) v st ≡ choices R (visit_till_found R m) v st) → (n : ℕ) (b : Option (List ℕ))
+      → let w : Visited = record { count = n; best = b } in visit_by R true (suc m) v w ≡ visit_till_found R (suc m) v w
+  unfolding visit_by visit_till_found unless_ended unless_found examine enter cut_b
+  examine_till m v below n none =
       let w : Visited = record { count = n; best = none } in
-      test-cases (λ (t : Bool). cond t (counted w) (choices R (visitBy R true m) v (counted w)) ≡ cond t counted (λ x. choices R (visitTillFound R m) v (counted x)) w) (cutA R v)
+      test_cases (λ (t : Bool). cond t (counted w) (choices R (visit_by R true m) v (counted w)) ≡ cond t counted (λ x. choices R (visit_till_found R m) v (counted x)) w) (cut_a R v)
       (λ e. refl) (λ e. below (counted w))
-  examine-till m v below n (some s) = refl
+  examine_till m v below n (some s) = refl
 
-  visit-till : (m : ℕ) (v : Vertex) (st : Visited) → visitBy R true m v st ≡ visitTillFound R m v st
-  visit-till zero v st = complete-till v st.count st.best
-  visit-till (suc m) v st = examine-till m v (choices-same R (visitBy R true m) (visitTillFound R m) (visit-till m) v) st.count st.best
+  visit_till : (m : ℕ) (v : Vertex) (st : Visited) → visit_by R true m v st ≡ visit_till_found R m v st
+  visit_till zero v st = complete_till v st.count st.best
+  visit_till (suc m) v st = examine_till m v (choices_same R (visit_by R true m) (visit_till_found R m) (visit_till m) v) st.count st.best
 
-  visited-till : visitedBy R true ≡ visitedTillFound R
-  unfolding visitedBy visitedTillFound
-  visited-till = visit-till (jobs R) (root R) (record { count = 0; best = none })
+  visited_till : visited_by R true ≡ visited_till_found R
+  unfolding visited_by visited_till_found
+  visited_till = visit_till (jobs R) (root R) (record { count = 0; best = none })
 
 -- ---- the answer
 
 -- f and l are what the search without devices found, and a is the answer that is made of it.
 module _ (R : Recorder) (valid : Valid R) (Q : Recorder) (bare : Bare R Q) (budget : ℕ) (lent : List ℕ) where
-  visited-is : visitedBy Q true ≡ visitedTillFound R
-  visited-is = visited-till Q ∙ visited-same R Q bare
+  visited_is : visited_by Q true ≡ visited_till_found R
+  visited_is = visited_till Q ∙ visited_same R Q bare
 
-  count-is : (visitedBy Q true).count ≡ (visitedTillFound R).count
-  count-is = ap (λ (w : Visited). w.count) visited-is
+  count_is : (visited_by Q true).count ≡ (visited_till_found R).count
+  count_is = ap (λ (w : Visited). w.count) visited_is
 
-  best-is : (o : Option (List ℕ)) → (visitedBy Q true).best ≡ o → (visitedTillFound R).best ≡ o
-  best-is o e = ap (λ (w : Visited). w.best) (sym visited-is) ∙ e
+  best_is : (o : Option (List ℕ)) → (visited_by Q true).best ≡ o → (visited_till_found R).best ≡ o
+  best_is o e = ap (λ (w : Visited). w.best) (sym visited_is) ∙ e
 
-  pub first-is :
-      (f : Found) (l : List ℕ) (a : Answer) → Finds Q (visitedBy Q true) budget lent f l
-      → ((f.number ≡ 0 → ⊥) → a ≡ refusalAfter f.number f.count) × (f.number ≡ 0 → a ≡ success R.horizon f.energy f.count)
+  pub first_is :
+      (f : Found) (l : List ℕ) (a : Answer) → Finds Q (visited_by Q true) budget lent f l
+      → ((f.number ≡ 0 → ⊥) → a ≡ refusal_after f.number f.count) × (f.number ≡ 0 → a ≡ success R.horizon f.energy f.count)
       → PossibleOf budget lent R a l
-  first-is f l a (Visit.Finds.short q) is = rw (is.0 (λ z. omega (arith, z))) (stops (omega (arith, q, bare.count)))
-  first-is f l a (Visit.Finds.beyond room q) is =
-      rw (is.0 (λ z. omega (arith, z))) (unless-enough (omega (arith, room, bare.count)) (stops (omega (arith, q, count-is))))
-  first-is f l a (Visit.Finds.nowhere room covered q) is =
-      rw (is.0 (λ z. omega (arith, z)), count-is)
-      (unless-enough (omega (arith, room, bare.count)) (unless-enough (omega (arith, covered, count-is)) (stops (found_none R valid (best-is none q)))))
-  first-is f l a (Visit.Finds.found {s = s} room covered q) is =
-      let first = found_first R valid s (best-is (some s) q) in
-      rw (is.1 refl, bare-energy R Q bare s, count-is, bare.count)
-      (unless-enough (omega (arith, room, bare.count)) (unless-enough (omega (arith, covered, count-is)) (unless-some first.feasible (gives-such first))))
+  first_is f l a (Visit.Finds.short q) is = rw (is.0 (λ z. omega (arith, z))) (stops (omega (arith, q, bare.count)))
+  first_is f l a (Visit.Finds.beyond room q) is =
+      rw (is.0 (λ z. omega (arith, z))) (unless_enough (omega (arith, room, bare.count)) (stops (omega (arith, q, count_is))))
+  first_is f l a (Visit.Finds.nowhere room covered q) is =
+      rw (is.0 (λ z. omega (arith, z)), count_is)
+      (unless_enough (omega (arith, room, bare.count)) (unless_enough (omega (arith, covered, count_is)) (stops (found_none R valid (best_is none q)))))
+  first_is f l a (Visit.Finds.found {s = s} room covered q) is =
+      let first = found_first R valid s (best_is (some s) q) in
+      rw (is.1 refl, bare_energy R Q bare s, count_is, bare.count)
+      (unless_enough (omega (arith, room, bare.count)) (unless_enough (omega (arith, covered, count_is)) (unless_some first.feasible (gives_such first))))

@@ -2,7 +2,7 @@
 // specs/Promises.antt says its complete outcome.
 ghost use Rattle.std.specs.Prelude.{◌≡◌};
 ghost use Rattle.schedule.specs.Quantities.{Valid};
-ghost use Rattle.possible.specs.inside.Bare.{idleJob, Bare};
+ghost use Rattle.possible.specs.inside.Bare.{idle_job, Bare};
 ghost use Rattle.possible.specs.Promises.{PossibleOf, Possible};
 
 use planner::{Answer, answer_of, refusal};
@@ -11,7 +11,7 @@ use schedule::{Job, Recorder};
 
 // The same job, which uses no device.
 fn idle_job(job: Job) -> Job
-    ensures { result ≡ idleJob job }
+    ensures { result ≡ idle_job job }
 {
     Job {
         release: job.release,

@@ -6,56 +6,56 @@ use mathlib.Core.Logic.{inl, inr, ⊎_elim}
 use Prim.Native.Nat.{ℕ, suc, ◌+◌, ◌<◌}
 use native.Mathlib.Omega.{arith}
 use Rattle.schedule.specs.declared.Recorder.{Recorder}
-use Rattle.schedule.specs.Visiting.{Vertex, Visited, planEnergy, choices, floor, visit}
+use Rattle.schedule.specs.Visiting.{Vertex, Visited, plan_energy, choices, floor, visit}
 use Rattle.extras.specs.inside.Tabled.{Tabled, cap_at}
 use Rattle.stored.specs.declared.Key.{Key}
 use Rattle.vertex.specs.inside.Shown.{Shows, ShownAt}
-use Rattle.stored.specs.inside.Naming.{keyBy}
+use Rattle.stored.specs.inside.Naming.{key_by}
 use Rattle.stored.specs.inside.Naming.{Named}
-use Rattle.stored.proofs.Keyed.{key-named}
+use Rattle.stored.proofs.Keyed.{key_named}
 use Rattle.recall.specs.declared.memory.Spot.{Spot}
 use Rattle.recall.specs.inside.Slack.{more, Slack}
-use Rattle.recall.specs.inside.Entries.{slackedBy, Right, Looked, kept}
+use Rattle.recall.specs.inside.Entries.{slacked_by, Right, Looked, kept}
 use Rattle.recall.specs.inside.Counts.{Counts}
 use Rattle.recall.specs.inside.Asks.{Asks}
-use Rattle.recall.proofs.Falling.{Falls, Less, choices-falls, visit-falls}
-use Rattle.recall.proofs.Recalling.{named-head, named-counts}
-use Rattle.recall.proofs.Kept.{right-looked, right_kept}
+use Rattle.recall.proofs.Falling.{Falls, Less, choices_falls, visit_falls}
+use Rattle.recall.proofs.Recalling.{named_head, named_counts}
+use Rattle.recall.proofs.Kept.{right_looked, right_kept}
 
 module _ (R : Recorder) (ex l : List ℕ) (tabled : Tabled R ex) (a time : ℕ) where
-  shown-named : (m : ℕ) (u : Vertex) → Shows R l a m u → u.time ≡ time → Named R (cap_at ex) (keyBy R (cap_at ex) l a time) u
-  shown-named m u h t =
-      subst (λ (n : ℕ). Named R (cap_at ex) (keyBy R (cap_at ex) l a n) u) t (key-named R tabled.valid (cap_at ex) tabled.caps tabled.cap-most l a m u h)
+  shown_named : (m : ℕ) (u : Vertex) → Shows R l a m u → u.time ≡ time → Named R (cap_at ex) (key_by R (cap_at ex) l a time) u
+  shown_named m u h t =
+      subst (λ (n : ℕ). Named R (cap_at ex) (key_by R (cap_at ex) l a n) u) t (key_named R tabled.valid (cap_at ex) tabled.caps tabled.cap_most l a m u h)
 
   -- The head of the key leaves room for the slack.
-  pub held-head : ShownAt R l a time → (keyBy R (cap_at ex) l a time).head < 536870912
-  held-head h =
-      named-head R tabled.valid (cap_at ex) h.left h.vertex h.shows.reached (keyBy R (cap_at ex) l a time)
-      (shown-named h.left h.vertex h.shows h.time)
+  pub held_head : ShownAt R l a time → (key_by R (cap_at ex) l a time).head < 536870912
+  held_head h =
+      named_head R tabled.valid (cap_at ex) h.left h.vertex h.shows.reached (key_by R (cap_at ex) l a time)
+      (shown_named h.left h.vertex h.shows h.time)
 
   -- What is found is right.
-  pub looked-asks :
-      (memory : List ℕ) → Right (Counts R (cap_at ex)) memory → (slack : ℕ) (q : Key) → q ≡ slackedBy (keyBy R (cap_at ex) l a time) slack → (spot : Spot)
+  pub looked_asks :
+      (memory : List ℕ) → Right (Counts R (cap_at ex)) memory → (slack : ℕ) (q : Key) → q ≡ slacked_by (key_by R (cap_at ex) l a time) slack → (spot : Spot)
       → Looked memory q spot → Asks R (cap_at ex) l a time slack (record { key = q; slot = spot.slot; count = spot.count })
   unfolding Counts
-  looked-asks memory right slack q q-is spot looked =
+  looked_asks memory right slack q q-is spot looked =
       record {
         key = q-is;
         told = λ some_Known m u h t st s. ⊎_elim
             (λ (z : spot.count ≡ 0). absurd (omega arith))
-            (λ (c : Counts R (cap_at ex) q spot.count). c some_Known (keyBy R (cap_at ex) l a time) slack q-is m u h.reached (shown-named (suc m) u h t) st s)
-            (right-looked (Counts R (cap_at ex)) memory right q spot looked);
+            (λ (c : Counts R (cap_at ex) q spot.count). c some_Known (key_by R (cap_at ex) l a time) slack q-is m u h.reached (shown_named (suc m) u h t) st s)
+            (right_looked (Counts R (cap_at ex)) memory right q spot looked);
       }
 
   -- What is seen of one vertex may be kept.
-  pub seen-kept :
-      (memory : List ℕ) → Right (Counts R (cap_at ex)) memory → (slack : ℕ) (q : Key) → q ≡ slackedBy (keyBy R (cap_at ex) l a time) slack → (m : ℕ) (u : Vertex)
+  pub seen_kept :
+      (memory : List ℕ) → Right (Counts R (cap_at ex)) memory → (slack : ℕ) (q : Key) → q ≡ slacked_by (key_by R (cap_at ex) l a time) slack → (m : ℕ) (u : Vertex)
       → Shows R l a (suc m) u → u.time ≡ time → (st : Visited) → Slack R (floor R u) st.best slack → (n : ℕ) → n < 4294967296
       → choices R (visit R m) u st ≡ more n st → (i : ℕ) → Right (Counts R (cap_at ex)) (kept memory i q n)
-  seen-kept memory right slack q q-is m u h t st s n few seen i =
+  seen_kept memory right slack q q-is m u h t st s n few seen i =
       right_kept (Counts R (cap_at ex)) memory right q i n few
       (subst (λ (k : Key). Counts R (cap_at ex) k n) (sym q-is)
-      (named-counts R tabled.valid (cap_at ex) tabled.caps tabled.cap-most m u h.reached (keyBy R (cap_at ex) l a time) (shown-named (suc m) u h t) slack st s n
+      (named_counts R tabled.valid (cap_at ex) tabled.caps tabled.cap_most m u h.reached (key_by R (cap_at ex) l a time) (shown_named (suc m) u h t) slack st s n
       seen))
 
 -- ---- whether the best stayed
@@ -65,24 +65,24 @@ unfoldable pub Costs : Recorder → Option (List ℕ) → Option (List ℕ) → 
 Costs R none none = Unit {0}
 Costs R none (some t) = ⊥
 Costs R (some s) none = ⊥
-Costs R (some s) (some t) = planEnergy R t ≡ planEnergy R s
+Costs R (some s) (some t) = plan_energy R t ≡ plan_energy R s
 
 module _ (R : Recorder) where
-  pub best-stays : (b c : Option (List ℕ)) → Falls R b c → Costs R b c → c ≡ b
+  pub best_stays : (b c : Option (List ℕ)) → Falls R b c → Costs R b c → c ≡ b
   unfolding Costs Less
-  best-stays b c (inl e) h = e
-  best-stays none none (inr k) h = refl
-  best-stays none (some t) (inr k) h = absurd h
-  best-stays (some s) none (inr k) h = absurd h
-  best-stays (some s) (some t) (inr k) h = absurd (omega arith)
+  best_stays b c (inl e) h = e
+  best_stays none none (inr k) h = refl
+  best_stays none (some t) (inr k) h = absurd h
+  best_stays (some s) none (inr k) h = absurd h
+  best_stays (some s) (some t) (inr k) h = absurd (omega arith)
 
   -- So the choices of a vertex that leave the cost of the best have only counted.
-  pub choices-stay :
+  pub choices_stay :
       (m : ℕ) (u : Vertex) (st : Visited) (n : ℕ) → (choices R (visit R m) u st).count ≡ st.count + n → Costs R st.best (choices R (visit R m) u st).best
       → choices R (visit R m) u st ≡ more n st
-  choices-stay m u st n e c =
+  choices_stay m u st n e c =
       both (choices R (visit R m) u st) e
-      (best-stays st.best (choices R (visit R m) u st).best (choices-falls R (visit R m) (visit-falls R m) u st) c)
+      (best_stays st.best (choices R (visit R m) u st).best (choices_falls R (visit R m) (visit_falls R m) u st) c)
     where
       both : (v : Visited) → v.count ≡ st.count + n → v.best ≡ st.best → v ≡ more n st
       both v p q = go v.count v.best p q

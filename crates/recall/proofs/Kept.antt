@@ -12,9 +12,9 @@ use lib.Seq.{get_or-set_same, get_or-set_other}
 use borrow.Author.Tests.{leb-true}
 use Rattle.base.proofs.Cases.{cond_cases}
 use Rattle.stored.specs.declared.Key.{Key}
-use Rattle.stored.specs.inside.Cleared.{noKey}
+use Rattle.stored.specs.inside.Cleared.{no_key}
 use Rattle.recall.specs.declared.memory.Spot.{Spot}
-use Rattle.recall.specs.inside.Entries.{word, key_at, countAt, Right, Looked, wrote, kept}
+use Rattle.recall.specs.inside.Entries.{word, key_at, count_at, Right, Looked, wrote, kept}
 
 -- ---- the words of an entry
 
@@ -24,9 +24,9 @@ pub keyed :
 unfolding key_at
 keyed l i q e0 e1 e2 e3 e4 = rw (add-zero (6 * i), e0, e1, e2, e3, e4)
 
-pub count_at : (l : List ℕ) (i : ℕ) → countAt l i ≡ get_or l (6 * i + 5) 0 % 4294967296
-unfolding countAt
-count_at l i = refl
+pub count_at_lem : (l : List ℕ) (i : ℕ) → count_at l i ≡ get_or l (6 * i + 5) 0 % 4294967296
+unfolding count_at
+count_at_lem l i = refl
 
 -- The same entry of two memories, where they have the same words.
 module _ (l m : List ℕ) (i : ℕ) (same : (n : ℕ) → n < 6 → word l i n ≡ word m i n) where
@@ -34,8 +34,8 @@ module _ (l m : List ℕ) (i : ℕ) (same : (n : ℕ) → n < 6 → word l i n �
   unfolding key_at
   same_key = rw (same 0 (omega arith), same 1 (omega arith), same 2 (omega arith), same 3 (omega arith), same 4 (omega arith))
 
-  same_count : countAt l i ≡ countAt m i
-  unfolding countAt
+  same_count : count_at l i ≡ count_at m i
+  unfolding count_at
   same_count = rw (same 5 (omega arith))
 
 -- ---- an entry written
@@ -55,14 +55,14 @@ module _ (l : List ℕ) (i : ℕ) (q : Key) (x : ℕ) where
   abbrev fifth : List ℕ
   fifth = set fourth (6 * i + 4) q.first4
 
-  wrote-length : length (wrote l i q x) ≡ length l
+  wrote_length : length (wrote l i q x) ≡ length l
   unfolding wrote
-  wrote-length = simp length-set
+  wrote_length = simp length-set
 
   -- The other entries stand as they did.
-  wrote-other : (j : ℕ) → (j ≡ i → ⊥) → (n : ℕ) → n < 6 → word (wrote l i q x) j n ≡ word l j n
+  wrote_other : (j : ℕ) → (j ≡ i → ⊥) → (n : ℕ) → n < 6 → word (wrote l i q x) j n ≡ word l j n
   unfolding wrote
-  wrote-other j ne n h =
+  wrote_other j ne n h =
       get_or-set_other fifth (6 * i + 5) (6 * j + n) x 0 (λ e. ne (omega arith))
       ∙ get_or-set_other fourth (6 * i + 4) (6 * j + n) q.first4 0 (λ e. ne (omega arith))
       ∙ get_or-set_other three (6 * i + 3) (6 * j + n) q.first 0 (λ e. ne (omega arith))
@@ -71,9 +71,9 @@ module _ (l : List ℕ) (i : ℕ) (q : Key) (x : ℕ) where
       ∙ get_or-set_other l (6 * i) (6 * j + n) q.head 0 (λ e. ne (omega arith))
 
   module _ (fits : 6 * i + 6 ≤ length l) where
-    wrote-0 : get_or (wrote l i q x) (6 * i) 0 ≡ q.head
+    wrote_0 : get_or (wrote l i q x) (6 * i) 0 ≡ q.head
     unfolding wrote
-    wrote-0 =
+    wrote_0 =
         get_or-set_other fifth (6 * i + 5) (6 * i) x 0 (λ e. omega arith)
         ∙ get_or-set_other fourth (6 * i + 4) (6 * i) q.first4 0 (λ e. omega arith)
         ∙ get_or-set_other three (6 * i + 3) (6 * i) q.first 0 (λ e. omega arith)
@@ -81,81 +81,81 @@ module _ (l : List ℕ) (i : ℕ) (q : Key) (x : ℕ) where
         ∙ get_or-set_other one (6 * i + 1) (6 * i) q.idle 0 (λ e. omega arith)
         ∙ get_or-set_same l (6 * i) q.head 0 (omega arith)
 
-    wrote-1 : word (wrote l i q x) i 1 ≡ q.idle
+    wrote_1 : word (wrote l i q x) i 1 ≡ q.idle
     unfolding wrote
-    wrote-1 =
+    wrote_1 =
         get_or-set_other fifth (6 * i + 5) (6 * i + 1) x 0 (λ e. omega arith)
         ∙ get_or-set_other fourth (6 * i + 4) (6 * i + 1) q.first4 0 (λ e. omega arith)
         ∙ get_or-set_other three (6 * i + 3) (6 * i + 1) q.first 0 (λ e. omega arith)
         ∙ get_or-set_other two (6 * i + 2) (6 * i + 1) q.idle4 0 (λ e. omega arith)
         ∙ get_or-set_same one (6 * i + 1) q.idle 0 (simp length-set (omega arith))
 
-    wrote-2 : word (wrote l i q x) i 2 ≡ q.idle4
+    wrote_2 : word (wrote l i q x) i 2 ≡ q.idle4
     unfolding wrote
-    wrote-2 =
+    wrote_2 =
         get_or-set_other fifth (6 * i + 5) (6 * i + 2) x 0 (λ e. omega arith)
         ∙ get_or-set_other fourth (6 * i + 4) (6 * i + 2) q.first4 0 (λ e. omega arith)
         ∙ get_or-set_other three (6 * i + 3) (6 * i + 2) q.first 0 (λ e. omega arith)
         ∙ get_or-set_same two (6 * i + 2) q.idle4 0 (simp length-set (omega arith))
 
-    wrote-3 : word (wrote l i q x) i 3 ≡ q.first
+    wrote_3 : word (wrote l i q x) i 3 ≡ q.first
     unfolding wrote
-    wrote-3 =
+    wrote_3 =
         get_or-set_other fifth (6 * i + 5) (6 * i + 3) x 0 (λ e. omega arith)
         ∙ get_or-set_other fourth (6 * i + 4) (6 * i + 3) q.first4 0 (λ e. omega arith)
         ∙ get_or-set_same three (6 * i + 3) q.first 0 (simp length-set (omega arith))
 
-    wrote-4 : word (wrote l i q x) i 4 ≡ q.first4
+    wrote_4 : word (wrote l i q x) i 4 ≡ q.first4
     unfolding wrote
-    wrote-4 =
+    wrote_4 =
         get_or-set_other fifth (6 * i + 5) (6 * i + 4) x 0 (λ e. omega arith)
         ∙ get_or-set_same fourth (6 * i + 4) q.first4 0 (simp length-set (omega arith))
 
-    wrote-5 : word (wrote l i q x) i 5 ≡ x
+    wrote_5 : word (wrote l i q x) i 5 ≡ x
     unfolding wrote
-    wrote-5 = get_or-set_same fifth (6 * i + 5) x 0 (simp length-set (omega arith))
+    wrote_5 = get_or-set_same fifth (6 * i + 5) x 0 (simp length-set (omega arith))
 
-    wrote-key : key_at (wrote l i q x) i ≡ q
-    wrote-key = keyed (wrote l i q x) i q wrote-0 wrote-1 wrote-2 wrote-3 wrote-4
+    wrote_key : key_at (wrote l i q x) i ≡ q
+    wrote_key = keyed (wrote l i q x) i q wrote_0 wrote_1 wrote_2 wrote_3 wrote_4
 
-    wrote_count : x < 4294967296 → countAt (wrote l i q x) i ≡ x
-    wrote_count b = count_at (wrote l i q x) i ∙ rw wrote-5 (small x b)
+    wrote_count : x < 4294967296 → count_at (wrote l i q x) i ≡ x
+    wrote_count b = count_at_lem (wrote l i q x) i ∙ rw wrote_5 (small x b)
       where
         small : (x : ℕ) → x < 4294967296 → x % 4294967296 ≡ x
         small x b = omega arith
 
 -- ---- the memory
 module _ (P : Key → ℕ → Type 0) (l : List ℕ) where
-  found : Right P l → (q : Key) (i n : ℕ) → 6 * i + 6 ≤ length l → key_at l i ≡ q → countAt l i ≡ n → P q n
+  found : Right P l → (q : Key) (i n : ℕ) → 6 * i + 6 ≤ length l → key_at l i ≡ q → count_at l i ≡ n → P q n
   unfolding Right
-  found right q i n fits k e = subst (λ (z : ℕ). P q z) e (subst (λ (z : Key). P z (countAt l i)) k (right i fits))
+  found right q i n fits k e = subst (λ (z : ℕ). P q z) e (subst (λ (z : Key). P z (count_at l i)) k (right i fits))
 
-  pub right-looked : Right P l → (q : Key) (r : Spot) → Looked l q r → (r.count ≡ 0) ⊎ P q r.count
-  right-looked right q r h = go h.known
+  pub right_looked : Right P l → (q : Key) (r : Spot) → Looked l q r → (r.count ≡ 0) ⊎ P q r.count
+  right_looked right q r h = go h.known
     where
-      go : (r.count ≡ 0) ⊎ ((6 * r.slot + 6 ≤ length l) × (key_at l r.slot ≡ q) × (countAt l r.slot ≡ r.count)) → (r.count ≡ 0) ⊎ P q r.count
+      go : (r.count ≡ 0) ⊎ ((6 * r.slot + 6 ≤ length l) × (key_at l r.slot ≡ q) × (count_at l r.slot ≡ r.count)) → (r.count ≡ 0) ⊎ P q r.count
       go (inl e) = inl e
       go (inr p) = inr (found right q r.slot r.count p.0 p.1 p.2)
 
   -- An entry that has P written.
-  right-wrote : Right P l → (q : Key) (i n : ℕ) → 6 * i + 6 ≤ length l → n < 4294967296 → P q n → Right P (wrote l i q n)
+  right_wrote : Right P l → (q : Key) (i n : ℕ) → 6 * i + 6 ≤ length l → n < 4294967296 → P q n → Right P (wrote l i q n)
   unfolding Right
-  right-wrote right q i n fits few p j b = by_cases (ℕ_discrete j i) here there
+  right_wrote right q i n fits few p j b = by_cases (ℕ_discrete j i) here there
     where
-      here : j ≡ i → P (key_at (wrote l i q n) j) (countAt (wrote l i q n) j)
-      here e = rw (e, wrote-key l i q n fits, wrote_count l i q n fits few) p
+      here : j ≡ i → P (key_at (wrote l i q n) j) (count_at (wrote l i q n) j)
+      here e = rw (e, wrote_key l i q n fits, wrote_count l i q n fits few) p
 
-      there : (j ≡ i → ⊥) → P (key_at (wrote l i q n) j) (countAt (wrote l i q n) j)
+      there : (j ≡ i → ⊥) → P (key_at (wrote l i q n) j) (count_at (wrote l i q n) j)
       there ne =
-          let same = wrote-other l i q n j ne in
-          rw (same_key (wrote l i q n) l j same, same_count (wrote l i q n) l j same) (right j (rw (wrote-length l i q n) at b))
+          let same = wrote_other l i q n j ne in
+          rw (same_key (wrote l i q n) l j same, same_count (wrote l i q n) l j same) (right j (rw (wrote_length l i q n) at b))
 
   pub right_kept : Right P l → (q : Key) (i n : ℕ) → n < 4294967296 → P q n → Right P (kept l i q n)
   unfolding kept
   right_kept right q i n few h =
-      cond_cases (Right P) (leb (6 * i + 6) (length l)) (λ t. right-wrote right q i n (leb-true (6 * i + 6) (length l) t) few h) (λ t. right)
+      cond_cases (Right P) (leb (6 * i + 6) (length l)) (λ t. right_wrote right q i n (leb-true (6 * i + 6) (length l) t) few h) (λ t. right)
 
-  pub right-clear : P noKey 0 → ((i : ℕ) → get_or l i 0 ≡ 0) → Right P l
-  unfolding Right key_at countAt
-  right-clear h zero-at i b =
+  pub right_clear : P no_key 0 → ((i : ℕ) → get_or l i 0 ≡ 0) → Right P l
+  unfolding Right key_at count_at
+  right_clear h zero-at i b =
       rw (zero-at (6 * i + 0), zero-at (6 * i + 1), zero-at (6 * i + 2), zero-at (6 * i + 3), zero-at (6 * i + 4), zero-at (6 * i + 5)) h

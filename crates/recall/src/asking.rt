@@ -1,6 +1,6 @@
 // What is remembered of a vertex at a slack.
 ghost use Rattle.std.specs.Prelude.{◌<◌};
-ghost use Rattle.flat.specs.inside.Flat.{recorderOf};
+ghost use Rattle.flat.specs.inside.Flat.{recorder_of};
 ghost use Rattle.extras.specs.inside.Tabled.{Tabled, cap_at};
 ghost use Rattle.vertex.specs.inside.Shown.{ShownAt};
 ghost use Rattle.recall.specs.inside.Entries.{Right};
@@ -30,8 +30,8 @@ pub fn ask(
     time: u32,
     slack: u32,
 ) -> Asked
-    requires { Tabled (recorderOf r.now) extras.now × (ShownAt (recorderOf r.now) v.now set time × Right (Counts (recorderOf r.now) (cap_at extras.now)) memory.now) }
-    ensures { Asks (recorderOf r.now) (cap_at extras.now) v.now set time slack result }
+    requires { Tabled (recorder_of r.now) extras.now × (ShownAt (recorder_of r.now) v.now set time × Right (Counts (recorder_of r.now) (cap_at extras.now)) memory.now) }
+    ensures { Asks (recorder_of r.now) (cap_at extras.now) v.now set time slack result }
 {
     let key = slacked(key_of(r, extras, v, set, time), slack);
     let spot = look(memory, key);

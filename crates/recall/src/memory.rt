@@ -1,7 +1,7 @@
 // The memory of the counted search: entries of six words (specs/inside/Entries), a key with its slack and a count. Which entry a key has is of no matter to what is found
 // there: an entry holds its whole key. A count of 0 is no entry.
 ghost use Rattle.std.specs.Prelude.{◌≡◌, true, ◌+◌, ◌*◌, ◌<◌, ◌≤◌, length};
-ghost use Rattle.recall.specs.inside.Entries.{key_at, slackedBy, Looked, kept};
+ghost use Rattle.recall.specs.inside.Entries.{key_at, slacked_by, Looked, kept};
 
 use stored::comparing::is_key;
 use stored::{Key, row_of};
@@ -20,7 +20,7 @@ pub struct Spot {
 // The key with its slack, which stands above the 29 bits of the head.
 pub fn slacked(q: Key, slack: u32) -> Key
     requires { q.head < 536870912 }
-    ensures { result ≡ slackedBy q slack }
+    ensures { result ≡ slacked_by q slack }
 {
     Key {
         head: q.head + TWO29 * slack as u64,

@@ -10,14 +10,14 @@ use lib.Dec.{eqb}
 use borrow.Author.Tests.{ltb-false, eqb-true, eqb-false}
 use Rattle.base.specs.Bytes.{byte_at, pair_at}
 use Rattle.base.proofs.Cases.{cond_cases}
-use Rattle.base.proofs.Every.{Every, every_append, every-upTo}
-use Rattle.base.proofs.Records.{first-even}
+use Rattle.base.proofs.Every.{Every, every_append, every_up_to}
+use Rattle.base.proofs.Records.{first_even}
 use Rattle.schedule.specs.declared.Job.{Job}
 use Rattle.request.specs.declared.Section.TheVariants.{TaskRecords, JobRecords}
-use Rattle.tables.specs.Records.{taskAt, jobAt}
-use Rattle.request.specs.Format.{taskTable, jobTable, recordTable, recordFault, recordsFault, listedJob, job_of, released, releasedAt, unfolded, listed}
-use Rattle.request.proofs.Bits.{known-bits}
-use Rattle.request.proofs.Checked.{record-clear}
+use Rattle.tables.specs.Records.{task_at, job_at}
+use Rattle.request.specs.Format.{task_table, job_table, record_table, record_fault, records_fault, listed_job, job_of, released, released_at, unfolded, listed}
+use Rattle.request.proofs.Bits.{known_bits}
+use Rattle.request.proofs.Checked.{record_clear}
 
 -- A job within the horizon h, of a file with n devices.
 pub record Fits (h n : ℕ) (j : Job) : Type 0 where
@@ -28,21 +28,21 @@ pub record Fits (h n : ℕ) (j : Job) : Type 0 where
 
 -- ---- listed jobs
 
-job-fits : (s : List ℕ) (n h at : ℕ) → 0 ≡ recordFault s (JobRecords n h) at → Fits h n (listedJob (jobAt s at))
-unfolding recordTable jobTable
-job-fits s n h at e =
-    let j = jobAt s at in
-    let f = record-clear s (JobRecords n h) at (tt, (tt, (tt, (tt, tt)))) e in
+job_fits : (s : List ℕ) (n h at : ℕ) → 0 ≡ record_fault s (JobRecords n h) at → Fits h n (listed_job (job_at s at))
+unfolding record_table job_table
+job_fits s n h at e =
+    let j = job_at s at in
+    let f = record_clear s (JobRecords n h) at (tt, (tt, (tt, (tt, tt)))) e in
     record {
       runs = pos_of_ne-zero (eqb-false j.run 0 f.1.0);
       fits = ltb-false j.deadline (j.release + j.run) f.1.1.0;
       ends = ltb-false h j.deadline f.1.1.1.0;
-      known = λ k l. known-bits n (byte_at s (at + 6)) k f.0 l;
+      known = λ k l. known_bits n (byte_at s (at + 6)) k f.0 l;
     }
 
-pub listed-fit : (s : List ℕ) (n h count at : ℕ) → 0 ≡ recordsFault s (JobRecords n h) count at → Every (Fits h n) (listed s count at)
-listed-fit s n h count at e =
-    every-upTo (Fits h n) (λ (j : ℕ). listedJob (jobAt s (at + j * 7))) count (λ j l. job-fits s n h (at + j * 7) (first-even (recordFault s (JobRecords n h)) 7 count at j l e))
+pub listed_fit : (s : List ℕ) (n h count at : ℕ) → 0 ≡ records_fault s (JobRecords n h) count at → Every (Fits h n) (listed s count at)
+listed_fit s n h count at e =
+    every_up_to (Fits h n) (λ (j : ℕ). listed_job (job_at s (at + j * 7))) count (λ j l. job_fits s n h (at + j * 7) (first_even (record_fault s (JobRecords n h)) 7 count at j l e))
 
 -- ---- unfolded jobs
 
@@ -53,35 +53,35 @@ room p t h d e l =
     omega arith
 
 module _ (s : List ℕ) (n h : ℕ) where
-  release-fits :
-      (at t : ℕ) → 0 ≡ recordFault s (TaskRecords n) at → pair_at s at ∣ h → t < h → t % pair_at s at ≡ 0 → Fits h n (job_of (taskAt s at) t)
-  unfolding recordTable taskTable
-  release-fits at t e d l z =
-      let k = taskAt s at in
-      let f = record-clear s (TaskRecords n) at (tt, (tt, (tt, (tt, (tt, tt))))) e in
+  release_fits :
+      (at t : ℕ) → 0 ≡ record_fault s (TaskRecords n) at → pair_at s at ∣ h → t < h → t % pair_at s at ≡ 0 → Fits h n (job_of (task_at s at) t)
+  unfolding record_table task_table
+  release_fits at t e d l z =
+      let k = task_at s at in
+      let f = record_clear s (TaskRecords n) at (tt, (tt, (tt, (tt, (tt, tt))))) e in
       record {
         runs = pos_of_ne-zero (eqb-false k.run 0 f.1.1.0);
         fits = omega (arith, ltb-false k.period k.run f.1.1.1.0);
         ends = room k.period t h (dvd_of_mod-eq-zero k.period z) d l;
-        known = λ i m. known-bits n (byte_at s (at + 4)) i f.1.1.1.1.0 m;
+        known = λ i m. known_bits n (byte_at s (at + 4)) i f.1.1.1.1.0 m;
       }
 
   -- Tasks that are not refused, of which each period divides h.
-  module _ (tasks from : ℕ) (ok : 0 ≡ recordsFault s (TaskRecords n) tasks from) (each : (i : ℕ) → i < tasks → pair_at s (from + i * 5) ∣ h) where
-    released-fit : (i t : ℕ) → i ≤ tasks → t < h → Every (Fits h n) (releasedAt s i from t)
-    unfolding releasedAt
-    released-fit zero t b l = tt
-    released-fit (suc i) t b l =
+  module _ (tasks from : ℕ) (ok : 0 ≡ records_fault s (TaskRecords n) tasks from) (each : (i : ℕ) → i < tasks → pair_at s (from + i * 5) ∣ h) where
+    released_fit : (i t : ℕ) → i ≤ tasks → t < h → Every (Fits h n) (released_at s i from t)
+    unfolding released_at
+    released_fit zero t b l = tt
+    released_fit (suc i) t b l =
         let at = from + i * 5 in
-        let e = first-even (recordFault s (TaskRecords n)) 5 tasks from i (omega arith) ok in
-        every_append (Fits h n) (releasedAt s i from t) (released (taskAt s at) t)
-        (released-fit i t (omega arith) l)
-        (cond_cases (Every (Fits h n)) (eqb (t % pair_at s at) 0) (λ z. (release-fits at t e (each i (omega arith)) l (eqb-true _ 0 z), tt)) (λ z. tt))
+        let e = first_even (record_fault s (TaskRecords n)) 5 tasks from i (omega arith) ok in
+        every_append (Fits h n) (released_at s i from t) (released (task_at s at) t)
+        (released_fit i t (omega arith) l)
+        (cond_cases (Every (Fits h n)) (eqb (t % pair_at s at) 0) (λ z. (release_fits at t e (each i (omega arith)) l (eqb-true _ 0 z), tt)) (λ z. tt))
 
-    pub unfolded-fit : (t : ℕ) → t ≤ h → Every (Fits h n) (unfolded s tasks from t)
+    pub unfolded_fit : (t : ℕ) → t ≤ h → Every (Fits h n) (unfolded s tasks from t)
     unfolding unfolded
-    unfolded-fit zero l = tt
-    unfolded-fit (suc t) l =
-        every_append (Fits h n) (unfolded s tasks from t) (releasedAt s tasks from t)
-        (unfolded-fit t (omega arith))
-        (released-fit tasks t (omega arith) (omega arith))
+    unfolded_fit zero l = tt
+    unfolded_fit (suc t) l =
+        every_append (Fits h n) (unfolded s tasks from t) (released_at s tasks from t)
+        (unfolded_fit t (omega arith))
+        (released_fit tasks t (omega arith) (omega arith))

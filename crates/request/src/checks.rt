@@ -1,24 +1,24 @@
 // What refuses a record, and the records of a section in turn. The number 0 stands for none.
 ghost use Rattle.std.specs.Prelude.{◌≡◌, ℕ, ◌+◌, ◌*◌, ◌^◌, ◌≤◌, ◌<◌, length, ltb, false, ◌-◌};
-ghost use Rattle.base.specs.Refusals.{firstThat};
+ghost use Rattle.base.specs.Refusals.{first_that};
 ghost use Rattle.tables.specs.declared.Kind.TheVariants.{Third};
-ghost use Rattle.tables.specs.Records.{deviceSize, deviceAt};
+ghost use Rattle.tables.specs.Records.{device_size, device_at};
 ghost use Rattle.request.specs.declared.Section.TheVariants.{DeviceRecords};
-ghost use Rattle.request.specs.Format.{noLower, powersTable, deviceTable, taskTable, jobTable, lacks, size_of, head_of, recordFault, recordsFault};
+ghost use Rattle.request.specs.Format.{no_lower, powers_table, device_table, task_table, job_table, lacks, size_of, head_of, record_fault, records_fault};
 
 use super::Section;
 use tables::{DeviceRecord, JobRecord, Kind, TaskRecord};
 
 // Level i + 1 is one of so many, and does not cost less than the one above it.
 fn no_lower(levels: u8, i: u8, above: u16, power: u16) -> bool
-    ensures { result ≡ noLower levels i above power }
+    ensures { result ≡ no_lower levels i above power }
 {
     i < levels && above <= power
 }
 
 // The powers of a device: moving and every level above cost more than a sleep.
 fn powers_check(d: DeviceRecord) -> u8
-    ensures { result ≡ firstThat (powersTable d) }
+    ensures { result ≡ first_that (powers_table d) }
 {
     if d.pwake <= d.ps {
         return 5;
@@ -45,7 +45,7 @@ fn powers_check(d: DeviceRecord) -> u8
 // A device with one sleep level.
 fn device_check(d: DeviceRecord) -> u8
     requires { d.levels ≡ 1 }
-    ensures { result ≡ firstThat (deviceTable false d) }
+    ensures { result ≡ first_that (device_table false d) }
 {
     if d.wake == 0 {
         return 4;
@@ -59,7 +59,7 @@ fn device_check(d: DeviceRecord) -> u8
 // A record of the third kind: how many powers it has to have is known only once its level count is judged.
 fn third_fault(s: &[u8], at: usize) -> u8
     requires { at + 6 ≤ length s.now }
-    ensures { result ≡ firstThat (deviceTable (ltb (length s.now - at) (deviceSize Third s.now at)) (deviceAt Third s.now at)) }
+    ensures { result ≡ first_that (device_table (ltb (length s.now - at) (device_size Third s.now at)) (device_at Third s.now at)) }
 {
     let time = s[at];
     let levels = s[at + 5];
@@ -82,7 +82,7 @@ fn third_fault(s: &[u8], at: usize) -> u8
 
 fn device_fault(s: &[u8], kind: Kind, at: usize) -> u8
     requires { at + head_of (DeviceRecords kind) ≤ length s.now }
-    ensures { result ≡ firstThat (deviceTable (ltb (length s.now - at) (deviceSize kind s.now at)) (deviceAt kind s.now at)) }
+    ensures { result ≡ first_that (device_table (ltb (length s.now - at) (device_size kind s.now at)) (device_at kind s.now at)) }
 {
     match kind {
         Kind::First => device_check(tables::device_at(s, kind, at)),
@@ -110,7 +110,7 @@ fn set_lacks(n: usize, set: u8) -> bool
 }
 
 fn task_check(n: usize, k: TaskRecord) -> u8
-    ensures { result ≡ firstThat (taskTable n k) }
+    ensures { result ≡ first_that (task_table n k) }
 {
     if k.period == 0 {
         return 7;
@@ -129,7 +129,7 @@ fn task_check(n: usize, k: TaskRecord) -> u8
 
 // The release and the running time may add up to more than 16 bits hold.
 fn job_check(n: usize, h: u32, j: JobRecord) -> u8
-    ensures { result ≡ firstThat (jobTable n h j) }
+    ensures { result ≡ first_that (job_table n h j) }
 {
     if set_lacks(n, j.set) {
         return 9;
@@ -181,7 +181,7 @@ pub fn head_of(k: Section) -> usize
 // The refusal of the record at a place: 1 where it is not there, then its fields' numbers.
 pub fn record_fault(s: &[u8], k: Section, at: usize) -> u8
     requires { at ≤ length s.now }
-    ensures { result ≡ recordFault s.now k at }
+    ensures { result ≡ record_fault s.now k at }
 {
     if s.len() - at < head_of(k) {
         return 1;
@@ -196,7 +196,7 @@ pub fn record_fault(s: &[u8], k: Section, at: usize) -> u8
 // The first refusal of a section's records.
 pub(crate) fn records_fault(s: &[u8], k: Section, count: usize, from: usize) -> u8
     requires { from ≤ length s.now }
-    ensures { result ≡ recordsFault s.now k count from }
+    ensures { result ≡ records_fault s.now k count from }
 {
     let mut left = count;
     let mut at = from;

@@ -1,9 +1,9 @@
 // The jobs in an array, as the file lists them or as its tasks release them. An array holds as many as fit; its count stays at 17 for all above 16.
 ghost use Rattle.std.specs.Prelude.{◌≡◌, [], ℕ, ◌+◌, ◌*◌, ◌≤◌, ◌<◌, length, set};
 ghost use Rattle.base.specs.Bytes.{byte_at, pair_at};
-ghost use Rattle.tables.specs.Records.{taskAt};
-ghost use Rattle.request.specs.Format.{horizonOf, job_of, unfolded, listed, jobsOf};
-ghost use Rattle.request.specs.inside.Held.{SoundTasks, packed, pushed, releasedTo};
+ghost use Rattle.tables.specs.Records.{task_at};
+ghost use Rattle.request.specs.Format.{horizon_of, job_of, unfolded, listed, jobs_of};
+ghost use Rattle.request.specs.inside.Held.{SoundTasks, packed, pushed, released_to};
 
 use super::records;
 use base::{JobNumber, TaskNumber};
@@ -65,7 +65,7 @@ fn job_of(k: TaskRecord, t: u32) -> Job
 // The jobs with what a task, of those whose records begin at a place, releases at t.
 fn release(s: &[u8], from: usize, task: TaskNumber, t: u32, js: Jobs) -> Jobs
     requires { (from + task.0 * 5 + 4 < length s.now) × (0 < pair_at s.now (from + task.0 * 5)) × (t + pair_at s.now (from + task.0 * 5) < 65536) }
-    ensures { result ≡ releasedTo js (taskAt s.now (from + task.0 * 5)) t }
+    ensures { result ≡ released_to js (task_at s.now (from + task.0 * 5)) t }
 {
     let k = records::task_of(s, from, task);
     if t % k.period as u32 == 0 {
@@ -119,8 +119,8 @@ fn listed_jobs(s: &[u8], count: usize, from: usize) -> Jobs
 
 // The jobs of a file, unfolded or given: the job count stands at `at`.
 pub(crate) fn jobs_of(s: &[u8], tasks: usize, from: usize, at: usize, h: u32) -> Jobs
-    requires { SoundTasks s.now tasks from × (h ≤ 4096) × (h ≡ horizonOf s.now tasks from) × (at + 1 + byte_at s.now at * 7 ≤ length s.now) }
-    ensures { result ≡ packed (jobsOf s.now tasks from at) }
+    requires { SoundTasks s.now tasks from × (h ≤ 4096) × (h ≡ horizon_of s.now tasks from) × (at + 1 + byte_at s.now at * 7 ≤ length s.now) }
+    ensures { result ≡ packed (jobs_of s.now tasks from at) }
 {
     if tasks == 0 {
         let count = s[at] as usize;

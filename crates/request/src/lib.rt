@@ -9,7 +9,7 @@ mod sections; // sections.rt: the sections in turn, and the first fault
 
 ghost use Rattle.std.specs.Prelude.{◌≡◌, ◌≤◌, length, drop};
 ghost use Rattle.tables.specs.Layout.{marker};
-ghost use Rattle.request.specs.Format.{readAs, read_of, handedOn};
+ghost use Rattle.request.specs.Format.{read_as, read_of, handed_on};
 
 pub use crate::checks::{head_of, record_fault, size_of};
 pub use crate::horizon::horizon_of;
@@ -35,7 +35,7 @@ pub struct Request {
 
 // Reads a file of whatever bytes, by its own kind.
 pub fn read(s: &[u8]) -> Request
-    ensures { result ≡ handedOn (read_of s.now) }
+    ensures { result ≡ handed_on (read_of s.now) }
 {
     read_by(s, tables::kind_of(s))
 }
@@ -43,7 +43,7 @@ pub fn read(s: &[u8]) -> Request
 // Reads a file by a kind, whatever its first bytes say: what stands in the place of the mark is passed over.
 pub fn read_by(s: &[u8], kind: Kind) -> Request
     requires { length (marker kind) ≤ length s.now }
-    ensures { result ≡ handedOn (readAs kind (drop (length (marker kind)) s.now)) }
+    ensures { result ≡ handed_on (read_as kind (drop (length (marker kind)) s.now)) }
 {
     let from = tables::marker_size(kind);
     read_as(&s[from..], kind)
@@ -52,7 +52,7 @@ pub fn read_by(s: &[u8], kind: Kind) -> Request
 // Reads what follows the mark of a file of a kind. A first pass looks for a fault; only a file without one is laid out, so that no loop carries both a fault and
 // an array.
 fn read_as(s: &[u8], kind: Kind) -> Request
-    ensures { result ≡ handedOn (readAs kind s.now) }
+    ensures { result ≡ handed_on (read_as kind s.now) }
 {
     let number = sections::fault_of(s, kind);
     if number == 0 {

@@ -1,9 +1,9 @@
 // The recorder of a file without a fault: its devices and jobs in arrays, since the search reads them at every vertex.
 ghost use Rattle.std.specs.Prelude.{◌≡◌, [], ℕ, ◌≤◌, length};
 ghost use Rattle.base.specs.Lists.{up_to};
-ghost use Rattle.tables.specs.Records.{deviceAt};
-ghost use Rattle.tables.specs.Layout.{devicePlace};
-ghost use Rattle.request.specs.Format.{deviceOf, devicesHeld, sleepsIn, faultAs, recorderAs, noRecorder};
+ghost use Rattle.tables.specs.Records.{device_at};
+ghost use Rattle.tables.specs.Layout.{device_place};
+ghost use Rattle.request.specs.Format.{device_of, devices_held, sleeps_in, fault_as, recorder_as, no_recorder};
 
 use super::{horizon, jobs, records};
 use device::{Device, Sleeps};
@@ -11,7 +11,7 @@ use schedule::{Devices, Recorder};
 use tables::Kind;
 
 fn no_devices() -> Devices
-    ensures { result ≡ devicesHeld [] }
+    ensures { result ≡ devices_held [] }
 {
     let none = Device {
         shut: 0,
@@ -30,8 +30,8 @@ fn no_devices() -> Devices
 
 // The first n devices of a file of a kind: each record stands after the one before it.
 fn devices_of(s: &[u8], kind: Kind, n: usize) -> Devices
-    requires { (n ≤ 8) × (devicePlace kind s.now n ≤ length s.now) }
-    ensures { result ≡ devicesHeld (up_to (λ k. deviceOf (deviceAt kind s.now (devicePlace kind s.now k))) n) }
+    requires { (n ≤ 8) × (device_place kind s.now n ≤ length s.now) }
+    ensures { result ≡ devices_held (up_to (λ k. device_of (device_at kind s.now (device_place kind s.now k))) n) }
 {
     let mut devices = no_devices();
     let mut at: usize = 3;
@@ -47,7 +47,7 @@ fn devices_of(s: &[u8], kind: Kind, n: usize) -> Devices
 
 // How rows write a sleep: numbered in files of the third kind.
 fn sleeps_in(kind: Kind) -> Sleeps
-    ensures { result ≡ sleepsIn kind }
+    ensures { result ≡ sleeps_in kind }
 {
     match kind {
         Kind::First => Sleeps::Plain,
@@ -58,8 +58,8 @@ fn sleeps_in(kind: Kind) -> Sleeps
 
 // The recorder of a file without a fault.
 pub(crate) fn recorder_in(s: &[u8], kind: Kind) -> Recorder
-    requires { 0 ≡ faultAs kind s.now }
-    ensures { result ≡ recorderAs kind s.now }
+    requires { 0 ≡ fault_as kind s.now }
+    ensures { result ≡ recorder_as kind s.now }
 {
     let n = s[2] as usize;
     let place = tables::device_place(s, kind, n);
@@ -78,7 +78,7 @@ pub(crate) fn recorder_in(s: &[u8], kind: Kind) -> Recorder
 
 // What is handed on with a refusal.
 pub(crate) fn no_recorder() -> Recorder
-    ensures { result ≡ noRecorder }
+    ensures { result ≡ no_recorder }
 {
     let devices = no_devices();
     let jobs = jobs::no_jobs();

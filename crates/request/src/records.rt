@@ -1,7 +1,7 @@
 // What is planned with, from the records of the file.
 ghost use Rattle.std.specs.Prelude.{◌≡◌, ℕ, ◌+◌, ◌*◌, ◌<◌, length};
-ghost use Rattle.tables.specs.Records.{taskAt, jobAt};
-ghost use Rattle.request.specs.Format.{setOf, deviceOf, listedJob};
+ghost use Rattle.tables.specs.Records.{task_at, job_at};
+ghost use Rattle.request.specs.Format.{set_of, device_of, listed_job};
 
 use base::{JobNumber, TaskNumber};
 use device::Device;
@@ -10,7 +10,7 @@ use tables::{DeviceRecord, TaskRecord};
 
 // For each device whether a set names it. Device 0 has the lowest bit, so the bits come off by halving.
 pub(crate) fn set_of(set: u8) -> [bool; 8]
-    ensures { result ≡ setOf set }
+    ensures { result ≡ set_of set }
 {
     let mut uses = [false; 8];
     let mut rest = set;
@@ -25,7 +25,7 @@ pub(crate) fn set_of(set: u8) -> [bool; 8]
 
 // What is planned with, whatever the kind (rule 3).
 pub fn device_of(d: DeviceRecord) -> Device
-    ensures { result ≡ deviceOf d }
+    ensures { result ≡ device_of d }
 {
     Device {
         shut: d.shut,
@@ -41,7 +41,7 @@ pub fn device_of(d: DeviceRecord) -> Device
 // The task of a number, of those whose records begin at a place.
 pub(crate) fn task_of(s: &[u8], from: usize, task: TaskNumber) -> TaskRecord
     requires { from + task.0 * 5 + 4 < length s.now }
-    ensures { result ≡ taskAt s.now (from + task.0 * 5) }
+    ensures { result ≡ task_at s.now (from + task.0 * 5) }
 {
     let i = task.0;
     tables::task_at(s, from + i * 5)
@@ -50,7 +50,7 @@ pub(crate) fn task_of(s: &[u8], from: usize, task: TaskNumber) -> TaskRecord
 // The job of a number, of those whose records begin at a place.
 pub(crate) fn listed_job(s: &[u8], from: usize, job: JobNumber) -> Job
     requires { from + job.0 * 7 + 6 < length s.now }
-    ensures { result ≡ listedJob (jobAt s.now (from + job.0 * 7)) }
+    ensures { result ≡ listed_job (job_at s.now (from + job.0 * 7)) }
 {
     let i = job.0;
     let j = tables::job_at(s, from + i * 7);

@@ -1,7 +1,7 @@
 // The sections in turn, from the first byte on: whatever is wrong first gives the number. The number 0 stands for none.
 ghost use Rattle.std.specs.Prelude.{◌≡◌, ℕ, ◌+◌, ◌*◌, ◌≤◌, ◌<◌, min, length};
 ghost use Rattle.base.specs.Bytes.{byte_at, pair_at};
-ghost use Rattle.request.specs.Format.{mixed, count_of, jobRecords, jobSection, taskSection, faultAs};
+ghost use Rattle.request.specs.Format.{mixed, count_of, job_records, job_section, task_section, fault_as};
 ghost use Rattle.request.specs.inside.Held.{SoundTasks};
 
 use super::{Section, checks, horizon, jobs};
@@ -36,7 +36,7 @@ pub fn job_count(s: &[u8], tasks: usize, from: usize, count: usize, h: u32) -> u
 // 12, then the job records, then 2.
 fn job_records(s: &[u8], n: usize, tasks: usize, from: usize, at: usize, h: u32) -> u8
     requires { SoundTasks s.now tasks from × (h ≤ 4096) × (at < length s.now) }
-    ensures { result ≡ jobRecords s.now n tasks from at h }
+    ensures { result ≡ job_records s.now n tasks from at h }
 {
     let count = s[at] as usize;
     if 16 < job_count(s, tasks, from, count, h) {
@@ -55,7 +55,7 @@ fn job_records(s: &[u8], n: usize, tasks: usize, from: usize, at: usize, h: u32)
 // From the job count on: 11, then 10, then the jobs.
 fn job_section(s: &[u8], n: usize, tasks: usize, from: usize, at: usize) -> u8
     requires { SoundTasks s.now tasks from × (3 ≤ from) × (from ≤ at) }
-    ensures { result ≡ jobSection s.now n tasks from at }
+    ensures { result ≡ job_section s.now n tasks from at }
 {
     if s.len() <= at {
         return 1;
@@ -76,7 +76,7 @@ fn job_section(s: &[u8], n: usize, tasks: usize, from: usize, at: usize) -> u8
 // From the task count on.
 fn task_section(s: &[u8], n: usize, at: usize) -> u8
     requires { (at ≤ length s.now) × (3 ≤ at) }
-    ensures { result ≡ taskSection s.now n at }
+    ensures { result ≡ task_section s.now n at }
 {
     if s.len() <= at {
         return 1;
@@ -94,7 +94,7 @@ fn task_section(s: &[u8], n: usize, at: usize) -> u8
 
 // The refusal number of what follows the mark of a file of a kind.
 pub(crate) fn fault_of(s: &[u8], kind: Kind) -> u8
-    ensures { result ≡ faultAs kind s.now }
+    ensures { result ≡ fault_as kind s.now }
 {
     if s.len() < 3 {
         return 1;

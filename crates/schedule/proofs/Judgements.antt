@@ -16,7 +16,7 @@ use Rattle.schedule.specs.declared.Recorder.{Recorder}
 use Rattle.schedule.specs.declared.judging.Verdict.{Verdict}
 use Rattle.schedule.specs.Quantities.{jobs, release, deadline, run}
 use Rattle.schedule.specs.Listing.{start, Released, InTime, Runs, Feasible, Overlaps, Met, Fault, early, late, overlap}
-use Rattle.schedule.specs.inside.Judging.{Judgement, faulty, feasible, Windows, missed, met, windowFault, clashes, Decides, holds, fails}
+use Rattle.schedule.specs.inside.Judging.{Judgement, faulty, feasible, Windows, missed, met, window_fault, clashes, Decides, holds, fails}
 
 -- A recorder of these jobs: what a loop over them says of it, it says of every recorder that holds them.
 abbrev pub holding : Jobs → Recorder
@@ -33,18 +33,18 @@ denied (fails n) e = n
 
 module _ (R : Recorder) (s : List ℕ) where
   -- One job's own fault, and none.
-  pub window-missed : (j n : ℕ) → j < jobs R → Met R s j → n ≡ windowFault (release R j) (deadline R j) (run R j) (start s j) → (n ≡ 0 → ⊥) → Fault R s n j
-  unfolding windowFault
-  window-missed j n l m =
+  pub window_missed : (j n : ℕ) → j < jobs R → Met R s j → n ≡ window_fault (release R j) (deadline R j) (run R j) (start s j) → (n ≡ 0 → ⊥) → Fault R s n j
+  unfolding window_fault
+  window_missed j n l m =
       cond_cases (λ (w : ℕ). n ≡ w → (n ≡ 0 → ⊥) → Fault R s n j) (ltb (start s j) (release R j))
       (λ q e ne. subst (λ (w : ℕ). Fault R s w j) (sym e) (early l m (ltb-true (start s j) (release R j) q)))
       (λ q. cond_cases (λ (w : ℕ). n ≡ w → (n ≡ 0 → ⊥) → Fault R s n j) (ltb (deadline R j) (start s j + run R j))
       (λ p e ne. subst (λ (w : ℕ). Fault R s w j) (sym e) (late l m (ltb-false (start s j) (release R j) q) (ltb-true (deadline R j) (start s j + run R j) p)))
       (λ p e ne. absurd (ne e)))
 
-  pub window-met : (j : ℕ) → 0 ≡ windowFault (release R j) (deadline R j) (run R j) (start s j) → Released R s j × InTime R s j
-  unfolding windowFault
-  window-met j =
+  pub window_met : (j : ℕ) → 0 ≡ window_fault (release R j) (deadline R j) (run R j) (start s j) → Released R s j × InTime R s j
+  unfolding window_fault
+  window_met j =
       cond_cases (λ (w : ℕ). 0 ≡ w → Released R s j × InTime R s j) (ltb (start s j) (release R j))
       (λ q e. absurd (omega arith))
       (λ q. cond_cases (λ (w : ℕ). 0 ≡ w → Released R s j × InTime R s j) (ltb (deadline R j) (start s j + run R j))
@@ -52,35 +52,35 @@ module _ (R : Recorder) (s : List ℕ) where
       (λ p e. (ltb-false (start s j) (release R j) q, ltb-false (deadline R j) (start s j + run R j) p)))
 
   -- No fault has the number 0, so the number tells the two cases apart.
-  pub fault-some : {n j : ℕ} → Fault R s n j → n ≡ 0 → ⊥
-  fault-some (early l m h) e = omega arith
-  fault-some (late l m h k) e = omega arith
-  fault-some (overlap l m o f) e = omega arith
+  pub fault_some : {n j : ℕ} → Fault R s n j → n ≡ 0 → ⊥
+  fault_some (early l m h) e = omega arith
+  fault_some (late l m h k) e = omega arith
+  fault_some (overlap l m o f) e = omega arith
 
-  pub windows-met : {v : Verdict} → Windows R s v → v.number ≡ 0 → Met R s (jobs R)
-  windows-met (missed f) e = absurd (fault-some f e)
-  windows-met (met m) e = m
+  pub windows_met : {v : Verdict} → Windows R s v → v.number ≡ 0 → Met R s (jobs R)
+  windows_met (missed f) e = absurd (fault_some f e)
+  windows_met (met m) e = m
 
-  pub windows-missed : {v : Verdict} → Windows R s v → (v.number ≡ 0 → ⊥) → Judgement R s v
-  windows-missed (missed f) ne = faulty f
-  windows-missed (met m) ne = absurd (ne refl)
+  pub windows_missed : {v : Verdict} → Windows R s v → (v.number ≡ 0 → ⊥) → Judgement R s v
+  windows_missed (missed f) ne = faulty f
+  windows_missed (met m) ne = absurd (ne refl)
 
   -- Job i clashes with job j exactly where it is another and each starts before the other ends.
   abbrev clash : ℕ → ℕ → Bool
   clash i j = clashes i (start s i) (run R i) j (start s j) (run R j)
 
-  pub clash-overlaps : (i j : ℕ) → i < jobs R → 1 ≤ run R i → 1 ≤ run R j → clash i j ≡ true → Overlaps R s j
+  pub clash_overlaps : (i j : ℕ) → i < jobs R → 1 ≤ run R i → 1 ≤ run R j → clash i j ≡ true → Overlaps R s j
   unfolding clashes
-  clash-overlaps i j l ri rj =
+  clash_overlaps i j l ri rj =
       cond_cases (λ (w : Bool). w ≡ true → Overlaps R s j) (eqb i j) (λ q p. absurd (true≢false (sym p)))
       (λ ne. cond_cases (λ (w : Bool). w ≡ true → Overlaps R s j) (ltb (start s i) (start s j + run R j))
       (λ q p. let a = ltb-true (start s i) (start s j + run R j) q in let b = ltb-true (start s j) (start s i + run R i) p in
       record { other = i; known = l; another = eqb-false i j ne; tick = max (start s j) (start s i); here = omega arith; there = omega arith })
       (λ q p. absurd (true≢false (sym p))))
 
-  pub clash-apart : (i j : ℕ) → clash i j ≡ false → (i ≡ j → ⊥) → (t : ℕ) → Runs R s j t → Runs R s i t → ⊥
+  pub clash_apart : (i j : ℕ) → clash i j ≡ false → (i ≡ j → ⊥) → (t : ℕ) → Runs R s j t → Runs R s i t → ⊥
   unfolding clashes
-  clash-apart i j =
+  clash_apart i j =
       cond_cases (λ (w : Bool). w ≡ false → (i ≡ j → ⊥) → (t : ℕ) → Runs R s j t → Runs R s i t → ⊥) (eqb i j) (λ q p ne. absurd (ne (eqb-true i j q)))
       (λ e. cond_cases (λ (w : Bool). w ≡ false → (i ≡ j → ⊥) → (t : ℕ) → Runs R s j t → Runs R s i t → ⊥) (ltb (start s i) (start s j + run R j))
       (λ q p ne t a b. omega (arith, ltb-false (start s j) (start s i + run R i) p))
@@ -93,12 +93,12 @@ module _ (R : Recorder) (s : List ℕ) where
   pub apart_none : (j : ℕ) → Apart j (jobs R) → Overlaps R s j → ⊥
   apart_none j h o = h o.other o.known o.another o.tick o.here o.there
 
-  pub none-feasible : length s ≡ jobs R → Met R s (jobs R) → ((j : ℕ) → j < jobs R → Overlaps R s j → ⊥) → Feasible R s
-  none-feasible one m none =
+  pub none_feasible : length s ≡ jobs R → Met R s (jobs R) → ((j : ℕ) → j < jobs R → Overlaps R s j → ⊥) → Feasible R s
+  none_feasible one m none =
       record {
         one_each = one;
         released = λ j l. (m j l).0;
-        in-time = λ j l. (m j l).1;
+        in_time = λ j l. (m j l).1;
         apart = λ i j t hi hj a b. by_cases (ℕ_discrete i j) (λ e. e)
             (λ ne. absurd (none i hi (record { other = j; known = hj; another = λ e. ne (sym e); tick = t; here = a; there = b })));
       }
@@ -113,38 +113,38 @@ module _ (R : Recorder) (s : List ℕ) where
   untimely : (j : ℕ) → deadline R j < start s j + run R j → Misses j
   untimely j h r t = omega arith
 
-  not-met : (i j : ℕ) → Met R s j → Misses i → j ≤ i
-  not-met i j m bad = by_cases (dec_le j i) (λ h. h) (λ h. absurd (bad (m i (omega arith)).0 (m i (omega arith)).1))
+  not_met : (i j : ℕ) → Met R s j → Misses i → j ≤ i
+  not_met i j m bad = by_cases (dec_le j i) (λ h. h) (λ h. absurd (bad (m i (omega arith)).0 (m i (omega arith)).1))
 
-  same-job : (i j : ℕ) → Met R s i → Misses i → Met R s j → Misses j → i ≡ j
-  same-job i j m bad m' bad' = omega (arith, not-met i j m' bad, not-met j i m bad')
+  same_job : (i j : ℕ) → Met R s i → Misses i → Met R s j → Misses j → i ≡ j
+  same_job i j m bad m' bad' = omega (arith, not_met i j m' bad, not_met j i m bad')
 
-  not-less : (i k : ℕ) → (i < k → ⊥) → k ≤ i
-  not-less i k h = by_cases (dec_le k i) (λ l. l) (λ l. absurd (h (omega arith)))
+  not_less : (i k : ℕ) → (i < k → ⊥) → k ≤ i
+  not_less i k h = by_cases (dec_le k i) (λ l. l) (λ l. absurd (h (omega arith)))
 
-  pub fault-one : {n j n' j' : ℕ} → Fault R s n j → Fault R s n' j' → (n ≡ n') × (j ≡ j')
-  fault-one (early {j = i} l m h) (early {j = j} l' m' h') = (refl, same-job i j m (unreleased i h) m' (unreleased j h'))
-  fault-one (early {j = i} l m h) (late {j = j} l' m' r' h') =
-      let e = same-job i j m (unreleased i h) m' (untimely j h') in absurd (omega (arith, ap (start s) e, ap (release R) e))
-  fault-one (early {j = i} l m h) (overlap l' m' o' f') = absurd (omega (arith, not-met i (jobs R) m' (unreleased i h)))
-  fault-one (late {j = i} l m r h) (early {j = j} l' m' h') =
-      let e = same-job i j m (untimely i h) m' (unreleased j h') in absurd (omega (arith, ap (start s) e, ap (release R) e))
-  fault-one (late {j = i} l m r h) (late {j = j} l' m' r' h') = (refl, same-job i j m (untimely i h) m' (untimely j h'))
-  fault-one (late {j = i} l m r h) (overlap l' m' o' f') = absurd (omega (arith, not-met i (jobs R) m' (untimely i h)))
-  fault-one (overlap l m o f) (early {j = j} l' m' h') = absurd (omega (arith, not-met j (jobs R) m (unreleased j h')))
-  fault-one (overlap l m o f) (late {j = j} l' m' r' h') = absurd (omega (arith, not-met j (jobs R) m (untimely j h')))
-  fault-one (overlap {j = i} l m o f) (overlap {j = j} l' m' o' f') = (refl, omega (arith, not-less i j (λ h. f' i h o), not-less j i (λ h. f j h o')))
+  pub fault_one : {n j n' j' : ℕ} → Fault R s n j → Fault R s n' j' → (n ≡ n') × (j ≡ j')
+  fault_one (early {j = i} l m h) (early {j = j} l' m' h') = (refl, same_job i j m (unreleased i h) m' (unreleased j h'))
+  fault_one (early {j = i} l m h) (late {j = j} l' m' r' h') =
+      let e = same_job i j m (unreleased i h) m' (untimely j h') in absurd (omega (arith, ap (start s) e, ap (release R) e))
+  fault_one (early {j = i} l m h) (overlap l' m' o' f') = absurd (omega (arith, not_met i (jobs R) m' (unreleased i h)))
+  fault_one (late {j = i} l m r h) (early {j = j} l' m' h') =
+      let e = same_job i j m (untimely i h) m' (unreleased j h') in absurd (omega (arith, ap (start s) e, ap (release R) e))
+  fault_one (late {j = i} l m r h) (late {j = j} l' m' r' h') = (refl, same_job i j m (untimely i h) m' (untimely j h'))
+  fault_one (late {j = i} l m r h) (overlap l' m' o' f') = absurd (omega (arith, not_met i (jobs R) m' (untimely i h)))
+  fault_one (overlap l m o f) (early {j = j} l' m' h') = absurd (omega (arith, not_met j (jobs R) m (unreleased j h')))
+  fault_one (overlap l m o f) (late {j = j} l' m' r' h') = absurd (omega (arith, not_met j (jobs R) m (untimely j h')))
+  fault_one (overlap {j = i} l m o f) (overlap {j = j} l' m' o' f') = (refl, omega (arith, not_less i j (λ h. f' i h o), not_less j i (λ h. f j h o')))
 
-  pub fault-infeasible : {n j : ℕ} → Fault R s n j → Feasible R s → ⊥
-  fault-infeasible (early {j = j} l m h) g = unreleased j h (g.released j l) (g.in-time j l)
-  fault-infeasible (late {j = j} l m r h) g = untimely j h (g.released j l) (g.in-time j l)
-  fault-infeasible (overlap {j = j} l m o f) g = o.another (g.apart o.other j o.tick o.known l o.there o.here)
+  pub fault_infeasible : {n j : ℕ} → Fault R s n j → Feasible R s → ⊥
+  fault_infeasible (early {j = j} l m h) g = unreleased j h (g.released j l) (g.in_time j l)
+  fault_infeasible (late {j = j} l m r h) g = untimely j h (g.released j l) (g.in_time j l)
+  fault_infeasible (overlap {j = j} l m o f) g = o.another (g.apart o.other j o.tick o.known l o.there o.here)
 
   -- What a judgement's number says.
-  pub judgement-fault : {v : Verdict} → Judgement R s v → (v.number ≡ 0 → ⊥) → Fault R s v.number v.job.0
-  judgement-fault (faulty f) ne = f
-  judgement-fault (feasible g) ne = absurd (ne refl)
+  pub judgement_fault : {v : Verdict} → Judgement R s v → (v.number ≡ 0 → ⊥) → Fault R s v.number v.job.0
+  judgement_fault (faulty f) ne = f
+  judgement_fault (feasible g) ne = absurd (ne refl)
 
-  pub judgement-feasible : {v : Verdict} → Judgement R s v → v.number ≡ 0 → Feasible R s
-  judgement-feasible (faulty f) e = absurd (fault-some f e)
-  judgement-feasible (feasible g) e = g
+  pub judgement_feasible : {v : Verdict} → Judgement R s v → v.number ≡ 0 → Feasible R s
+  judgement_feasible (faulty f) e = absurd (fault_some f e)
+  judgement_feasible (feasible g) e = g

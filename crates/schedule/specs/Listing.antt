@@ -31,7 +31,7 @@ Runs R s j t = (start s j ≤ t) × (t < start s j + run R j)
 pub record Feasible (R : Recorder) (s : List ℕ) : Type 0 where
   pub one_each : length s ≡ jobs R
   pub released : (j : ℕ) → j < jobs R → Released R s j
-  pub in-time : (j : ℕ) → j < jobs R → InTime R s j
+  pub in_time : (j : ℕ) → j < jobs R → InTime R s j
   pub apart : (i j t : ℕ) → i < jobs R → j < jobs R → Runs R s i t → Runs R s j t → i ≡ j
 
 -- From a job's end to its deadline, below 0 where it ends later (rules 21 and 24).
@@ -78,12 +78,12 @@ abbrev pub places : Recorder → List ℕ → List Place
 places R s = up_to (λ j. place j (start s j)) (jobs R)
 
 -- The pattern in which the schedule uses device k, over all ticks.
-abbrev pub usesOf : Recorder → List ℕ → ℕ → List Bool
-usesOf R s k = pattern (used R k (places R s)) 0 R.horizon
+abbrev pub uses_of : Recorder → List ℕ → ℕ → List Bool
+uses_of R s k = pattern (used R k (places R s)) 0 R.horizon
 
 -- The plan's rows, a least row for each device (rule 37), by the rule of the request's kind (rule 85); and e is the energy of all.
 pub record Rows (R : Recorder) (s : List ℕ) (rows : ℕ → List Letter) : Type 0 where
-  pub least : (k : ℕ) → k < R.devices.count → LeastRow R.round (device R k) (usesOf R s k) (rows k)
+  pub least : (k : ℕ) → k < R.devices.count → LeastRow R.round (device R k) (uses_of R s k) (rows k)
 
 pub record Costs (R : Recorder) (s : List ℕ) (e : ℕ) : Type 0 where
   pub rows : ℕ → List Letter

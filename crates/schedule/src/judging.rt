@@ -2,7 +2,7 @@
 ghost use Rattle.std.specs.Prelude.{◌≡◌, ◌+◌, ◌<◌, length};
 ghost use Rattle.schedule.specs.Quantities.{jobs, Valid};
 ghost use Rattle.schedule.specs.Listing.{Met, Overlaps};
-ghost use Rattle.schedule.specs.inside.Judging.{Judgement, Windows, windowFault, clashes, Decides};
+ghost use Rattle.schedule.specs.inside.Judging.{Judgement, Windows, window_fault, clashes, Decides};
 
 use crate::Recorder;
 use base::JobNumber;
@@ -16,7 +16,7 @@ pub struct Verdict {
 
 // Start times come from outside: their sums with running times need more than 16 bits.
 fn window_fault(release: u16, deadline: u16, run: u16, start: u16) -> u8
-    ensures { result ≡ windowFault release deadline run start }
+    ensures { result ≡ window_fault release deadline run start }
 {
     if start < release {
         return 16;

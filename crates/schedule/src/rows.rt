@@ -2,7 +2,7 @@
 ghost use Rattle.std.specs.Prelude.{◌≡◌, ◌++◌, ◌*◌, ◌≤◌, length, drop};
 ghost use Rattle.schedule.specs.Quantities.{Valid};
 ghost use Rattle.schedule.specs.Listing.{Feasible, laid};
-ghost use Rattle.schedule.specs.Visiting.{planEnergy, planRow};
+ghost use Rattle.schedule.specs.Visiting.{plan_energy, plan_row};
 
 use crate::Recorder;
 use crate::ordering::running_order;
@@ -12,7 +12,7 @@ use device::{energy_of, write_row};
 // The energy of the plan with these start times.
 pub fn plan_energy(r: Recorder, starts: &[u16]) -> u32
     requires { Valid r × Feasible r starts.now }
-    ensures { result ≡ planEnergy r starts.now }
+    ensures { result ≡ plan_energy r starts.now }
 {
     let devices = r.devices;
     let order = running_order(starts);
@@ -30,7 +30,7 @@ pub fn plan_energy(r: Recorder, starts: &[u16]) -> u32
 // running order is found once for all devices.
 pub fn write_rows(r: Recorder, starts: &[u16], out: &mut [u8]) -> u32
     requires { Valid r × Feasible r starts.now × (r.devices.count * r.horizon ≤ length out.old) }
-    ensures { (result ≡ planEnergy r starts.now) × (out.new ≡ laid r.sleeps (planRow r starts.now) r.devices.count ++ drop (r.devices.count * r.horizon) out.old) }
+    ensures { (result ≡ plan_energy r starts.now) × (out.new ≡ laid r.sleeps (plan_row r starts.now) r.devices.count ++ drop (r.devices.count * r.horizon) out.old) }
 {
     let devices = r.devices;
     let sleeps = r.sleeps;

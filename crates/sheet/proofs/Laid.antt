@@ -10,15 +10,15 @@ use lib.ListN.{length, take, drop, get_or, length-append}
 use lib.Seq.{take_at, drop_at, drop-drop, take-suc, take_all}
 use lib.Dec.{eqb, ltb}
 use borrow.Author.Tests.{not-false, eqb-true}
-use Rattle.base.proofs.Arrays.{upTo-whole}
+use Rattle.base.proofs.Arrays.{up_to_whole}
 use Rattle.base.proofs.Every.{Every}
 use Rattle.base.specs.Lists.{all}
 use Rattle.base.specs.Bytes.{pieces, in_row}
 use Rattle.base.proofs.Cases.{both, neither}
 use Rattle.base.proofs.Pieces.{row_snoc}
-use Rattle.catalogue.specs.Parts.{wellFormed, malformed, Part, part_of, parts_of, numbers, whole, unfit}
+use Rattle.catalogue.specs.Parts.{well_formed, malformed, Part, part_of, parts_of, numbers, whole, unfit}
 use Rattle.catalogue.proofs.PartNumbers.{formed}
-use Rattle.sheet.specs.Sheets.{partBytes, catalogueOf}
+use Rattle.sheet.specs.Sheets.{part_bytes, catalogue_of}
 
 -- ---- one more row, and all of them
 
@@ -32,18 +32,18 @@ module _ {A : Type 0} (row : A → List ℕ) (ls : List A) (z : A) where
   pub rows_all : (k : ℕ) → k ≡ length ls → in_row (map row (take k ls)) ≡ in_row (map row ls)
   rows_all k e = ap (λ (l : List A). in_row (map row l)) (take_all k ls (omega arith))
 
-pub row-map : {A B : Type 0} (f : A → B) (g : B → List ℕ) (xs : List A) → in_row (map (λ x. g (f x)) xs) ≡ in_row (map g (map f xs))
-row-map f g [] = refl
-row-map f g (x ∷ xs) = ap (λ (l : List ℕ). g (f x) ++ l) (row-map f g xs)
+pub row_map : {A B : Type 0} (f : A → B) (g : B → List ℕ) (xs : List A) → in_row (map (λ x. g (f x)) xs) ≡ in_row (map g (map f xs))
+row_map f g [] = refl
+row_map f g (x ∷ xs) = ap (λ (l : List ℕ). g (f x) ++ l) (row_map f g xs)
 
 -- ---- and back
 
 abbrev pub Sized : ℕ → List ℕ → Type 0
 Sized n q = length q ≡ n
 
-pub row-long : (n : ℕ) (qs : List (List ℕ)) → Every (Sized n) qs → length (in_row qs) ≡ n * length qs
-row-long n [] h = omega (arith, mul-zero n)
-row-long n (q ∷ qs) h = omega (arith, length-append q (in_row qs), h.0, row-long n qs h.1, mul-suc n (length qs))
+pub row_long : (n : ℕ) (qs : List (List ℕ)) → Every (Sized n) qs → length (in_row qs) ≡ n * length qs
+row_long n [] h = omega (arith, mul-zero n)
+row_long n (q ∷ qs) h = omega (arith, length-append q (in_row qs), h.0, row_long n qs h.1, mul-suc n (length qs))
 
 piece_of : (n : ℕ) (qs : List (List ℕ)) → Every (Sized n) qs → (k : ℕ) → k < length qs → take n (drop (n * k) (in_row qs)) ≡ get_or qs k []
 piece_of n [] h k l = absurd (omega arith)
@@ -54,37 +54,37 @@ piece_of n (q ∷ qs) h (suc k) l =
     rw (← e, ← drop-drop (n * k) n (q ++ in_row qs), rest) (piece_of n qs h.1 k (omega arith))
 
 -- For every size of which the pieces are as many: each numeral but 0 is one.
-pub pieces-back : (n : ℕ) (qs : List (List ℕ)) → Every (Sized n) qs → (length (in_row qs) + (n - 1)) / n ≡ length qs → pieces n (in_row qs) ≡ qs
+pub pieces_back : (n : ℕ) (qs : List (List ℕ)) → Every (Sized n) qs → (length (in_row qs) + (n - 1)) / n ≡ length qs → pieces n (in_row qs) ≡ qs
 unfolding pieces
-pieces-back n qs h e = rw e (upTo-whole (λ k. take n (drop (n * k) (in_row qs))) qs [] (length qs) refl (piece_of n qs h))
+pieces_back n qs h e = rw e (up_to_whole (λ k. take n (drop (n * k) (in_row qs))) qs [] (length qs) refl (piece_of n qs h))
 
 -- The parts of a catalogue made of parts are these.
 abbrev pub PartSized : Part → Type 0
 PartSized p = (length p.number ≡ 8) × (length p.device ≡ 7)
 
-part-back : (p : Part) → PartSized p → part_of (partBytes p) ≡ p
-part-back p h = rw (take_at p.number p.device 8 h.0, drop_at p.number p.device 8 h.0)
+part_back : (p : Part) → PartSized p → part_of (part_bytes p) ≡ p
+part_back p h = rw (take_at p.number p.device 8 h.0, drop_at p.number p.device 8 h.0)
 
-pub parts-back : (ps : List Part) → Every PartSized ps → parts_of (catalogueOf ps) ≡ ps
-parts-back ps h = ap (map part_of) (pieces-back 15 (map partBytes ps) (sized ps h) (omega (arith, row-long 15 (map partBytes ps) (sized ps h)))) ∙ back ps h
+pub parts_back : (ps : List Part) → Every PartSized ps → parts_of (catalogue_of ps) ≡ ps
+parts_back ps h = ap (map part_of) (pieces_back 15 (map part_bytes ps) (sized ps h) (omega (arith, row_long 15 (map part_bytes ps) (sized ps h)))) ∙ back ps h
   where
-    sized : (qs : List Part) → Every PartSized qs → Every (Sized 15) (map partBytes qs)
+    sized : (qs : List Part) → Every PartSized qs → Every (Sized 15) (map part_bytes qs)
     sized [] h = tt
     sized (q ∷ qs) h = (omega (arith, length-append q.number q.device, h.0.0, h.0.1), sized qs h.1)
 
-    back : (qs : List Part) → Every PartSized qs → map part_of (map partBytes qs) ≡ qs
+    back : (qs : List Part) → Every PartSized qs → map part_of (map part_bytes qs) ≡ qs
     back [] h = refl
-    back (q ∷ qs) h = let e = part-back q h.0 in let f = back qs h.1 in cc
+    back (q ∷ qs) h = let e = part_back q h.0 in let f = back qs h.1 in cc
 
-pub fit-sized : (ps : List Part) → unfit ps ≡ false → Every PartSized ps
-fit-sized ps u =
+pub fit_sized : (ps : List Part) → unfit ps ≡ false → Every PartSized ps
+fit_sized ps u =
     let w = neither (malformed (numbers ps)) (not (all whole ps)) u in
-    let p = neither (ltb 64 (length (numbers ps))) (not (all wellFormed (numbers ps))) w.0 in
+    let p = neither (ltb 64 (length (numbers ps))) (not (all well_formed (numbers ps))) w.0 in
     go ps (not-false _ p.1) (not-false _ w.1)
   where
-    go : (qs : List Part) → all wellFormed (numbers qs) ≡ true → all whole qs ≡ true → Every PartSized qs
+    go : (qs : List Part) → all well_formed (numbers qs) ≡ true → all whole qs ≡ true → Every PartSized qs
     go [] f w = tt
     go (q ∷ qs) f w =
-        let a = both (wellFormed q.number) (all wellFormed (numbers qs)) f in
+        let a = both (well_formed q.number) (all well_formed (numbers qs)) f in
         let b = both (eqb (length q.device) 7) (all whole qs) w in
         (((formed q.number a.0).0, eqb-true (length q.device) 7 b.0), go qs a.1 b.1)

@@ -1,7 +1,7 @@
 // The sheet of a plan. It asks nothing of its caller: any file and start times get an answer. sheet/specs/Promises.antt says the complete outcome.
 ghost use Rattle.std.specs.Prelude.{◌≡◌, map, ℕ, ◌≤◌, pos, nat_abs, length, get_or};
 ghost use Rattle.text.specs.inside.Putting.{Put};
-ghost use Rattle.sheet.specs.Sheets.{planText};
+ghost use Rattle.sheet.specs.Sheets.{plan_text};
 ghost use Rattle.sheet.specs.Promises.{ExportedPlan};
 ghost use Rattle.sheet_export.specs.inside.Margins.{Spare};
 
@@ -20,7 +20,7 @@ fn spare_of(margin: i32) -> u16
 // A line for each job: its number, its start and its margin.
 fn put_plan_lines(out: &mut [u8], starts: &[u16], margins: &[i32]) -> usize
     requires { (length starts.now ≤ 16) × (length margins.now ≡ 16) × (length out.old ≡ 304) × ((j : ℕ) → Spare (get_or margins.now j (pos 0))) }
-    ensures { (result ≤ 304) × Put (planText starts.now (map nat_abs margins.now)) 0 out.old result out.new }
+    ensures { (result ≤ 304) × Put (plan_text starts.now (map nat_abs margins.now)) 0 out.old result out.new }
 {
     let count = starts.len();
     let mut at = 0;

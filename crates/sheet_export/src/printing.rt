@@ -4,8 +4,8 @@ ghost use Rattle.base.specs.Bytes.{pieces};
 ghost use Rattle.catalogue.specs.Parts.{front, part_of, parts_of, unfit};
 ghost use Rattle.text.specs.Grammar.{quote, comma};
 ghost use Rattle.text.specs.inside.Putting.{Put};
-ghost use Rattle.sheet.specs.Sheets.{devicesText, jobsText, jobsOf};
-ghost use Rattle.sheet_export.specs.inside.Printing.{partText, recordText};
+ghost use Rattle.sheet.specs.Sheets.{devices_text, jobs_text, jobs_of};
+ghost use Rattle.sheet_export.specs.inside.Printing.{part_text, record_text};
 
 use catalogue::signs_of;
 use tables::{first_at, job_at};
@@ -26,7 +26,7 @@ fn put_quoted(out: &mut [u8], at: usize, number: &[u8]) -> usize
 // The line of a part, with its CR LF.
 fn put_part_line(out: &mut [u8], at: usize, part: &[u8]) -> usize
     requires { (at + 36 ≤ length out.old) × (length part.now ≡ 15) }
-    ensures { Put (partText (part_of part.now)) at out.old result out.new }
+    ensures { Put (part_text (part_of part.now)) at out.old result out.new }
 {
     let next = put_quoted(out, at, &part[..8]);
     let d = first_at(part, 8);
@@ -35,7 +35,7 @@ fn put_part_line(out: &mut [u8], at: usize, part: &[u8]) -> usize
 
 pub(crate) fn put_part_lines(out: &mut [u8], catalogue: &[u8]) -> usize
     requires { (unfit (parts_of catalogue.now) ≡ false) × (length out.old ≡ 2304) }
-    ensures { (result ≤ 2304) × Put (devicesText (parts_of catalogue.now)) 0 out.old result out.new }
+    ensures { (result ≤ 2304) × Put (devices_text (parts_of catalogue.now)) 0 out.old result out.new }
 {
     let count = catalogue.len() / 15;
     let mut at = 0;
@@ -52,7 +52,7 @@ pub(crate) fn put_part_lines(out: &mut [u8], catalogue: &[u8]) -> usize
 // The line of the job record at a place.
 fn put_job_line(out: &mut [u8], at: usize, piece: &[u8]) -> usize
     requires { (at + 25 ≤ length out.old) × (length piece.now ≡ 7) }
-    ensures { Put (recordText piece.now) at out.old result out.new }
+    ensures { Put (record_text piece.now) at out.old result out.new }
 {
     let j = job_at(piece, 0);
     put_four(out, at, j.release, j.deadline, j.run, j.set as u16)
@@ -60,7 +60,7 @@ fn put_job_line(out: &mut [u8], at: usize, piece: &[u8]) -> usize
 
 pub(crate) fn put_job_lines(out: &mut [u8], records: &[u8]) -> usize
     requires { (length records.now ≤ 112) × (length records.now % 7 ≡ 0) × (length out.old ≡ 400) }
-    ensures { (result ≤ 400) × Put (jobsText (jobsOf (pieces 7 records.now))) 0 out.old result out.new }
+    ensures { (result ≤ 400) × Put (jobs_text (jobs_of (pieces 7 records.now))) 0 out.old result out.new }
 {
     let count = records.len() / 7;
     let mut at = 0;

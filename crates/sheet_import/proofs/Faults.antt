@@ -9,112 +9,112 @@ use lib.ListN.{length, drop, get_or}
 use lib.Seq.{drop-cons, drop-drop, get_or-drop}
 use lib.Dec.{leb}
 use borrow.Author.Tests.{le-leb, lt-leb, eq-eqb, ne_eqb}
-use Rattle.base.proofs.Cases.{test-cases}
+use Rattle.base.proofs.Cases.{test_cases}
 use Rattle.text.specs.Grammar.{unread}
 use Rattle.text.specs.Numerals.{is_number}
-use Rattle.text.specs.inside.Cursors.{rawOf, counted, number_of}
-use Rattle.text.proofs.Cutting.{count-some, count-read}
-use Rattle.text.proofs.Scanning.{number-test}
+use Rattle.text.specs.inside.Cursors.{raw_of, counted, number_of}
+use Rattle.text.proofs.Cutting.{count_some, count_read}
+use Rattle.text.proofs.Scanning.{number_test}
 use Rattle.sheet.specs.declared.SheetKind.{SheetKind}
 use Rattle.sheet.specs.declared.SheetKind.TheVariants.{Devices, Jobs}
-use Rattle.sheet.specs.Sheets.{columnsOf, areNumbers, lineFault}
-use Rattle.sheet_import.specs.inside.Reading.{rawIn}
-use Rattle.sheet_import.proofs.Raw.{raw-fault}
+use Rattle.sheet.specs.Sheets.{columns_of, are_numbers, line_fault}
+use Rattle.sheet_import.specs.inside.Reading.{raw_in}
+use Rattle.sheet_import.proofs.Raw.{raw_fault}
 
 -- ---- the bounds
 
-pub wide-devices : (k : ℕ) → k < 4 → (k ≡ 0 → ⊥) → 65535 ≡ get_or (columnsOf Devices).most k 0
-wide-devices zero h n = absurd (n refl)
-wide-devices (suc zero) h n = refl
-wide-devices (suc (suc zero)) h n = refl
-wide-devices (suc (suc (suc zero))) h n = refl
-wide-devices (suc (suc (suc (suc k)))) h n = absurd (omega arith)
+pub wide_devices : (k : ℕ) → k < 4 → (k ≡ 0 → ⊥) → 65535 ≡ get_or (columns_of Devices).most k 0
+wide_devices zero h n = absurd (n refl)
+wide_devices (suc zero) h n = refl
+wide_devices (suc (suc zero)) h n = refl
+wide_devices (suc (suc (suc zero))) h n = refl
+wide_devices (suc (suc (suc (suc k)))) h n = absurd (omega arith)
 
-pub wide-jobs : (k : ℕ) → k < 4 → (k ≡ 3 → ⊥) → 65535 ≡ get_or (columnsOf Jobs).most k 0
-wide-jobs zero h n = refl
-wide-jobs (suc zero) h n = refl
-wide-jobs (suc (suc zero)) h n = refl
-wide-jobs (suc (suc (suc zero))) h n = absurd (n refl)
-wide-jobs (suc (suc (suc (suc k)))) h n = absurd (omega arith)
+pub wide_jobs : (k : ℕ) → k < 4 → (k ≡ 3 → ⊥) → 65535 ≡ get_or (columns_of Jobs).most k 0
+wide_jobs zero h n = refl
+wide_jobs (suc zero) h n = refl
+wide_jobs (suc (suc zero)) h n = refl
+wide_jobs (suc (suc (suc zero))) h n = absurd (n refl)
+wide_jobs (suc (suc (suc (suc k)))) h n = absurd (omega arith)
 
-pub most-count : (r : SheetKind) → length (columnsOf r).most ≡ 4
-most-count Devices = refl
-most-count Jobs = refl
+pub most_count : (r : SheetKind) → length (columns_of r).most ≡ 4
+most_count Devices = refl
+most_count Jobs = refl
 
-pub few-texts : (r : SheetKind) → (columnsOf r).texts ≤ 1
-few-texts Devices = omega arith
-few-texts Jobs = omega arith
+pub few_texts : (r : SheetKind) → (columns_of r).texts ≤ 1
+few_texts Devices = omega arith
+few_texts Jobs = omega arith
 
-most-small : (r : SheetKind) (k : ℕ) → k < 4 → get_or (columnsOf r).most k 0 < 65536
-most-small Devices zero h = omega arith
-most-small Devices (suc zero) h = omega arith
-most-small Devices (suc (suc zero)) h = omega arith
-most-small Devices (suc (suc (suc zero))) h = omega arith
-most-small Devices (suc (suc (suc (suc k)))) h = absurd (omega arith)
-most-small Jobs zero h = omega arith
-most-small Jobs (suc zero) h = omega arith
-most-small Jobs (suc (suc zero)) h = omega arith
-most-small Jobs (suc (suc (suc zero))) h = omega arith
-most-small Jobs (suc (suc (suc (suc k)))) h = absurd (omega arith)
+most_small : (r : SheetKind) (k : ℕ) → k < 4 → get_or (columns_of r).most k 0 < 65536
+most_small Devices zero h = omega arith
+most_small Devices (suc zero) h = omega arith
+most_small Devices (suc (suc zero)) h = omega arith
+most_small Devices (suc (suc (suc zero))) h = omega arith
+most_small Devices (suc (suc (suc (suc k)))) h = absurd (omega arith)
+most_small Jobs zero h = omega arith
+most_small Jobs (suc zero) h = omega arith
+most_small Jobs (suc (suc zero)) h = omega arith
+most_small Jobs (suc (suc (suc zero))) h = omega arith
+most_small Jobs (suc (suc (suc (suc k)))) h = absurd (omega arith)
 
 -- ---- the numbers of a line, one by one
 
-first-number : (m : ℕ) (ms : List ℕ) (gs : List (List ℕ)) → areNumbers (m ∷ ms) gs ≡ is_number m (get_or gs 0 []) && areNumbers ms (drop 1 gs)
-first-number m ms [] = refl
-first-number m ms (g ∷ gs) = refl
+first_number : (m : ℕ) (ms : List ℕ) (gs : List (List ℕ)) → are_numbers (m ∷ ms) gs ≡ is_number m (get_or gs 0 []) && are_numbers ms (drop 1 gs)
+first_number m ms [] = refl
+first_number m ms (g ∷ gs) = refl
 
 module _ (r : SheetKind) (fs : List (List ℕ)) (k : ℕ) (h : k < 4) where
   -- The numbers from number k on.
   abbrev pub Left : ℕ → Bool
-  Left i = areNumbers (drop i (columnsOf r).most) (drop ((columnsOf r).texts + i) fs)
+  Left i = are_numbers (drop i (columns_of r).most) (drop ((columns_of r).texts + i) fs)
 
-  next-number : Left k ≡ is_number (get_or (columnsOf r).most k 0) (get_or fs ((columnsOf r).texts + k) []) && Left (k + 1)
-  next-number =
-      let at = (columnsOf r).texts + k in
+  next_number : Left k ≡ is_number (get_or (columns_of r).most k 0) (get_or fs ((columns_of r).texts + k) []) && Left (k + 1)
+  next_number =
+      let at = (columns_of r).texts + k in
       let here : at + 0 ≡ at = omega arith in
       let f : get_or (drop at fs) 0 [] ≡ get_or fs at [] = get_or-drop at fs 0 [] ∙ ap (λ (x : ℕ). get_or fs x []) here in
-      let on : at + 1 ≡ (columnsOf r).texts + (k + 1) = omega arith in
-      let rest : drop 1 (drop at fs) ≡ drop ((columnsOf r).texts + (k + 1)) fs = drop-drop 1 at fs ∙ ap (λ (x : ℕ). drop x fs) on in
-      ap (λ (ms : List ℕ). areNumbers ms (drop at fs)) (drop-cons (columnsOf r).most k 0 (omega (arith, most-count r)))
-      ∙ first-number (get_or (columnsOf r).most k 0) (drop (suc k) (columnsOf r).most) (drop at fs) ∙ rw (f, rest, add-one k)
+      let on : at + 1 ≡ (columns_of r).texts + (k + 1) = omega arith in
+      let rest : drop 1 (drop at fs) ≡ drop ((columns_of r).texts + (k + 1)) fs = drop-drop 1 at fs ∙ ap (λ (x : ℕ). drop x fs) on in
+      ap (λ (ms : List ℕ). are_numbers ms (drop at fs)) (drop-cons (columns_of r).most k 0 (omega (arith, most_count r)))
+      ∙ first_number (get_or (columns_of r).most k 0) (drop (suc k) (columns_of r).most) (drop at fs) ∙ rw (f, rest, add-one k)
 
-  test : leb (number_of (get_or fs ((columnsOf r).texts + k) [])) (get_or (columnsOf r).most k 0) ≡ is_number (get_or (columnsOf r).most k 0) (get_or fs ((columnsOf r).texts + k) [])
-  test = number-test (get_or (columnsOf r).most k 0) (get_or fs ((columnsOf r).texts + k) []) (most-small r k h)
+  test : leb (number_of (get_or fs ((columns_of r).texts + k) [])) (get_or (columns_of r).most k 0) ≡ is_number (get_or (columns_of r).most k 0) (get_or fs ((columns_of r).texts + k) [])
+  test = number_test (get_or (columns_of r).most k 0) (get_or fs ((columns_of r).texts + k) []) (most_small r k h)
 
-  pub number-fails : get_or (columnsOf r).most k 0 < number_of (get_or fs ((columnsOf r).texts + k) []) → Left k ≡ false
-  number-fails l = next-number ∙ rw (← test, lt-leb (number_of (get_or fs ((columnsOf r).texts + k) [])) (get_or (columnsOf r).most k 0) l)
+  pub number_fails : get_or (columns_of r).most k 0 < number_of (get_or fs ((columns_of r).texts + k) []) → Left k ≡ false
+  number_fails l = next_number ∙ rw (← test, lt-leb (number_of (get_or fs ((columns_of r).texts + k) [])) (get_or (columns_of r).most k 0) l)
 
-  pub number-passes : number_of (get_or fs ((columnsOf r).texts + k) []) ≤ get_or (columnsOf r).most k 0 → Left k ≡ Left (k + 1)
-  number-passes l = next-number ∙ rw (← test, le-leb (number_of (get_or fs ((columnsOf r).texts + k) [])) (get_or (columnsOf r).most k 0) l)
+  pub number_passes : number_of (get_or fs ((columns_of r).texts + k) []) ≤ get_or (columns_of r).most k 0 → Left k ≡ Left (k + 1)
+  number_passes l = next_number ∙ rw (← test, le-leb (number_of (get_or fs ((columns_of r).texts + k) [])) (get_or (columns_of r).most k 0) l)
 
-pub numbers-done : (r : SheetKind) (fs : List (List ℕ)) (k : ℕ) → k ≡ 4 → areNumbers (drop k (columnsOf r).most) (drop ((columnsOf r).texts + k) fs) ≡ true
-numbers-done Devices fs k e = rw e
-numbers-done Jobs fs k e = rw e
+pub numbers_done : (r : SheetKind) (fs : List (List ℕ)) (k : ℕ) → k ≡ 4 → are_numbers (drop k (columns_of r).most) (drop ((columns_of r).texts + k) fs) ≡ true
+numbers_done Devices fs k e = rw e
+numbers_done Jobs fs k e = rw e
 
 -- ---- a line
 
 module _ (r : SheetKind) (l : List ℕ) where
-  pub fault-27 : counted 0 (rawOf l) ≡ 0 → 27 ≡ lineFault r l
-  fault-27 e =
-      let u : unread (rawOf l) ≡ true = test-cases (λ b. b ≡ true) (unread (rawOf l)) (λ q. refl) (λ q. absurd (count-some l q e)) in
-      sym (raw-fault r l ∙ rw u)
+  pub fault_27 : counted 0 (raw_of l) ≡ 0 → 27 ≡ line_fault r l
+  fault_27 e =
+      let u : unread (raw_of l) ≡ true = test_cases (λ b. b ≡ true) (unread (raw_of l)) (λ q. refl) (λ q. absurd (count_some l q e)) in
+      sym (raw_fault r l ∙ rw u)
 
-  module _ (h : counted 0 (rawOf l) ≡ 0 → ⊥) where
-    pub counted-read : unread (rawOf l) ≡ false
-    counted-read = (count-read (rawOf l) h).0
+  module _ (h : counted 0 (raw_of l) ≡ 0 → ⊥) where
+    pub counted_read : unread (raw_of l) ≡ false
+    counted_read = (count_read (raw_of l) h).0
 
-    pub fault-28 : (counted 0 (rawOf l) ≡ (columnsOf r).texts + 4 → ⊥) → 28 ≡ lineFault r l
-    fault-28 n =
-        let c = count-read (rawOf l) h in
-        sym (raw-fault r l ∙ rw (c.0, ne_eqb (length (rawIn l)) ((columnsOf r).texts + 4) (λ e. n (c.1 ∙ e))))
+    pub fault_28 : (counted 0 (raw_of l) ≡ (columns_of r).texts + 4 → ⊥) → 28 ≡ line_fault r l
+    fault_28 n =
+        let c = count_read (raw_of l) h in
+        sym (raw_fault r l ∙ rw (c.0, ne_eqb (length (raw_in l)) ((columns_of r).texts + 4) (λ e. n (c.1 ∙ e))))
 
-    module _ (e : counted 0 (rawOf l) ≡ (columnsOf r).texts + 4) where
-      pub fault-29 : areNumbers (columnsOf r).most (drop (columnsOf r).texts (rawIn l)) ≡ false → 29 ≡ lineFault r l
-      fault-29 n =
-          let c = count-read (rawOf l) h in
-          sym (raw-fault r l ∙ rw (c.0, eq-eqb (length (rawIn l)) ((columnsOf r).texts + 4) (sym c.1 ∙ e), n))
+    module _ (e : counted 0 (raw_of l) ≡ (columns_of r).texts + 4) where
+      pub fault_29 : are_numbers (columns_of r).most (drop (columns_of r).texts (raw_in l)) ≡ false → 29 ≡ line_fault r l
+      fault_29 n =
+          let c = count_read (raw_of l) h in
+          sym (raw_fault r l ∙ rw (c.0, eq-eqb (length (raw_in l)) ((columns_of r).texts + 4) (sym c.1 ∙ e), n))
 
-      pub fault-none : areNumbers (columnsOf r).most (drop (columnsOf r).texts (rawIn l)) ≡ true → 0 ≡ lineFault r l
-      fault-none n =
-          let c = count-read (rawOf l) h in
-          sym (raw-fault r l ∙ rw (c.0, eq-eqb (length (rawIn l)) ((columnsOf r).texts + 4) (sym c.1 ∙ e), n))
+      pub fault_none : are_numbers (columns_of r).most (drop (columns_of r).texts (raw_in l)) ≡ true → 0 ≡ line_fault r l
+      fault_none n =
+          let c = count_read (raw_of l) h in
+          sym (raw_fault r l ∙ rw (c.0, eq-eqb (length (raw_in l)) ((columns_of r).texts + 4) (sym c.1 ∙ e), n))

@@ -13,19 +13,19 @@ use Rattle.base.proofs.Cases.{both}
 use Rattle.catalogue.specs.Parts.{space}
 use Rattle.catalogue.proofs.PartNumbers.{formed}
 use Rattle.text.specs.Numerals.{digit, value_of, is_number}
-use Rattle.text.specs.inside.Cursors.{rawOf, field_at, number_of}
-use Rattle.text.proofs.Scanning.{number-value}
+use Rattle.text.specs.inside.Cursors.{raw_of, field_at, number_of}
+use Rattle.text.proofs.Scanning.{number_value}
 use Rattle.sheet.specs.declared.SheetKind.{SheetKind}
 use Rattle.sheet.specs.declared.SheetKind.TheVariants.{Devices, Jobs}
-use Rattle.sheet_import.specs.inside.Reading.{partRaw}
-use Rattle.sheet_import.specs.inside.RowBytes.{rowBytes, rowSize, Ready}
+use Rattle.sheet_import.specs.inside.Reading.{part_raw}
+use Rattle.sheet_import.specs.inside.RowBytes.{row_bytes, row_size, Ready}
 
 -- ---- fields
 
 -- A field that is a number counts as its value, which keeps its bound.
 pub number_is : (m : ℕ) (f : List ℕ) → m < 65536 → is_number m f ≡ true → (number_of f ≡ value_of f) × (number_of f ≤ m)
 number_is m f h e =
-    let v = number-value m f h e in
+    let v = number_value m f h e in
     let p = both (ltb 0 (length f)) (all digit f && leb (value_of f) m) e in
     let q = both (all digit f) (leb (value_of f) m) p.1 in
     (v, omega (arith, leb-true (value_of f) m q.1))
@@ -33,15 +33,15 @@ number_is m f h e =
 -- ---- rows
 
 -- A part has fifteen bytes, a job record seven.
-pub row-size : (r : SheetKind) (l : List ℕ) → Ready r l → length (rowBytes r l) ≡ rowSize r
-row-size Devices l h =
-    let n = (formed (padded 8 space (field_at (rawOf l) 0)) h.1).0 in
-    omega (arith, length-append (partRaw l).number (partRaw l).device)
-row-size Jobs l h = refl
+pub row_size_lem : (r : SheetKind) (l : List ℕ) → Ready r l → length (row_bytes r l) ≡ row_size r
+row_size_lem Devices l h =
+    let n = (formed (padded 8 space (field_at (raw_of l) 0)) h.1).0 in
+    omega (arith, length-append (part_raw l).number (part_raw l).device)
+row_size_lem Jobs l h = refl
 
 -- So many rows of a size: one more, and before the last there is room for one.
 pub one_more : (k n : ℕ) → (k + 1) * n ≡ k * n + n
 one_more k n = omega (arith, add-mul k 1 n, one-mul n)
 
-pub room-left : {k m : ℕ} (n : ℕ) {room : ℕ} → k < m → m * n ≤ room → k * n + n ≤ room
-room-left {k} {m} n h r = let l : k + 1 ≤ m = omega arith in omega (arith, one_more k n, mul-le-mul_right n l)
+pub room_left : {k m : ℕ} (n : ℕ) {room : ℕ} → k < m → m * n ≤ room → k * n + n ≤ room
+room_left {k} {m} n h r = let l : k + 1 ≤ m = omega arith in omega (arith, one_more k n, mul-le-mul_right n l)

@@ -6,26 +6,26 @@ use Rattle.catalogue.specs.Faults.{First, OrderFaultOf}
 use Rattle.text.specs.Grammar.{lines_of}
 use Rattle.sheet.specs.declared.SheetKind.{SheetKind}
 use Rattle.sheet.specs.declared.SheetKind.TheVariants.{Devices, Jobs}
-use Rattle.sheet.specs.Sheets.{lineFault, linesFault, parts_in, jobsIn}
+use Rattle.sheet.specs.Sheets.{line_fault, lines_fault, parts_in, jobs_in}
 use Rattle.sheet_import.specs.declared.LineFault.{LineFault}
 
-abbrev pub lineFaultAt : ℕ → ℕ → LineFault
-lineFaultAt n k = record { number = n; line = k }
+abbrev pub line_fault_at : ℕ → ℕ → LineFault
+line_fault_at n k = record { number = n; line = k }
 
 -- Line k is at fault by itself (27, 28 or 29).
-abbrev pub faultyAt : SheetKind → List (List ℕ) → ℕ → Bool
-faultyAt r ls k = not (eqb (lineFault r (get_or ls k [])) 0)
+abbrev pub faulty_at : SheetKind → List (List ℕ) → ℕ → Bool
+faulty_at r ls k = not (eqb (line_fault r (get_or ls k [])) 0)
 
 -- `Table` says what is told where no line is at fault by itself.
 pub data SheetFault (r : SheetKind) (text : List ℕ) (Table : LineFault → Type 0) : LineFault → Type 0 where
-  line : {k : ℕ} → First (length (lines_of text)) (faultyAt r (lines_of text)) k → k < length (lines_of text)
-      → SheetFault r text Table (lineFaultAt (lineFault r (get_or (lines_of text) k [])) k)
-  table : {f : LineFault} → linesFault r (lines_of text) ≡ 0 → Table f → SheetFault r text Table f
+  line : {k : ℕ} → First (length (lines_of text)) (faulty_at r (lines_of text)) k → k < length (lines_of text)
+      → SheetFault r text Table (line_fault_at (line_fault r (get_or (lines_of text) k [])) k)
+  table : {f : LineFault} → lines_fault r (lines_of text) ≡ 0 → Table f → SheetFault r text Table f
 
 -- ---- `devices_fault`: a line is a part of the catalogue, and is refused as that is (21, 22)
 
 pub data DevicesTable (text : List ℕ) : LineFault → Type 0 where
-  parts : {f : PartFault} → OrderFaultOf (parts_in text) [] f → DevicesTable text (lineFaultAt f.number f.part)
+  parts : {f : PartFault} → OrderFaultOf (parts_in text) [] f → DevicesTable text (line_fault_at f.number f.part)
 
 abbrev pub DevicesFault : List ℕ → LineFault → Type 0
 DevicesFault text = SheetFault Devices text (DevicesTable text)
@@ -33,8 +33,8 @@ DevicesFault text = SheetFault Devices text (DevicesTable text)
 -- ---- `jobs_fault`: the seventeenth line is a job too many (12)
 
 pub data JobsTable (text : List ℕ) : LineFault → Type 0 where
-  many : 16 < length (jobsIn text) → JobsTable text (lineFaultAt 12 16)
-  few : length (jobsIn text) ≤ 16 → JobsTable text (lineFaultAt 0 0)
+  many : 16 < length (jobs_in text) → JobsTable text (line_fault_at 12 16)
+  few : length (jobs_in text) ≤ 16 → JobsTable text (line_fault_at 0 0)
 
 abbrev pub JobsFault : List ℕ → LineFault → Type 0
 JobsFault text = SheetFault Jobs text (JobsTable text)

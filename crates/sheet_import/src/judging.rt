@@ -5,7 +5,7 @@ ghost use Rattle.text.specs.Grammar.{lines_of};
 ghost use Rattle.text.specs.inside.Putting.{Put};
 ghost use Rattle.sheet_import.specs.LineFaults.{DevicesFault, JobsFault};
 ghost use Rattle.sheet_import.specs.inside.Judging.{DevicesJudged};
-ghost use Rattle.sheet_import.specs.inside.RowBytes.{rowBytes};
+ghost use Rattle.sheet_import.specs.inside.RowBytes.{row_bytes};
 
 use crate::LineFault;
 use crate::lines::lines_fault;
@@ -37,7 +37,7 @@ fn judge_devices(text: &[u8]) -> LineFault
 // Then 22, of the catalogue's own bytes, which are put on the way: 15 a line.
 pub(crate) fn put_devices(text: &[u8], own: &mut [u8]) -> LineFault
     requires { length own.old ≡ 960 }
-    ensures { DevicesFault text.now result × (result.number ≡ 0 → Put (in_row (map (rowBytes SheetKind.Devices) (lines_of text.now))) 0 own.old (length (lines_of text.now) * 15) own.new) }
+    ensures { DevicesFault text.now result × (result.number ≡ 0 → Put (in_row (map (row_bytes SheetKind.Devices) (lines_of text.now))) 0 own.old (length (lines_of text.now) * 15) own.new) }
 {
     let fault = judge_devices(text);
     if fault.number != 0 {

@@ -1,10 +1,10 @@
 // What refuses a line of a sheet, and a text by its first faulty line.
 ghost use Rattle.std.specs.Prelude.{◌≡◌, false, ◌<◌, drop, get_or};
 ghost use Rattle.text.specs.Grammar.{lines_of, unread};
-ghost use Rattle.text.specs.inside.Cursors.{rawOf};
-ghost use Rattle.sheet.specs.Sheets.{columnsOf, areNumbers, lineFault};
-ghost use Rattle.sheet_import.specs.inside.Judging.{firstLine};
-ghost use Rattle.sheet_import.specs.inside.Reading.{rawIn};
+ghost use Rattle.text.specs.inside.Cursors.{raw_of};
+ghost use Rattle.sheet.specs.Sheets.{columns_of, are_numbers, line_fault};
+ghost use Rattle.sheet_import.specs.inside.Judging.{first_line};
+ghost use Rattle.sheet_import.specs.inside.Reading.{raw_in};
 
 use crate::LineFault;
 use sheet::SheetKind;
@@ -12,7 +12,7 @@ use text::{count_fields, field, line_end, next_line, number_of};
 
 // How many fields of text stand before the four numbers.
 fn texts(rows: SheetKind) -> usize
-    ensures { result ≡ (columnsOf rows).texts }
+    ensures { result ≡ (columns_of rows).texts }
 {
     match rows {
         SheetKind::Devices => 1,
@@ -23,7 +23,7 @@ fn texts(rows: SheetKind) -> usize
 // The most that number k may be: T and the device set have a byte, the others two.
 fn most(rows: SheetKind, k: usize) -> u32
     requires { k < 4 }
-    ensures { result ≡ get_or (columnsOf rows).most k 0 }
+    ensures { result ≡ get_or (columns_of rows).most k 0 }
 {
     match rows {
         SheetKind::Devices => { if k == 0 { 255 } else { 65535 } }
@@ -32,8 +32,8 @@ fn most(rows: SheetKind, k: usize) -> u32
 }
 
 fn are_numbers(line: &[u8], rows: SheetKind) -> bool
-    requires { unread (rawOf line.now) ≡ false }
-    ensures { result ≡ areNumbers (columnsOf rows).most (drop (columnsOf rows).texts (rawIn line.now)) }
+    requires { unread (raw_of line.now) ≡ false }
+    ensures { result ≡ are_numbers (columns_of rows).most (drop (columns_of rows).texts (raw_in line.now)) }
 {
     let first = texts(rows);
     let mut k = 0;
@@ -48,7 +48,7 @@ fn are_numbers(line: &[u8], rows: SheetKind) -> bool
 
 // 27, 28 or 29, in this order; 0 for a line without fault.
 fn line_fault(line: &[u8], rows: SheetKind) -> u8
-    ensures { result ≡ lineFault rows line.now }
+    ensures { result ≡ line_fault rows line.now }
 {
     let count = count_fields(line);
     if count == 0 {
@@ -62,7 +62,7 @@ fn line_fault(line: &[u8], rows: SheetKind) -> u8
 
 // The first line at fault.
 pub(crate) fn lines_fault(text: &[u8], rows: SheetKind) -> LineFault
-    ensures { result ≡ firstLine rows 0 (lines_of text.now) }
+    ensures { result ≡ first_line rows 0 (lines_of text.now) }
 {
     let n = text.len();
     let mut at = 0;

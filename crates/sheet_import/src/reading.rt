@@ -1,14 +1,14 @@
 // The rows of a text without fault, as bytes.
 ghost use Rattle.std.specs.Prelude.{◌≡◌, true, false, map, ◌+◌, ◌*◌, ◌≤◌, length};
-ghost use Rattle.tables.specs.Records.{averaged, firstBytes, jobBytes};
+ghost use Rattle.tables.specs.Records.{averaged, first_bytes, job_bytes};
 ghost use Rattle.base.specs.Bytes.{in_row};
 ghost use Rattle.text.specs.Grammar.{lines_of, unread};
 ghost use Rattle.text.specs.Numerals.{value_of, is_number};
-ghost use Rattle.text.specs.inside.Cursors.{rawOf, field_at};
+ghost use Rattle.text.specs.inside.Cursors.{raw_of, field_at};
 ghost use Rattle.text.specs.inside.Putting.{Put};
-ghost use Rattle.sheet.specs.Sheets.{partBytes};
-ghost use Rattle.sheet_import.specs.inside.Reading.{partRaw, jobRaw, Sound, Formed, EachLine};
-ghost use Rattle.sheet_import.specs.inside.RowBytes.{rowBytes, rowSize, Ready};
+ghost use Rattle.sheet.specs.Sheets.{part_bytes};
+ghost use Rattle.sheet_import.specs.inside.Reading.{part_raw, job_raw, Sound, Formed, EachLine};
+ghost use Rattle.sheet_import.specs.inside.RowBytes.{row_bytes, row_size, Ready};
 
 use crate::parts::eight_of;
 use sheet::SheetKind;
@@ -18,15 +18,15 @@ use text::{field, line, number_of, put_byte, put_bytes, put_pair};
 
 // A field that is a number of at most 65,535, or 255.
 fn number_at(line: &[u8], i: usize) -> u16
-    requires { (unread (rawOf line.now) ≡ false) × (is_number 65535 (field_at (rawOf line.now) i) ≡ true) }
-    ensures { result ≡ value_of (field_at (rawOf line.now) i) }
+    requires { (unread (raw_of line.now) ≡ false) × (is_number 65535 (field_at (raw_of line.now) i) ≡ true) }
+    ensures { result ≡ value_of (field_at (raw_of line.now) i) }
 {
     number_of(field(line, i)) as u16
 }
 
 fn byte_at(line: &[u8], i: usize) -> u8
-    requires { (unread (rawOf line.now) ≡ false) × (is_number 255 (field_at (rawOf line.now) i) ≡ true) }
-    ensures { result ≡ value_of (field_at (rawOf line.now) i) }
+    requires { (unread (raw_of line.now) ≡ false) × (is_number 255 (field_at (raw_of line.now) i) ≡ true) }
+    ensures { result ≡ value_of (field_at (raw_of line.now) i) }
 {
     number_of(field(line, i)) as u8
 }
@@ -35,7 +35,7 @@ fn byte_at(line: &[u8], i: usize) -> u8
 
 fn put_device(out: &mut [u8], at: usize, t: u8, pw: u16, ps: u16, p0: u16) -> usize
     requires { at + 7 ≤ length out.old }
-    ensures { Put (firstBytes (averaged t pw ps p0)) at out.old result out.new }
+    ensures { Put (first_bytes (averaged t pw ps p0)) at out.old result out.new }
 {
     let work = put_byte(out, at, t);
     let sleep = put_pair(out, work, pw);
@@ -46,7 +46,7 @@ fn put_device(out: &mut [u8], at: usize, t: u8, pw: u16, ps: u16, p0: u16) -> us
 // One part: 8 bytes of number, 7 of device record.
 fn put_part(out: &mut [u8], at: usize, line: &[u8]) -> usize
     requires { (at + 15 ≤ length out.old) × (Sound SheetKind.Devices line.now × Formed line.now) }
-    ensures { Put (partBytes (partRaw line.now)) at out.old result out.new }
+    ensures { Put (part_bytes (part_raw line.now)) at out.old result out.new }
 {
     let eight = eight_of(field(line, 0));
     let next = put_bytes(out, at, &eight);
@@ -64,7 +64,7 @@ fn put_part(out: &mut [u8], at: usize, line: &[u8]) -> usize
 
 fn put_record(out: &mut [u8], at: usize, line: &[u8]) -> usize
     requires { (at + 7 ≤ length out.old) × Sound SheetKind.Jobs line.now }
-    ensures { Put (jobBytes (jobRaw line.now)) at out.old result out.new }
+    ensures { Put (job_bytes (job_raw line.now)) at out.old result out.new }
 {
     let due = put_pair(out, at, number_at(line, 0));
     let run = put_pair(out, due, number_at(line, 1));
@@ -75,8 +75,8 @@ fn put_record(out: &mut [u8], at: usize, line: &[u8]) -> usize
 // ---- rows
 
 fn put_row(out: &mut [u8], at: usize, line: &[u8], rows: SheetKind) -> usize
-    requires { (at + rowSize rows ≤ length out.old) × Ready rows line.now }
-    ensures { Put (rowBytes rows line.now) at out.old result out.new }
+    requires { (at + row_size rows ≤ length out.old) × Ready rows line.now }
+    ensures { Put (row_bytes rows line.now) at out.old result out.new }
 {
     match rows {
         SheetKind::Devices => put_part(out, at, line),
@@ -85,8 +85,8 @@ fn put_row(out: &mut [u8], at: usize, line: &[u8], rows: SheetKind) -> usize
 }
 
 pub(crate) fn put_rows(out: &mut [u8], text: &[u8], lines: usize, rows: SheetKind)
-    requires { (lines ≡ length (lines_of text.now)) × (lines * rowSize rows ≤ length out.old) × EachLine (Ready rows) text.now }
-    ensures { Put (in_row (map (rowBytes rows) (lines_of text.now))) 0 out.old (lines * rowSize rows) out.new }
+    requires { (lines ≡ length (lines_of text.now)) × (lines * row_size rows ≤ length out.old) × EachLine (Ready rows) text.now }
+    ensures { Put (in_row (map (row_bytes rows) (lines_of text.now))) 0 out.old (lines * row_size rows) out.new }
 {
     let mut at = 0;
     let mut k = 0;

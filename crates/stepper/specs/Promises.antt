@@ -5,16 +5,16 @@ use Rattle.base.specs.Bytes.{byte_at}
 use Rattle.base.specs.Lists.{up_to}
 use Rattle.base.specs.Sums.{sum}
 use Rattle.device.specs.declared.Device.{Device}
-use Rattle.device.specs.Row.{powerAt}
+use Rattle.device.specs.Row.{power_at}
 use Rattle.schedule.specs.declared.Recorder.{Recorder}
 use Rattle.schedule.specs.Quantities.{device, jobs, run}
-use Rattle.steps.specs.Stepping.{moveTime, spent}
+use Rattle.steps.specs.Stepping.{move_time, spent}
 use Rattle.planner.specs.declared.Answer.{Answer}
 use Rattle.planner.specs.Promises.{success, refusal, Unless, UnlessFaulty, Gives, OfFile}
 
 -- Moving costs more than sleep and less than work: Ps < P0 < Pw.
 abbrev pub Between : Device → Type 0
-Between d = (powerAt d 1 < d.pd) × (d.pd < d.pw)
+Between d = (power_at d 1 < d.pd) × (d.pd < d.pw)
 
 -- 25: the first byte of the file is FF, or a device of it, used or not, costs otherwise to move.
 pub data Unfit (file : List ℕ) (R : Recorder) : Type 0 where
@@ -23,7 +23,7 @@ pub data Unfit (file : List ℕ) (R : Recorder) : Type 0 where
 
 -- 24: a job, listed or unfolded, is shorter than a move of some device, used or not.
 pub data Brief (R : Recorder) : Type 0 where
-  shorter : {j k : ℕ} → j < jobs R → k < R.devices.count → run R j < moveTime (device R k) → Brief R
+  shorter : {j k : ℕ} → j < jobs R → k < R.devices.count → run R j < move_time (device R k) → Brief R
 
 -- The energies go to the first places, a device each, and what is lent beyond stays as it was; the answer has their sum.
 abbrev pub StepsOf : (file starts lent : List ℕ) → Recorder → Answer → List ℕ → Type 0

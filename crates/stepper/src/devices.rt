@@ -6,7 +6,7 @@ ghost use Rattle.schedule.specs.Quantities.{Valid};
 ghost use Rattle.schedule.specs.Listing.{Feasible};
 ghost use Rattle.schedule.specs.inside.Ordering.{order_of};
 ghost use Rattle.steps.specs.Stepping.{spent};
-ghost use Rattle.steps.specs.inside.Running.{steppedBy};
+ghost use Rattle.steps.specs.inside.Running.{stepped_by};
 
 use crate::ordering::order_of;
 use base::JobNumber;
@@ -16,7 +16,7 @@ use steps::{Stepped, run};
 // Device k over the round: its state at H, and the energy that it has spent.
 fn run_device(r: Recorder, starts: &[u16], order: [JobNumber; 16], k: usize) -> Stepped
     requires { Valid r × Feasible r starts.now × (order ≡ order_of starts.now) × (k < r.devices.count) }
-    ensures { (result ≡ steppedBy r starts.now k) × (result.energy ≤ 65535 * r.horizon) }
+    ensures { (result ≡ stepped_by r starts.now k) × (result.energy ≤ 65535 * r.horizon) }
 {
     let devices = r.devices;
     let d = devices.list[k];

@@ -15,8 +15,8 @@ use Rattle.steps.specs.declared.Stepped.{Stepped}
 -- ---- one device
 
 -- T, the ticks of a move.
-abbrev pub moveTime : Device → ℕ
-moveTime d = d.shut
+abbrev pub move_time : Device → ℕ
+move_time d = d.shut
 
 abbrev pub S : Letter
 S = at 1
@@ -63,11 +63,11 @@ at_start T this next pause (Up n) = Up n
 
 -- Rule 93, where a job is completed. At work, used by this job and not by the next: down, where a move has room in the pause.
 -- Asleep: up, where the next job wants the device.
-abbrev pub atEnd : Rule
-atEnd T this next pause Working = cond (this && (not next && leb T pause)) (Down T) Working
-atEnd T this next pause Asleep = cond next (Up T) Asleep
-atEnd T this next pause (Down n) = Down n
-atEnd T this next pause (Up n) = Up n
+abbrev pub at_end : Rule
+at_end T this next pause Working = cond (this && (not next && leb T pause)) (Down T) Working
+at_end T this next pause Asleep = cond next (Up T) Asleep
+at_end T this next pause (Down n) = Down n
+at_end T this next pause (Up n) = Up n
 
 -- ---- one step: the record of a device before and after
 
@@ -81,12 +81,12 @@ later zero st = st
 later (suc n) st = later n (passed st)
 
 -- So many of them pass, and their energy is spent (rule 36);
-abbrev pub passOver : Device → ℕ → Stepped → Stepped
-passOver d n x = record { state = later n x.state; energy = x.energy + energy d (alone n x.state) }
+abbrev pub pass_over : Device → ℕ → Stepped → Stepped
+pass_over d n x = record { state = later n x.state; energy = x.energy + energy d (alone n x.state) }
 
 -- or a job starts or is completed, by one of the two rules, in no time.
-abbrev pub ruledTo : Rule → Device → (this next : Bool) (pause : ℕ) → Stepped → Stepped
-ruledTo f d this next pause x = record { state = f (moveTime d) this next pause x.state; energy = x.energy }
+abbrev pub ruled_to : Rule → Device → (this next : Bool) (pause : ℕ) → Stepped → Stepped
+ruled_to f d this next pause x = record { state = f (move_time d) this next pause x.state; energy = x.energy }
 
 -- ---- the ticks of the round
 
@@ -101,9 +101,9 @@ module _ (ev : Events) where
   row_by t zero st = []
   row_by t (suc n) st = letter (ev t st) ∷ row_by (suc t) n (passed (ev t st))
 
-  unfoldable pub stateBy : ℕ → ℕ → State → State
-  stateBy t zero st = st
-  stateBy t (suc n) st = stateBy (suc t) n (passed (ev t st))
+  unfoldable pub state_by : ℕ → ℕ → State → State
+  state_by t zero st = st
+  state_by t (suc n) st = state_by (suc t) n (passed (ev t st))
 
 -- Device k, for jobs in running order.
 module _ (R : Recorder) (k : ℕ) where
@@ -111,21 +111,21 @@ module _ (R : Recorder) (k : ℕ) where
   end_of p = p.start + run R p.job
 
   -- The next job is the first of those to come. Where none is left, nothing is used (rule 91).
-  abbrev pub nextUses : List Place → Bool
-  nextUses [] = false
-  nextUses (q ∷ r) = uses R k q.job
+  abbrev pub next_uses : List Place → Bool
+  next_uses [] = false
+  next_uses (q ∷ r) = uses R k q.job
 
   -- The pause: how long after the end of this job the next one starts, or the round is over (rule 91).
-  abbrev pub nextStart : List Place → ℕ
-  nextStart [] = R.horizon
-  nextStart (q ∷ r) = q.start
+  abbrev pub next_start : List Place → ℕ
+  next_start [] = R.horizon
+  next_start (q ∷ r) = q.start
 
   abbrev pub pause : Place → List Place → ℕ
-  pause p r = nextStart r - end_of p
+  pause p r = next_start r - end_of p
 
   -- A rule put to the device at the job p, after which come those of r.
   abbrev pub ruled : Rule → Place → List Place → State → State
-  ruled f p r = f (moveTime (device R k)) (uses R k p.job) (nextUses r) (pause p r)
+  ruled f p r = f (move_time (device R k)) (uses R k p.job) (next_uses r) (pause p r)
 
   -- What the starts at tick t do, and what the completions do.
   unfoldable pub starts : Rule → List Place → Events
@@ -142,10 +142,10 @@ module _ (R : Recorder) (k : ℕ) where
 
   -- A device is at work when the round begins (rule 91). Its row of H ticks, the energy of that row (rule 36), and its state at H, after what happens then.
   unfoldable pub row : List ℕ → List Letter
-  row s = row_by (events at_start atEnd (running R s)) 0 R.horizon Working
+  row s = row_by (events at_start at_end (running R s)) 0 R.horizon Working
 
   unfoldable pub spent : List ℕ → ℕ
   spent s = energy (device R k) (row s)
 
   unfoldable pub finally : List ℕ → State
-  finally s = events at_start atEnd (running R s) R.horizon (stateBy (events at_start atEnd (running R s)) 0 R.horizon Working)
+  finally s = events at_start at_end (running R s) R.horizon (state_by (events at_start at_end (running R s)) 0 R.horizon Working)

@@ -1,6 +1,6 @@
 // What is done at a start and at a completion (rules 92 and 93).
 ghost use Rattle.std.specs.Prelude.{◌≡◌, not, ◌&&◌, ◌||◌, leb, ltb};
-ghost use Rattle.steps.specs.Stepping.{at_start, atEnd};
+ghost use Rattle.steps.specs.Stepping.{at_start, at_end};
 
 use crate::State;
 
@@ -73,7 +73,7 @@ pub fn start_state(t: u8, this: bool, next: bool, pause: u16, st: State) -> Stat
 
 // The state after a completion.
 pub fn end_state(t: u8, this: bool, next: bool, pause: u16, st: State) -> State
-    ensures { result ≡ atEnd t this next pause st }
+    ensures { result ≡ at_end t this next pause st }
 {
     match st {
         State::Working => {

@@ -1,8 +1,8 @@
 // A device along the jobs of a round.
 ghost use Rattle.std.specs.Prelude.{◌≡◌, ◌+◌, ◌*◌, ◌<◌, ◌≤◌};
 ghost use Rattle.device.specs.Row.{Sound};
-ghost use Rattle.steps.specs.Stepping.{at_start, atEnd, passOver, ruledTo};
-ghost use Rattle.steps.specs.inside.Running.{jobOver, nextBegin, nextUse, stepped, Spaced};
+ghost use Rattle.steps.specs.Stepping.{at_start, at_end, pass_over, ruled_to};
+ghost use Rattle.steps.specs.inside.Running.{job_over, next_begin, next_use, stepped, Spaced};
 
 use crate::rules::{end_state, start_state};
 use crate::ticks::{after_ticks, energy_ticks};
@@ -11,8 +11,8 @@ use device::Device;
 
 // The step of time: n ticks pass. What is spent with them has to fit (`energy_ticks` tells how much it is).
 pub fn pass(d: Device, n: u16, x: Stepped) -> Stepped
-    requires { Sound d × ((passOver d n x).energy < 4294967296) }
-    ensures { result ≡ passOver d n x }
+    requires { Sound d × ((pass_over d n x).energy < 4294967296) }
+    ensures { result ≡ pass_over d n x }
 {
     let st = x.state;
     let spent = x.energy + energy_ticks(d, n, st);
@@ -25,7 +25,7 @@ pub fn pass(d: Device, n: u16, x: Stepped) -> Stepped
 
 // The step of a start: `this` job uses the device or not, the `next` uses it or not, and the pause between them is so long.
 pub fn on_start(d: Device, this: bool, next: bool, pause: u16, x: Stepped) -> Stepped
-    ensures { result ≡ ruledTo at_start d this next pause x }
+    ensures { result ≡ ruled_to at_start d this next pause x }
 {
     let st = x.state;
     let now = start_state(d.shut, this, next, pause, st);
@@ -37,7 +37,7 @@ pub fn on_start(d: Device, this: bool, next: bool, pause: u16, x: Stepped) -> St
 
 // The step of a completion.
 pub fn on_end(d: Device, this: bool, next: bool, pause: u16, x: Stepped) -> Stepped
-    ensures { result ≡ ruledTo atEnd d this next pause x }
+    ensures { result ≡ ruled_to at_end d this next pause x }
 {
     let st = x.state;
     let now = end_state(d.shut, this, next, pause, st);
@@ -58,7 +58,7 @@ fn job_over(
     x: Stepped,
 ) -> Stepped
     requires { Sound d × (x.energy + 65535 * (gap + run) < 4294967296) }
-    ensures { result ≡ jobOver d gap run this next pause x }
+    ensures { result ≡ job_over d gap run this next pause x }
 {
     let waited = pass(d, gap, x);
     let begun = on_start(d, this, next, pause, waited);
@@ -69,7 +69,7 @@ fn job_over(
 // Where job j begins: at h where there is none.
 fn next_begin(h: u16, o: Order, j: usize) -> u16
     requires { o.count ≤ 16 }
-    ensures { result ≡ nextBegin h o j }
+    ensures { result ≡ next_begin h o j }
 {
     if j < o.count {
         return o.begins[j];
@@ -80,7 +80,7 @@ fn next_begin(h: u16, o: Order, j: usize) -> u16
 // Whether job j uses the device: not where there is none.
 fn next_use(o: Order, j: usize) -> bool
     requires { o.count ≤ 16 }
-    ensures { result ≡ nextUse o j }
+    ensures { result ≡ next_use o j }
 {
     if j < o.count {
         return o.uses[j];

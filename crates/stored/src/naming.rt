@@ -1,9 +1,9 @@
 // The key of a vertex: all that what is still to pay depends on (value/specs/inside/Stored).
 ghost use Rattle.std.specs.Prelude.{◌≡◌, cond, ◌+◌, ◌-◌, ◌*◌, ◌<◌, ◌≤◌, min, ltb};
-ghost use Rattle.flat.specs.inside.Flat.{recorderOf};
+ghost use Rattle.flat.specs.inside.Flat.{recorder_of};
 ghost use Rattle.extras.specs.inside.Tabled.{Tabled, cap_at};
 ghost use Rattle.vertex.specs.inside.Shown.{Ordered};
-ghost use Rattle.stored.specs.inside.Naming.{idleBy, firstBy, four, keyBy};
+ghost use Rattle.stored.specs.inside.Naming.{idle_by, first_by, four, key_by};
 
 use crate::Key;
 use base::{smaller, wide};
@@ -27,8 +27,8 @@ fn idle_with(cap: u32, unused: bool, h: u32, end: u32, first: u32, ahead: u32, t
 }
 
 fn idle_of(r: &Flat, extras: &[u32], v: &Cells, k: usize, time: u32) -> u64
-    requires { Tabled (recorderOf r.now) extras.now × (Ordered (recorderOf r.now) v.now time × (k < 8)) }
-    ensures { (result ≡ idleBy (recorderOf r.now) (cap_at extras.now) v.now time k) × (result < 65536) }
+    requires { Tabled (recorder_of r.now) extras.now × (Ordered (recorder_of r.now) v.now time × (k < 8)) }
+    ensures { (result ≡ idle_by (recorder_of r.now) (cap_at extras.now) v.now time k) × (result < 65536) }
 {
     if k < device_count(r) {
         let h = wide(horizon_of(r));
@@ -48,8 +48,8 @@ fn idle_of(r: &Flat, extras: &[u32], v: &Cells, k: usize, time: u32) -> u64
 
 // When it was first used, up to its cap, as long as it is needed.
 fn first_of(r: &Flat, extras: &[u32], v: &Cells, k: usize) -> u64
-    requires { Tabled (recorderOf r.now) extras.now × (k < 8) }
-    ensures { (result ≡ firstBy (recorderOf r.now) (cap_at extras.now) v.now k) × (result < 65536) }
+    requires { Tabled (recorder_of r.now) extras.now × (k < 8) }
+    ensures { (result ≡ first_by (recorder_of r.now) (cap_at extras.now) v.now k) × (result < 65536) }
 {
     if k < device_count(r) {
         if 0 < v[16 + k] {
@@ -68,8 +68,8 @@ fn packed(a: u64, b: u64, c: u64, d: u64) -> u64
 }
 
 fn four_idle(r: &Flat, extras: &[u32], v: &Cells, k: usize, time: u32) -> u64
-    requires { Tabled (recorderOf r.now) extras.now × (Ordered (recorderOf r.now) v.now time × (k ≤ 4)) }
-    ensures { result ≡ four (idleBy (recorderOf r.now) (cap_at extras.now) v.now time) k }
+    requires { Tabled (recorder_of r.now) extras.now × (Ordered (recorder_of r.now) v.now time × (k ≤ 4)) }
+    ensures { result ≡ four (idle_by (recorder_of r.now) (cap_at extras.now) v.now time) k }
 {
     let a = idle_of(r, extras, v, k, time);
     let b = idle_of(r, extras, v, k + 1, time);
@@ -79,8 +79,8 @@ fn four_idle(r: &Flat, extras: &[u32], v: &Cells, k: usize, time: u32) -> u64
 }
 
 fn four_first(r: &Flat, extras: &[u32], v: &Cells, k: usize) -> u64
-    requires { Tabled (recorderOf r.now) extras.now × (k ≤ 4) }
-    ensures { result ≡ four (firstBy (recorderOf r.now) (cap_at extras.now) v.now) k }
+    requires { Tabled (recorder_of r.now) extras.now × (k ≤ 4) }
+    ensures { result ≡ four (first_by (recorder_of r.now) (cap_at extras.now) v.now) k }
 {
     let a = first_of(r, extras, v, k);
     let b = first_of(r, extras, v, k + 1);
@@ -90,8 +90,8 @@ fn four_first(r: &Flat, extras: &[u32], v: &Cells, k: usize) -> u64
 }
 
 pub fn key_of(r: &Flat, extras: &[u32], v: &Cells, set: usize, time: u32) -> Key
-    requires { Tabled (recorderOf r.now) extras.now × (Ordered (recorderOf r.now) v.now time × (set < 65536)) }
-    ensures { result ≡ keyBy (recorderOf r.now) (cap_at extras.now) v.now set time }
+    requires { Tabled (recorder_of r.now) extras.now × (Ordered (recorder_of r.now) v.now time × (set < 65536)) }
+    ensures { result ≡ key_by (recorder_of r.now) (cap_at extras.now) v.now set time }
 {
     let head = set as u64 + 65536 * time as u64;
     let idle = four_idle(r, extras, v, 0, time);

@@ -2,9 +2,9 @@
 ghost use Rattle.std.specs.Prelude.{◌≡◌, true, false, ◌+◌, ◌*◌, ◌≤◌, ◌<◌, min, length};
 ghost use Rattle.base.specs.Bytes.{pair_at};
 ghost use Rattle.base.specs.Refusals.{after};
-ghost use Rattle.tables.specs.Records.{deviceSize};
+ghost use Rattle.tables.specs.Records.{device_size};
 ghost use Rattle.tables.specs.inside.Held.{held};
-ghost use Rattle.table_bytes.specs.TableBytes.{kindNamed, tasksFrom, jobsFrom, AreTables, devicesIn, tasksIn, jobsIn, tablesFrom, kindByte, head_of, tableBytes, Few};
+ghost use Rattle.table_bytes.specs.TableBytes.{kind_named, tasks_from, jobs_from, AreTables, devices_in, tasks_in, jobs_in, tables_from, kind_byte, head_of, table_bytes, Few};
 
 use base::{fewer, pair_at};
 use tables::{
@@ -24,7 +24,7 @@ fn count_at(s: &[u8], at: usize) -> usize
 // ---- from bytes
 
 fn kind_named(byte: u8) -> Kind
-    ensures { result ≡ kindNamed byte }
+    ensures { result ≡ kind_named byte }
 {
     if byte == 3 {
         return Kind::Third;
@@ -35,7 +35,7 @@ fn kind_named(byte: u8) -> Kind
 // Where the records of n devices end, whether they are all there or not.
 fn devices_end(s: &[u8], kind: Kind, n: usize) -> usize
     requires { n ≤ 8 }
-    ensures { (result ≡ after (deviceSize kind s.now) n 9) × (result ≤ 121) }
+    ensures { (result ≡ after (device_size kind s.now) n 9) × (result ≤ 121) }
 {
     let mut at: usize = HEAD;
     let mut k: usize = 0;
@@ -48,14 +48,14 @@ fn devices_end(s: &[u8], kind: Kind, n: usize) -> usize
 
 fn tasks_from(s: &[u8]) -> usize
     requires { 9 ≤ length s.now }
-    ensures { (result ≡ tasksFrom s.now) × (result ≤ 121) }
+    ensures { (result ≡ tasks_from s.now) × (result ≤ 121) }
 {
     devices_end(s, kind_named(s[0]), fewer(count_at(s, 3), 8))
 }
 
 fn jobs_from(s: &[u8]) -> usize
     requires { 9 ≤ length s.now }
-    ensures { (result ≡ jobsFrom s.now) × (result ≤ 161) }
+    ensures { (result ≡ jobs_from s.now) × (result ≤ 161) }
 {
     tasks_from(s) + fewer(count_at(s, 5), 8) * 5
 }
@@ -78,8 +78,8 @@ pub fn is_tables(s: &[u8]) -> bool
 
 // The count as it stands, and the records that are there.
 fn devices_in(s: &[u8], kind: Kind) -> DeviceTable
-    requires { (9 ≤ length s.now) × (after (deviceSize kind s.now) (min (pair_at s.now 3) 8) 9 ≤ length s.now) }
-    ensures { result ≡ devicesIn kind s.now }
+    requires { (9 ≤ length s.now) × (after (device_size kind s.now) (min (pair_at s.now 3) 8) 9 ≤ length s.now) }
+    ensures { result ≡ devices_in kind s.now }
 {
     let count = count_at(s, 3);
     let held = devices_at(s, kind, fewer(count, 8), HEAD);
@@ -89,7 +89,7 @@ fn devices_in(s: &[u8], kind: Kind) -> DeviceTable
 
 fn tasks_in(s: &[u8], from: usize) -> TaskTable
     requires { (9 ≤ length s.now) × (from + min (pair_at s.now 5) 8 * 5 ≤ length s.now) }
-    ensures { result ≡ tasksIn s.now from }
+    ensures { result ≡ tasks_in s.now from }
 {
     let count = count_at(s, 5);
     let held = tasks_at(s, fewer(count, 8), from);
@@ -99,7 +99,7 @@ fn tasks_in(s: &[u8], from: usize) -> TaskTable
 
 fn jobs_in(s: &[u8], from: usize) -> JobTable
     requires { (9 ≤ length s.now) × (from + min (pair_at s.now 7) 16 * 7 ≤ length s.now) }
-    ensures { result ≡ jobsIn s.now from }
+    ensures { result ≡ jobs_in s.now from }
 {
     let count = count_at(s, 7);
     let held = jobs_at(s, fewer(count, 16), from);
@@ -109,7 +109,7 @@ fn jobs_in(s: &[u8], from: usize) -> JobTable
 
 pub fn tables_from(s: &[u8]) -> Tables
     requires { AreTables s.now }
-    ensures { result ≡ tablesFrom s.now }
+    ensures { result ≡ tables_from s.now }
 {
     let kind = kind_named(s[0]);
     let devices = devices_in(s, kind);
@@ -127,7 +127,7 @@ pub fn tables_from(s: &[u8]) -> Tables
 // ---- to bytes
 
 fn kind_byte(kind: Kind) -> u8
-    ensures { result ≡ kindByte kind }
+    ensures { result ≡ kind_byte kind }
 {
     match kind {
         Kind::First => 1,
@@ -149,7 +149,7 @@ fn head(kind: Kind, horizon: u16, devices: u16, tasks: u16, jobs: u16) -> File
 
 pub fn bytes_of(t: Tables) -> File
     requires { Few t }
-    ensures { (result ≡ held (tableBytes t)) × (result.count ≤ 273) }
+    ensures { (result ≡ held (table_bytes t)) × (result.count ≤ 273) }
 {
     let kind = t.kind;
     let devices = t.devices.count;

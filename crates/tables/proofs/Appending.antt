@@ -6,23 +6,23 @@ use native.Mathlib.Omega.{arith}
 use lib.ListN.{length, set, take, length-append}
 use lib.Seq.{take_at}
 use Rattle.base.specs.Lists.{padded}
-use Rattle.base.proofs.Arrays.{set-padded}
+use Rattle.base.proofs.Arrays.{set_padded}
 use Rattle.tables.specs.declared.File.{File}
 use Rattle.tables.specs.inside.Held.{held, appended}
 
-pub appended-count : (f : File) (l : List ℕ) → (appended f l).count ≡ f.count + length l
+pub appended_count : (f : File) (l : List ℕ) → (appended f l).count ≡ f.count + length l
 unfolding appended
-appended-count f [] = omega arith
-appended-count f (b ∷ l) = omega (arith, appended-count (record { count = f.count + 1; bytes = set f.bytes f.count b }) l)
+appended_count f [] = omega arith
+appended_count f (b ∷ l) = omega (arith, appended_count (record { count = f.count + 1; bytes = set f.bytes f.count b }) l)
 
-pub appended-more : (f : File) (l m : List ℕ) → appended (appended f l) m ≡ appended f (l ++ m)
+pub appended_more : (f : File) (l m : List ℕ) → appended (appended f l) m ≡ appended f (l ++ m)
 unfolding appended
-appended-more f [] m = refl
-appended-more f (b ∷ l) m = appended-more _ l m
+appended_more f [] m = refl
+appended_more f (b ∷ l) m = appended_more _ l m
 
 one_more : (l : List ℕ) (b : ℕ) → length l < 297 → appended (held l) (b ∷ []) ≡ held (l ++ (b ∷ []))
 unfolding appended held
-one_more l b h = rw (length-append, set-padded 297 0 l (length l) b refl h)
+one_more l b h = rw (length-append, set_padded 297 0 l (length l) b refl h)
 
 -- Bytes that fit are held after those that are.
 pub held_more : (l m : List ℕ) → length l + length m ≤ 297 → appended (held l) m ≡ held (l ++ m)
@@ -36,10 +36,10 @@ pub held_all : (l : List ℕ) → length l ≤ 297 → appended (held []) l ≡ 
 held_all l h = held_more [] l (omega arith)
 
 -- And its first bytes are those that it holds.
-pub held-front : (l : List ℕ) → take (held l).count (held l).bytes ≡ l
+pub held_front : (l : List ℕ) → take (held l).count (held l).bytes ≡ l
 unfolding held padded
-held-front l = take_at l _ (length l) refl
+held_front l = take_at l _ (length l) refl
 
-pub held-long : (l : List ℕ) → length l ≤ 297 → (held l).count ≤ length (held l).bytes
+pub held_long : (l : List ℕ) → length l ≤ 297 → (held l).count ≤ length (held l).bytes
 unfolding held padded
-held-long l h = rw length-append (omega arith)
+held_long l h = rw length-append (omega arith)

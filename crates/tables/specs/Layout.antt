@@ -1,7 +1,7 @@
 -- The tables of a request file and its bytes, one from the other (rule 10): what marks its kind, the horizon field, then the devices, the tasks and the jobs,
 -- each table after its count. Nothing is judged here. proofs/Back: reading the bytes of tables gives the tables again, and the bytes of the tables of a whole file are the file.
 use Rattle.std.specs.Prelude.{ℕ, zero, suc, ◌+◌, ◌*◌, ◌<◌, List, [], ◌∷◌, ◌++◌, cond, eqb, length, get_or, drop}
-use Rattle.base.specs.Bytes.{byte_at, pair_at, pairBytes}
+use Rattle.base.specs.Bytes.{byte_at, pair_at, pair_bytes}
 use Rattle.base.specs.Lists.{up_to, padded}
 use Rattle.base.specs.Refusals.{after}
 use Rattle.tables.specs.declared.Kind.{Kind}
@@ -15,7 +15,7 @@ use Rattle.tables.specs.declared.JobTable.{JobTable}
 use Rattle.tables.specs.declared.Tables.{Tables}
 use Rattle.tables.specs.declared.TableName.{TableName}
 use Rattle.tables.specs.declared.TableName.TheVariants.{Devices, Tasks, Jobs}
-use Rattle.tables.specs.Records.{deviceAt, deviceSize, deviceBytes, told, taskAt, taskBytes, jobAt, jobBytes, blankDevice, blankTask, blankJob}
+use Rattle.tables.specs.Records.{device_at, device_size, device_bytes, told, task_at, task_bytes, job_at, job_bytes, blank_device, blank_task, blank_job}
 
 -- ---- the kind
 
@@ -35,25 +35,25 @@ body_of s = drop (length (marker (kind_of s))) s
 -- ---- from tables to bytes
 
 -- The records of the tables, by number.
-abbrev pub deviceIn : Tables → ℕ → DeviceRecord
-deviceIn T k = get_or T.devices.list k blankDevice
+abbrev pub device_in : Tables → ℕ → DeviceRecord
+device_in T k = get_or T.devices.list k blank_device
 
-abbrev pub taskIn : Tables → ℕ → TaskRecord
-taskIn T i = get_or T.tasks.list i blankTask
+abbrev pub task_in : Tables → ℕ → TaskRecord
+task_in T i = get_or T.tasks.list i blank_task
 
-abbrev pub jobIn : Tables → ℕ → JobRecord
-jobIn T j = get_or T.jobs.list j blankJob
+abbrev pub job_in : Tables → ℕ → JobRecord
+job_in T j = get_or T.jobs.list j blank_job
 
 -- Of each table its count, and the bytes of one record.
-abbrev pub countIn : Tables → TableName → ℕ
-countIn T Devices = T.devices.count
-countIn T Tasks = T.tasks.count
-countIn T Jobs = T.jobs.count
+abbrev pub count_in : Tables → TableName → ℕ
+count_in T Devices = T.devices.count
+count_in T Tasks = T.tasks.count
+count_in T Jobs = T.jobs.count
 
-abbrev pub recordIn : Tables → TableName → ℕ → List ℕ
-recordIn T Devices k = deviceBytes T.kind (deviceIn T k)
-recordIn T Tasks i = taskBytes (taskIn T i)
-recordIn T Jobs j = jobBytes (jobIn T j)
+abbrev pub record_in : Tables → TableName → ℕ → List ℕ
+record_in T Devices k = device_bytes T.kind (device_in T k)
+record_in T Tasks i = task_bytes (task_in T i)
+record_in T Jobs j = job_bytes (job_in T j)
 
 -- The first n lists, one after the other.
 unfoldable pub joined : (ℕ → List ℕ) → ℕ → List ℕ
@@ -61,11 +61,11 @@ joined g zero = []
 joined g (suc n) = joined g n ++ g n
 
 -- A count stands as it is, even where no byte holds it: such a file is refused for it.
-unfoldable pub sectionOf : Tables → TableName → List ℕ
-sectionOf T p = countIn T p ∷ joined (recordIn T p) (countIn T p)
+unfoldable pub section_of : Tables → TableName → List ℕ
+section_of T p = count_in T p ∷ joined (record_in T p) (count_in T p)
 
 unfoldable pub layout_of : Tables → List ℕ
-layout_of T = pairBytes T.horizon ++ (sectionOf T Devices ++ (sectionOf T Tasks ++ sectionOf T Jobs))
+layout_of T = pair_bytes T.horizon ++ (section_of T Devices ++ (section_of T Tasks ++ section_of T Jobs))
 
 unfoldable pub bytes_of : Tables → List ℕ
 bytes_of T = marker T.kind ++ layout_of T
@@ -77,40 +77,40 @@ abbrev pub Bytes : List ℕ → Type 0
 Bytes s = (i : ℕ) → byte_at s i < 256
 
 -- Of what follows the mark, by kind: where device n's record stands, or would; where the task count and the job count stand, and the task count.
-abbrev pub devicePlace : Kind → List ℕ → ℕ → ℕ
-devicePlace k s n = after (deviceSize k s) n 3
+abbrev pub device_place : Kind → List ℕ → ℕ → ℕ
+device_place k s n = after (device_size k s) n 3
 
-abbrev pub tasksPlace : Kind → List ℕ → ℕ
-tasksPlace k s = devicePlace k s (byte_at s 2)
+abbrev pub tasks_place : Kind → List ℕ → ℕ
+tasks_place k s = device_place k s (byte_at s 2)
 
-abbrev pub taskCount : Kind → List ℕ → ℕ
-taskCount k s = byte_at s (tasksPlace k s)
+abbrev pub task_count : Kind → List ℕ → ℕ
+task_count k s = byte_at s (tasks_place k s)
 
-abbrev pub jobsPlace : Kind → List ℕ → ℕ
-jobsPlace k s = tasksPlace k s + 1 + taskCount k s * 5
+abbrev pub jobs_place : Kind → List ℕ → ℕ
+jobs_place k s = tasks_place k s + 1 + task_count k s * 5
 
 -- The first n records of a table, and blank ones after them.
-abbrev pub devicesHeld : (ℕ → DeviceRecord) → ℕ → DeviceTable
-devicesHeld f n = record { count = n; list = padded 8 blankDevice (up_to f n) }
+abbrev pub devices_held : (ℕ → DeviceRecord) → ℕ → DeviceTable
+devices_held f n = record { count = n; list = padded 8 blank_device (up_to f n) }
 
-abbrev pub tasksHeld : (ℕ → TaskRecord) → ℕ → TaskTable
-tasksHeld f n = record { count = n; list = padded 8 blankTask (up_to f n) }
+abbrev pub tasks_held : (ℕ → TaskRecord) → ℕ → TaskTable
+tasks_held f n = record { count = n; list = padded 8 blank_task (up_to f n) }
 
-abbrev pub jobsHeld : (ℕ → JobRecord) → ℕ → JobTable
-jobsHeld f n = record { count = n; list = padded 16 blankJob (up_to f n) }
+abbrev pub jobs_held : (ℕ → JobRecord) → ℕ → JobTable
+jobs_held f n = record { count = n; list = padded 16 blank_job (up_to f n) }
 
-unfoldable pub tablesAs : Kind → List ℕ → Tables
-tablesAs k s =
+unfoldable pub tables_as : Kind → List ℕ → Tables
+tables_as k s =
     record {
       kind = k;
       horizon = pair_at s 0;
-      devices = devicesHeld (λ i. deviceAt k s (devicePlace k s i)) (byte_at s 2);
-      tasks = tasksHeld (λ i. taskAt s (tasksPlace k s + 1 + i * 5)) (taskCount k s);
-      jobs = jobsHeld (λ j. jobAt s (jobsPlace k s + 1 + j * 7)) (byte_at s (jobsPlace k s));
+      devices = devices_held (λ i. device_at k s (device_place k s i)) (byte_at s 2);
+      tasks = tasks_held (λ i. task_at s (tasks_place k s + 1 + i * 5)) (task_count k s);
+      jobs = jobs_held (λ j. job_at s (jobs_place k s + 1 + j * 7)) (byte_at s (jobs_place k s));
     }
 
 abbrev pub tables_of : List ℕ → Tables
-tables_of s = tablesAs (kind_of s) (body_of s)
+tables_of s = tables_as (kind_of s) (body_of s)
 
 -- Tables as they are read: what stands beyond a count does not count, nor what the kind does not tell.
 unfoldable pub counted : Tables → Tables
@@ -118,11 +118,11 @@ counted T =
     record {
       kind = T.kind;
       horizon = T.horizon;
-      devices = devicesHeld (λ k. told T.kind (deviceIn T k)) T.devices.count;
-      tasks = tasksHeld (taskIn T) T.tasks.count;
-      jobs = jobsHeld (jobIn T) T.jobs.count;
+      devices = devices_held (λ k. told T.kind (device_in T k)) T.devices.count;
+      tasks = tasks_held (task_in T) T.tasks.count;
+      jobs = jobs_held (job_in T) T.jobs.count;
     }
 
 -- No tables at all: what is handed on with a refusal.
-abbrev pub noTables : Tables
-noTables = record { kind = First; horizon = 0; devices = devicesHeld (λ k. blankDevice) 0; tasks = tasksHeld (λ i. blankTask) 0; jobs = jobsHeld (λ j. blankJob) 0 }
+abbrev pub no_tables : Tables
+no_tables = record { kind = First; horizon = 0; devices = devices_held (λ k. blank_device) 0; tasks = tasks_held (λ i. blank_task) 0; jobs = jobs_held (λ j. blank_job) 0 }

@@ -1,8 +1,8 @@
 // The kinds of files, and where their device records stand.
 ghost use Rattle.std.specs.Prelude.{◌≡◌, ◌≤◌, length};
 ghost use Rattle.tables.specs.declared.Kind.TheVariants.{Third};
-ghost use Rattle.tables.specs.Records.{deviceSize};
-ghost use Rattle.tables.specs.Layout.{kind_of, marker, devicePlace};
+ghost use Rattle.tables.specs.Records.{device_size};
+ghost use Rattle.tables.specs.Layout.{kind_of, marker, device_place};
 
 use crate::Kind;
 
@@ -38,7 +38,7 @@ pub fn marker_size(kind: Kind) -> usize
 
 // How many bytes a record of the third kind has: two for each power, of which there are no more than four. Its level count may not be there.
 fn third_size(s: &[u8], at: usize) -> usize
-    ensures { result ≡ deviceSize Third s.now at }
+    ensures { result ≡ device_size Third s.now at }
 {
     if s.len() <= at {
         return 6;
@@ -52,7 +52,7 @@ fn third_size(s: &[u8], at: usize) -> usize
 
 // How many bytes the device record at a place has.
 pub fn device_size(s: &[u8], kind: Kind, at: usize) -> usize
-    ensures { result ≡ deviceSize kind s.now at }
+    ensures { result ≡ device_size kind s.now at }
 {
     match kind {
         Kind::First => 7,
@@ -63,8 +63,8 @@ pub fn device_size(s: &[u8], kind: Kind, at: usize) -> usize
 
 // Where device n's record stands, or what follows the devices: each record stands after the one before it.
 pub fn device_place(s: &[u8], kind: Kind, n: usize) -> usize
-    requires { devicePlace kind s.now n ≤ length s.now }
-    ensures { result ≡ devicePlace kind s.now n }
+    requires { device_place kind s.now n ≤ length s.now }
+    ensures { result ≡ device_place kind s.now n }
 {
     let mut at: usize = 3;
     let mut k: usize = 0;

@@ -1,8 +1,8 @@
 // The bytes of tables, from the first to the last, in an array.
 ghost use Rattle.std.specs.Prelude.{◌≡◌, [], ◌∷◌, ◌+◌, ◌≤◌, ◌<◌, length, get_or};
-ghost use Rattle.base.specs.Bytes.{pairBytes};
-ghost use Rattle.tables.specs.Records.{firstBytes, secondBytes, powerBytes, powersBytes, thirdBytes, deviceBytes, taskBytes, jobBytes, blankDevice, blankTask, blankJob};
-ghost use Rattle.tables.specs.Layout.{marker, countIn, recordIn, joined, sectionOf, bytes_of};
+ghost use Rattle.base.specs.Bytes.{pair_bytes};
+ghost use Rattle.tables.specs.Records.{first_bytes, second_bytes, power_bytes, powers_bytes, third_bytes, device_bytes, task_bytes, job_bytes, blank_device, blank_task, blank_job};
+ghost use Rattle.tables.specs.Layout.{marker, count_in, record_in, joined, section_of, bytes_of};
 ghost use Rattle.tables.specs.inside.Held.{limited, held, appended};
 
 use crate::records::{blank_device, blank_job, blank_task};
@@ -34,7 +34,7 @@ pub fn push(f: File, byte: u8) -> File
 
 pub fn push_pair(f: File, number: u16) -> File
     requires { f.count + 2 ≤ 297 }
-    ensures { result ≡ appended f (pairBytes number) }
+    ensures { result ≡ appended f (pair_bytes number) }
 {
     let high = push(f, (number / 256) as u8);
     push(high, (number % 256) as u8)
@@ -59,7 +59,7 @@ fn push_marker(f: File, kind: Kind) -> File
 
 fn push_first(f: File, d: DeviceRecord) -> File
     requires { f.count + 7 ≤ 297 }
-    ensures { result ≡ appended f (firstBytes d) }
+    ensures { result ≡ appended f (first_bytes d) }
 {
     let a = push(f, d.wake);
     let b = push_pair(a, d.pw);
@@ -69,7 +69,7 @@ fn push_first(f: File, d: DeviceRecord) -> File
 
 fn push_second(f: File, d: DeviceRecord) -> File
     requires { f.count + 10 ≤ 297 }
-    ensures { result ≡ appended f (secondBytes d) }
+    ensures { result ≡ appended f (second_bytes d) }
 {
     let a = push(f, d.wake);
     let b = push(a, d.shut);
@@ -81,15 +81,15 @@ fn push_second(f: File, d: DeviceRecord) -> File
 
 // The power of level i + 1, if n levels have it.
 fn push_power(f: File, n: u8, i: u8, power: u16) -> File
-    requires { f.count + length (powerBytes n i power) ≤ 297 }
-    ensures { result ≡ appended f (powerBytes n i power) }
+    requires { f.count + length (power_bytes n i power) ≤ 297 }
+    ensures { result ≡ appended f (power_bytes n i power) }
 {
     if i < n { push_pair(f, power) } else { f }
 }
 
 fn push_powers(f: File, d: DeviceRecord) -> File
-    requires { f.count + length (powersBytes d) ≤ 297 }
-    ensures { result ≡ appended f (powersBytes d) }
+    requires { f.count + length (powers_bytes d) ≤ 297 }
+    ensures { result ≡ appended f (powers_bytes d) }
 {
     let n = d.levels;
     let a = push_power(f, n, 0, d.ps);
@@ -99,8 +99,8 @@ fn push_powers(f: File, d: DeviceRecord) -> File
 }
 
 fn push_third(f: File, d: DeviceRecord) -> File
-    requires { f.count + length (thirdBytes d) ≤ 297 }
-    ensures { result ≡ appended f (thirdBytes d) }
+    requires { f.count + length (third_bytes d) ≤ 297 }
+    ensures { result ≡ appended f (third_bytes d) }
 {
     let a = push(f, d.wake);
     let b = push_pair(a, d.pw);
@@ -110,8 +110,8 @@ fn push_third(f: File, d: DeviceRecord) -> File
 }
 
 fn push_device(f: File, kind: Kind, d: DeviceRecord) -> File
-    requires { f.count + length (deviceBytes kind d) ≤ 297 }
-    ensures { result ≡ appended f (deviceBytes kind d) }
+    requires { f.count + length (device_bytes kind d) ≤ 297 }
+    ensures { result ≡ appended f (device_bytes kind d) }
 {
     match kind {
         Kind::First => push_first(f, d),
@@ -122,7 +122,7 @@ fn push_device(f: File, kind: Kind, d: DeviceRecord) -> File
 
 fn push_task(f: File, k: TaskRecord) -> File
     requires { f.count + 5 ≤ 297 }
-    ensures { result ≡ appended f (taskBytes k) }
+    ensures { result ≡ appended f (task_bytes k) }
 {
     let a = push_pair(f, k.period);
     let b = push_pair(a, k.run);
@@ -131,7 +131,7 @@ fn push_task(f: File, k: TaskRecord) -> File
 
 fn push_job(f: File, j: JobRecord) -> File
     requires { f.count + 7 ≤ 297 }
-    ensures { result ≡ appended f (jobBytes j) }
+    ensures { result ≡ appended f (job_bytes j) }
 {
     let a = push_pair(f, j.release);
     let b = push_pair(a, j.deadline);
@@ -141,26 +141,26 @@ fn push_job(f: File, j: JobRecord) -> File
 
 // The record of a number. One past the end of the list is blank.
 fn device_of(t: DeviceTable, k: usize) -> DeviceRecord
-    ensures { result ≡ get_or t.list k blankDevice }
+    ensures { result ≡ get_or t.list k blank_device }
 {
     if k < 8 { t.list[k] } else { blank_device() }
 }
 
 fn task_of(t: TaskTable, i: usize) -> TaskRecord
-    ensures { result ≡ get_or t.list i blankTask }
+    ensures { result ≡ get_or t.list i blank_task }
 {
     if i < 8 { t.list[i] } else { blank_task() }
 }
 
 fn job_of(t: JobTable, j: usize) -> JobRecord
-    ensures { result ≡ get_or t.list j blankJob }
+    ensures { result ≡ get_or t.list j blank_job }
 {
     if j < 16 { t.list[j] } else { blank_job() }
 }
 
 fn push_record(f: File, t: Tables, part: TableName, k: usize) -> File
-    requires { f.count + length (recordIn t part k) ≤ 297 }
-    ensures { result ≡ appended f (recordIn t part k) }
+    requires { f.count + length (record_in t part k) ≤ 297 }
+    ensures { result ≡ appended f (record_in t part k) }
 {
     match part {
         TableName::Devices => {
@@ -181,7 +181,7 @@ fn push_record(f: File, t: Tables, part: TableName, k: usize) -> File
 
 // The count of a table, as far as it matters: one above the limit stands for all above it.
 fn count_of(t: Tables, part: TableName) -> usize
-    ensures { result ≡ countIn (limited t) part }
+    ensures { result ≡ count_in (limited t) part }
 {
     match part {
         TableName::Devices => fewer(t.devices.count, 9),
@@ -192,8 +192,8 @@ fn count_of(t: Tables, part: TableName) -> usize
 
 // The first n records of a table.
 pub fn push_records(f: File, t: Tables, part: TableName, n: usize) -> File
-    requires { f.count + length (joined (recordIn t part) n) ≤ 297 }
-    ensures { result ≡ appended f (joined (recordIn t part) n) }
+    requires { f.count + length (joined (record_in t part) n) ≤ 297 }
+    ensures { result ≡ appended f (joined (record_in t part) n) }
 {
     let mut out = f;
     let mut k: usize = 0;
@@ -206,8 +206,8 @@ pub fn push_records(f: File, t: Tables, part: TableName, n: usize) -> File
 
 // A table after its count.
 fn push_section(f: File, t: Tables, part: TableName) -> File
-    requires { f.count + length (sectionOf (limited t) part) ≤ 297 }
-    ensures { result ≡ appended f (sectionOf (limited t) part) }
+    requires { f.count + length (section_of (limited t) part) ≤ 297 }
+    ensures { result ≡ appended f (section_of (limited t) part) }
 {
     let n = count_of(t, part);
     let counted = push(f, n as u8);

@@ -3,8 +3,8 @@ ghost use Rattle.std.specs.Prelude.{◌≡◌, ℕ, ◌+◌, ◌*◌, ◌≤◌,
 ghost use Rattle.base.specs.Bytes.{byte_at, pair_at};
 ghost use Rattle.base.specs.Refusals.{after};
 ghost use Rattle.tables.specs.Records as Records;
-ghost use Rattle.tables.specs.Records.{first_at, secondAt, thirdAt, powerOf, deviceAt, deviceSize, taskAt, jobAt, blankDevice, blankTask, blankJob};
-ghost use Rattle.tables.specs.Layout.{kind_of, body_of, devicesHeld, tasksHeld, jobsHeld, tablesAs, tables_of, noTables};
+ghost use Rattle.tables.specs.Records.{first_at, second_at, third_at, power_of, device_at, device_size, task_at, job_at, blank_device, blank_task, blank_job};
+ghost use Rattle.tables.specs.Layout.{kind_of, body_of, devices_held, tasks_held, jobs_held, tables_as, tables_of, no_tables};
 ghost use Rattle.tables.specs.inside.Held.{Whole};
 
 use crate::kinds::{device_place, device_size, kind_of, marker_size};
@@ -58,7 +58,7 @@ pub fn first_at(s: &[u8], at: usize) -> DeviceRecord
 
 fn second_at(s: &[u8], at: usize) -> DeviceRecord
     requires { at + 10 ≤ length s.now }
-    ensures { result ≡ secondAt s.now at }
+    ensures { result ≡ second_at s.now at }
 {
     DeviceRecord {
         wake: s[at],
@@ -77,14 +77,14 @@ fn second_at(s: &[u8], at: usize) -> DeviceRecord
 // The power of level i + 1, which stands at a place if n levels have it.
 fn power_at(s: &[u8], at: usize, n: u8, i: u8) -> u16
     requires { i < n → at + 1 < length s.now }
-    ensures { result ≡ powerOf n i (pair_at s.now at) }
+    ensures { result ≡ power_of n i (pair_at s.now at) }
 {
     if i < n { base::pair_at(s, at) } else { 0 }
 }
 
 fn third_at(s: &[u8], at: usize) -> DeviceRecord
     requires { at + (6 + 2 * min (byte_at s.now (at + 5)) 4) ≤ length s.now }
-    ensures { result ≡ thirdAt s.now at }
+    ensures { result ≡ third_at s.now at }
 {
     let n = s[at + 5];
     leveled(
@@ -100,8 +100,8 @@ fn third_at(s: &[u8], at: usize) -> DeviceRecord
 }
 
 pub fn device_at(s: &[u8], kind: Kind, at: usize) -> DeviceRecord
-    requires { at + deviceSize kind s.now at ≤ length s.now }
-    ensures { result ≡ deviceAt kind s.now at }
+    requires { at + device_size kind s.now at ≤ length s.now }
+    ensures { result ≡ device_at kind s.now at }
 {
     match kind {
         Kind::First => first_at(s, at),
@@ -112,7 +112,7 @@ pub fn device_at(s: &[u8], kind: Kind, at: usize) -> DeviceRecord
 
 pub fn task_at(s: &[u8], at: usize) -> TaskRecord
     requires { at + 4 < length s.now }
-    ensures { result ≡ taskAt s.now at }
+    ensures { result ≡ task_at s.now at }
 {
     TaskRecord {
         period: base::pair_at(s, at),
@@ -123,7 +123,7 @@ pub fn task_at(s: &[u8], at: usize) -> TaskRecord
 
 pub fn job_at(s: &[u8], at: usize) -> JobRecord
     requires { at + 6 < length s.now }
-    ensures { result ≡ jobAt s.now at }
+    ensures { result ≡ job_at s.now at }
 {
     JobRecord {
         release: base::pair_at(s, at),
@@ -134,13 +134,13 @@ pub fn job_at(s: &[u8], at: usize) -> JobRecord
 }
 
 pub fn blank_device() -> DeviceRecord
-    ensures { result ≡ blankDevice }
+    ensures { result ≡ blank_device }
 {
     averaged(0, 0, 0, 0)
 }
 
 pub(crate) fn blank_task() -> TaskRecord
-    ensures { result ≡ blankTask }
+    ensures { result ≡ blank_task }
 {
     TaskRecord {
         period: 0,
@@ -150,7 +150,7 @@ pub(crate) fn blank_task() -> TaskRecord
 }
 
 pub(crate) fn blank_job() -> JobRecord
-    ensures { result ≡ blankJob }
+    ensures { result ≡ blank_job }
 {
     JobRecord {
         release: 0,
@@ -162,8 +162,8 @@ pub(crate) fn blank_job() -> JobRecord
 
 // The n devices from a place on: each record stands after the one before it.
 pub fn devices_at(s: &[u8], kind: Kind, n: usize, from: usize) -> DeviceTable
-    requires { (n ≤ 8) × (after (deviceSize kind s.now) n from ≤ length s.now) }
-    ensures { result ≡ devicesHeld (λ k. deviceAt kind s.now (after (deviceSize kind s.now) k from)) n }
+    requires { (n ≤ 8) × (after (device_size kind s.now) n from ≤ length s.now) }
+    ensures { result ≡ devices_held (λ k. device_at kind s.now (after (device_size kind s.now) k from)) n }
 {
     let mut list = [blank_device(); 8];
     let mut at: usize = from;
@@ -179,7 +179,7 @@ pub fn devices_at(s: &[u8], kind: Kind, n: usize, from: usize) -> DeviceTable
 // The n records of a table, from a place on.
 pub fn tasks_at(s: &[u8], n: usize, from: usize) -> TaskTable
     requires { (n ≤ 8) × (from + n * 5 ≤ length s.now) }
-    ensures { result ≡ tasksHeld (λ i. taskAt s.now (from + i * 5)) n }
+    ensures { result ≡ tasks_held (λ i. task_at s.now (from + i * 5)) n }
 {
     let mut list = [blank_task(); 8];
     let mut i: usize = 0;
@@ -192,7 +192,7 @@ pub fn tasks_at(s: &[u8], n: usize, from: usize) -> TaskTable
 
 pub fn jobs_at(s: &[u8], n: usize, from: usize) -> JobTable
     requires { (n ≤ 16) × (from + n * 7 ≤ length s.now) }
-    ensures { result ≡ jobsHeld (λ j. jobAt s.now (from + j * 7)) n }
+    ensures { result ≡ jobs_held (λ j. job_at s.now (from + j * 7)) n }
 {
     let mut list = [blank_job(); 16];
     let mut j: usize = 0;
@@ -206,7 +206,7 @@ pub fn jobs_at(s: &[u8], n: usize, from: usize) -> JobTable
 // The tables that follow the mark of a file of a kind, where they are all there.
 fn tables_as(s: &[u8], kind: Kind) -> Tables
     requires { Whole kind s.now }
-    ensures { result ≡ tablesAs kind s.now }
+    ensures { result ≡ tables_as kind s.now }
 {
     let n = s[2] as usize;
     let at = device_place(s, kind, n);
@@ -237,7 +237,7 @@ pub fn tables_in(s: &[u8]) -> Tables
 
 // What is handed on with a refusal.
 pub fn no_tables() -> Tables
-    ensures { result ≡ noTables }
+    ensures { result ≡ no_tables }
 {
     let devices = DeviceTable {
         count: 0,

@@ -12,14 +12,14 @@ use lib.ListN.{length, take, drop, get_or}
 use lib.Seq.{drop-cons, drop-length, take-nil}
 use lib.Dec.{eqb}
 use borrow.Author.Tests.{eqb-true, eq-eqb, ne_eqb}
-use Rattle.base.proofs.Cases.{test-cases}
-use Rattle.base.proofs.Numbers.{length-nil}
+use Rattle.base.proofs.Cases.{test_cases}
+use Rattle.base.proofs.Numbers.{length_nil}
 use Rattle.text.specs.declared.State.{State}
 use Rattle.text.specs.declared.State.TheVariants.{Fresh, Plain, Quoted, Closed}
-use Rattle.text.specs.Grammar.{comma, quote, Step, stray, ends, goes, step, kept, then, after, fieldsFrom, unread}
+use Rattle.text.specs.Grammar.{comma, quote, Step, stray, ends, goes, step, kept, then, after, fields_from, unread}
 use Rattle.text.specs.declared.Turn.TheVariants.{Stray, Ends, Goes}
 use Rattle.text.specs.declared.Cut.{Cut}
-use Rattle.text.specs.inside.Cursors.{raw, rawOf, turn_of, is_over, onward, cutFrom, cut_of, startsQuoted, firstField, counted, field_at}
+use Rattle.text.specs.inside.Cursors.{raw, raw_of, turn_of, is_over, onward, cut_from, cut_of, starts_quoted, first_field, counted, field_at}
 use Rattle.text.proofs.Split.{kept_then}
 
 -- ---- byte by byte
@@ -30,22 +30,22 @@ chosen true y a b c = refl
 chosen false true a b c = refl
 chosen false false a b c = refl
 
-pub turn-fresh : (b : ℕ) → cond (eqb b comma) Ends (cond (eqb b quote) (Goes Quoted) (Goes Plain)) ≡ turn_of (step raw Fresh b)
+pub turn_fresh : (b : ℕ) → cond (eqb b comma) Ends (cond (eqb b quote) (Goes Quoted) (Goes Plain)) ≡ turn_of (step raw Fresh b)
 unfolding step
-turn-fresh b = chosen (eqb b comma) (eqb b quote) ends (goes Quoted []) (goes Plain (b ∷ []))
+turn_fresh b = chosen (eqb b comma) (eqb b quote) ends (goes Quoted []) (goes Plain (b ∷ []))
 
-pub turn-plain : (b : ℕ) → cond (eqb b comma) Ends (cond (eqb b quote) Stray (Goes Plain)) ≡ turn_of (step raw Plain b)
+pub turn_plain : (b : ℕ) → cond (eqb b comma) Ends (cond (eqb b quote) Stray (Goes Plain)) ≡ turn_of (step raw Plain b)
 unfolding step
-turn-plain b = chosen (eqb b comma) (eqb b quote) ends stray (goes Plain (b ∷ []))
+turn_plain b = chosen (eqb b comma) (eqb b quote) ends stray (goes Plain (b ∷ []))
 
-pub turn-closed : (b : ℕ) → cond (eqb b comma) Ends (cond (eqb b quote) (Goes Quoted) Stray) ≡ turn_of (step raw Closed b)
+pub turn_closed : (b : ℕ) → cond (eqb b comma) Ends (cond (eqb b quote) (Goes Quoted) Stray) ≡ turn_of (step raw Closed b)
 unfolding step
-turn-closed b = chosen (eqb b comma) (eqb b quote) ends (goes Quoted raw) stray
+turn_closed b = chosen (eqb b comma) (eqb b quote) ends (goes Quoted raw) stray
 
 -- Between quotes a comma is a byte like others.
-pub turn-quoted : (b : ℕ) → cond (eqb b comma) (Goes Quoted) (cond (eqb b quote) (Goes Closed) (Goes Quoted)) ≡ turn_of (step raw Quoted b)
+pub turn_quoted : (b : ℕ) → cond (eqb b comma) (Goes Quoted) (cond (eqb b quote) (Goes Closed) (Goes Quoted)) ≡ turn_of (step raw Quoted b)
 unfolding step
-turn-quoted b = go (eqb b comma) refl (eqb b quote) refl
+turn_quoted b = go (eqb b comma) refl (eqb b quote) refl
   where
     go : (x : Bool) → eqb b comma ≡ x → (y : Bool) → eqb b quote ≡ y
         → cond x (Goes Quoted) (cond y (Goes Closed) (Goes Quoted)) ≡ turn_of (cond y (goes Closed []) (goes Quoted (b ∷ [])))
@@ -63,344 +63,344 @@ pub reached : (c : Cut) (n : ℕ) (b : Bool) → Reaches c n b → record { size
 reached c n b r = rw (← r.size, ← r.whole)
 
 -- From what is known so far, and what the bytes from here on say.
-pub further : (s : List ℕ) (i : ℕ) (q : State) (m to : ℕ) {b : Bool} → Reaches (cut_of s) (i + (cutFrom q (drop i s)).size) (cutFrom q (drop i s)).whole
-    → Reaches (cutFrom q (drop i s)) m b → i + m ≡ to → Reaches (cut_of s) to b
+pub further : (s : List ℕ) (i : ℕ) (q : State) (m to : ℕ) {b : Bool} → Reaches (cut_of s) (i + (cut_from q (drop i s)).size) (cut_from q (drop i s)).whole
+    → Reaches (cut_from q (drop i s)) m b → i + m ≡ to → Reaches (cut_of s) to b
 further s i q m to r t e = record { size = omega (arith, r.size, t.size); whole = r.whole ∙ t.whole }
 
 module _ (q : State) (s : List ℕ) (i : ℕ) (h : i < length s) where
-  pub cut-stray : turn_of (step raw q (get_or s i 0)) ≡ Stray → Reaches (cutFrom q (drop i s)) 0 false
-  unfolding cutFrom
-  cut-stray e = rw (drop-cons s i 0 h) (go (step raw q (get_or s i 0)) e)
+  pub cut_stray : turn_of (step raw q (get_or s i 0)) ≡ Stray → Reaches (cut_from q (drop i s)) 0 false
+  unfolding cut_from
+  cut_stray e = rw (drop-cons s i 0 h) (go (step raw q (get_or s i 0)) e)
     where
-      go : (d : Step) → turn_of d ≡ Stray → Reaches (onward d (λ r. cutFrom r (drop (suc i) s))) 0 false
+      go : (d : Step) → turn_of d ≡ Stray → Reaches (onward d (λ r. cut_from r (drop (suc i) s))) 0 false
       go stray e = record { size = refl; whole = refl }
       go ends e = let z : ◌≡◌ {A = ℕ} 0 1 = cc in absurd (omega arith)
       go (goes r t) e = let z : ◌≡◌ {A = ℕ} 0 1 = cc in absurd (omega arith)
 
-  pub cut-ends : turn_of (step raw q (get_or s i 0)) ≡ Ends → Reaches (cutFrom q (drop i s)) 0 true
-  unfolding cutFrom
-  cut-ends e = rw (drop-cons s i 0 h) (go (step raw q (get_or s i 0)) e)
+  pub cut_ends : turn_of (step raw q (get_or s i 0)) ≡ Ends → Reaches (cut_from q (drop i s)) 0 true
+  unfolding cut_from
+  cut_ends e = rw (drop-cons s i 0 h) (go (step raw q (get_or s i 0)) e)
     where
-      go : (d : Step) → turn_of d ≡ Ends → Reaches (onward d (λ r. cutFrom r (drop (suc i) s))) 0 true
+      go : (d : Step) → turn_of d ≡ Ends → Reaches (onward d (λ r. cut_from r (drop (suc i) s))) 0 true
       go stray e = let z : ◌≡◌ {A = ℕ} 0 1 = cc in absurd (omega arith)
       go ends e = record { size = refl; whole = refl }
       go (goes r t) e = let z : ◌≡◌ {A = ℕ} 0 1 = cc in absurd (omega arith)
 
-  pub cut-goes : (r : State) → turn_of (step raw q (get_or s i 0)) ≡ Goes r
-      → Reaches (cutFrom q (drop i s)) (suc (cutFrom r (drop (i + 1) s)).size) (cutFrom r (drop (i + 1) s)).whole
-  unfolding cutFrom
-  cut-goes r e = rw (drop-cons s i 0 h, add-one i) (go (step raw q (get_or s i 0)) e)
+  pub cut_goes : (r : State) → turn_of (step raw q (get_or s i 0)) ≡ Goes r
+      → Reaches (cut_from q (drop i s)) (suc (cut_from r (drop (i + 1) s)).size) (cut_from r (drop (i + 1) s)).whole
+  unfolding cut_from
+  cut_goes r e = rw (drop-cons s i 0 h, add-one i) (go (step raw q (get_or s i 0)) e)
     where
       go : (d : Step) → turn_of d ≡ Goes r
-          → Reaches (onward d (λ r. cutFrom r (drop (suc i) s))) (suc (cutFrom r (drop (suc i) s)).size) (cutFrom r (drop (suc i) s)).whole
+          → Reaches (onward d (λ r. cut_from r (drop (suc i) s))) (suc (cut_from r (drop (suc i) s)).size) (cut_from r (drop (suc i) s)).whole
       go stray e = let z : ◌≡◌ {A = ℕ} 0 1 = cc in absurd (omega arith)
       go ends e = let z : ◌≡◌ {A = ℕ} 0 1 = cc in absurd (omega arith)
       go (goes r' t) e = let f : r' ≡ r = cc in rw f (record { size = refl; whole = refl })
 
-pub cut-end : (q : State) (s : List ℕ) (i : ℕ) → i ≡ length s → Reaches (cutFrom q (drop i s)) 0 (is_over q)
-unfolding cutFrom
-cut-end q s i e = rw (e, drop-length) (record { size = refl; whole = refl })
+pub cut_end : (q : State) (s : List ℕ) (i : ℕ) → i ≡ length s → Reaches (cut_from q (drop i s)) 0 (is_over q)
+unfolding cut_from
+cut_end q s i e = rw (e, drop-length) (record { size = refl; whole = refl })
 
 -- ---- field by field
 
 -- A field with what stands behind it: nothing, or a comma and more fields.
 abbrev pub behind : List ℕ → List ℕ → Option (List (List ℕ))
 behind f [] = some (f ∷ [])
-behind f (b ∷ s) = then f (fieldsFrom (quote ∷ quote ∷ []) Fresh s)
+behind f (b ∷ s) = then f (fields_from (quote ∷ quote ∷ []) Fresh s)
 
 -- None where a quote is stray or open.
 abbrev pub found : Bool → List ℕ → List ℕ → Option (List (List ℕ))
 found false f s = none
 found true f s = behind f s
 
-kept-behind : (t f s : List ℕ) → kept t (behind f s) ≡ behind (t ++ f) s
-kept-behind t f [] = refl
-kept-behind t f (b ∷ s) = kept_then t f (fieldsFrom (quote ∷ quote ∷ []) Fresh s)
+kept_behind : (t f s : List ℕ) → kept t (behind f s) ≡ behind (t ++ f) s
+kept_behind t f [] = refl
+kept_behind t f (b ∷ s) = kept_then t f (fields_from (quote ∷ quote ∷ []) Fresh s)
 
-kept-found : (o : Bool) (t f s : List ℕ) → kept t (found o f s) ≡ found o (t ++ f) s
-kept-found false t f s = refl
-kept-found true t f s = kept-behind t f s
+kept_found : (o : Bool) (t f s : List ℕ) → kept t (found o f s) ≡ found o (t ++ f) s
+kept_found false t f s = refl
+kept_found true t f s = kept_behind t f s
 
-plain-cut : (s : List ℕ) → fieldsFrom raw Plain s ≡ found (cutFrom Plain s).whole (take (cutFrom Plain s).size s) (drop (cutFrom Plain s).size s)
-unfolding fieldsFrom step cutFrom
-plain-cut [] = refl
-plain-cut (b ∷ s) = go (eqb b comma) (eqb b quote) (plain-cut s)
+plain_cut : (s : List ℕ) → fields_from raw Plain s ≡ found (cut_from Plain s).whole (take (cut_from Plain s).size s) (drop (cut_from Plain s).size s)
+unfolding fields_from step cut_from
+plain_cut [] = refl
+plain_cut (b ∷ s) = go (eqb b comma) (eqb b quote) (plain_cut s)
   where
     go : (x y : Bool)
-        → fieldsFrom raw Plain s ≡ found (cutFrom Plain s).whole (take (cutFrom Plain s).size s) (drop (cutFrom Plain s).size s)
-        → after (cond x ends (cond y stray (goes Plain (b ∷ [])))) (λ r. fieldsFrom raw r s)
-        ≡ found (onward (cond x ends (cond y stray (goes Plain (b ∷ [])))) (λ r. cutFrom r s)).whole
-        (take (onward (cond x ends (cond y stray (goes Plain (b ∷ [])))) (λ r. cutFrom r s)).size (b ∷ s))
-        (drop (onward (cond x ends (cond y stray (goes Plain (b ∷ [])))) (λ r. cutFrom r s)).size (b ∷ s))
+        → fields_from raw Plain s ≡ found (cut_from Plain s).whole (take (cut_from Plain s).size s) (drop (cut_from Plain s).size s)
+        → after (cond x ends (cond y stray (goes Plain (b ∷ [])))) (λ r. fields_from raw r s)
+        ≡ found (onward (cond x ends (cond y stray (goes Plain (b ∷ [])))) (λ r. cut_from r s)).whole
+        (take (onward (cond x ends (cond y stray (goes Plain (b ∷ [])))) (λ r. cut_from r s)).size (b ∷ s))
+        (drop (onward (cond x ends (cond y stray (goes Plain (b ∷ [])))) (λ r. cut_from r s)).size (b ∷ s))
     go true y h = refl
     go false true h = refl
-    go false false h = ap (kept (b ∷ [])) h ∙ kept-found (cutFrom Plain s).whole (b ∷ []) (take (cutFrom Plain s).size s) (drop (cutFrom Plain s).size s)
+    go false false h = ap (kept (b ∷ [])) h ∙ kept_found (cut_from Plain s).whole (b ∷ []) (take (cut_from Plain s).size s) (drop (cut_from Plain s).size s)
 
 -- A field without quotes: it is the bytes before the comma or the line's end.
 pub field_plain : (b : ℕ) (s : List ℕ) → eqb b quote ≡ false
-    → fieldsFrom raw Fresh (b ∷ s)
-    ≡ found (cutFrom Fresh (b ∷ s)).whole (take (cutFrom Fresh (b ∷ s)).size (b ∷ s)) (drop (cutFrom Fresh (b ∷ s)).size (b ∷ s))
-unfolding fieldsFrom step cutFrom
-field_plain b s e = go (eqb b comma) (eqb b quote) e (plain-cut s)
+    → fields_from raw Fresh (b ∷ s)
+    ≡ found (cut_from Fresh (b ∷ s)).whole (take (cut_from Fresh (b ∷ s)).size (b ∷ s)) (drop (cut_from Fresh (b ∷ s)).size (b ∷ s))
+unfolding fields_from step cut_from
+field_plain b s e = go (eqb b comma) (eqb b quote) e (plain_cut s)
   where
     go : (x y : Bool) → y ≡ false
-        → fieldsFrom raw Plain s ≡ found (cutFrom Plain s).whole (take (cutFrom Plain s).size s) (drop (cutFrom Plain s).size s)
-        → after (cond x ends (cond y (goes Quoted []) (goes Plain (b ∷ [])))) (λ r. fieldsFrom raw r s)
-        ≡ found (onward (cond x ends (cond y (goes Quoted []) (goes Plain (b ∷ [])))) (λ r. cutFrom r s)).whole
-        (take (onward (cond x ends (cond y (goes Quoted []) (goes Plain (b ∷ [])))) (λ r. cutFrom r s)).size (b ∷ s))
-        (drop (onward (cond x ends (cond y (goes Quoted []) (goes Plain (b ∷ [])))) (λ r. cutFrom r s)).size (b ∷ s))
+        → fields_from raw Plain s ≡ found (cut_from Plain s).whole (take (cut_from Plain s).size s) (drop (cut_from Plain s).size s)
+        → after (cond x ends (cond y (goes Quoted []) (goes Plain (b ∷ [])))) (λ r. fields_from raw r s)
+        ≡ found (onward (cond x ends (cond y (goes Quoted []) (goes Plain (b ∷ [])))) (λ r. cut_from r s)).whole
+        (take (onward (cond x ends (cond y (goes Quoted []) (goes Plain (b ∷ [])))) (λ r. cut_from r s)).size (b ∷ s))
+        (drop (onward (cond x ends (cond y (goes Quoted []) (goes Plain (b ∷ [])))) (λ r. cut_from r s)).size (b ∷ s))
     go true y e h = refl
     go false true e h = absurd (true≢false e)
-    go false false e h = ap (kept (b ∷ [])) h ∙ kept-found (cutFrom Plain s).whole (b ∷ []) (take (cutFrom Plain s).size s) (drop (cutFrom Plain s).size s)
+    go false false e h = ap (kept (b ∷ [])) h ∙ kept_found (cut_from Plain s).whole (b ∷ []) (take (cut_from Plain s).size s) (drop (cut_from Plain s).size s)
 
 -- ---- between quotes
 
 -- One byte more at the front: between quotes a field that ends at once is open, so that what it holds does not count.
 one_more : (b : ℕ) (s g : List ℕ)
-    → found (cutFrom Quoted s).whole (b ∷ take ((cutFrom Quoted s).size - 1) s) g ≡ found (cutFrom Quoted s).whole (take (cutFrom Quoted s).size (b ∷ s)) g
-unfolding cutFrom step
+    → found (cut_from Quoted s).whole (b ∷ take ((cut_from Quoted s).size - 1) s) g ≡ found (cut_from Quoted s).whole (take (cut_from Quoted s).size (b ∷ s)) g
+unfolding cut_from step
 one_more b [] g = refl
 one_more b (c ∷ s) g = go (eqb c quote)
   where
     shift : (m : ℕ) (o : Bool) → found o (b ∷ take (suc m - 1) (c ∷ s)) g ≡ found o (take (suc m) (b ∷ c ∷ s)) g
     shift m o = let e : suc m - 1 ≡ m = omega arith in rw e
 
-    go : (y : Bool) → found (onward (cond y (goes Closed []) (goes Quoted (c ∷ []))) (λ r. cutFrom r s)).whole
-        (b ∷ take ((onward (cond y (goes Closed []) (goes Quoted (c ∷ []))) (λ r. cutFrom r s)).size - 1) (c ∷ s)) g
-        ≡ found (onward (cond y (goes Closed []) (goes Quoted (c ∷ []))) (λ r. cutFrom r s)).whole
-        (take (onward (cond y (goes Closed []) (goes Quoted (c ∷ []))) (λ r. cutFrom r s)).size (b ∷ c ∷ s)) g
-    go true = shift (cutFrom Closed s).size (cutFrom Closed s).whole
-    go false = shift (cutFrom Quoted s).size (cutFrom Quoted s).whole
+    go : (y : Bool) → found (onward (cond y (goes Closed []) (goes Quoted (c ∷ []))) (λ r. cut_from r s)).whole
+        (b ∷ take ((onward (cond y (goes Closed []) (goes Quoted (c ∷ []))) (λ r. cut_from r s)).size - 1) (c ∷ s)) g
+        ≡ found (onward (cond y (goes Closed []) (goes Quoted (c ∷ []))) (λ r. cut_from r s)).whole
+        (take (onward (cond y (goes Closed []) (goes Quoted (c ∷ []))) (λ r. cut_from r s)).size (b ∷ c ∷ s)) g
+    go true = shift (cut_from Closed s).size (cut_from Closed s).whole
+    go false = shift (cut_from Quoted s).size (cut_from Quoted s).whole
 
 -- Open, the field is what stands before the last byte; behind a quote that may close it, the bytes from that quote on but the last.
 abbrev InQuotes : List ℕ → Type 0
-InQuotes s = fieldsFrom raw Quoted s ≡ found (cutFrom Quoted s).whole (take ((cutFrom Quoted s).size - 1) s) (drop (cutFrom Quoted s).size s)
+InQuotes s = fields_from raw Quoted s ≡ found (cut_from Quoted s).whole (take ((cut_from Quoted s).size - 1) s) (drop (cut_from Quoted s).size s)
 
 abbrev AtQuote : List ℕ → Type 0
-AtQuote s = fieldsFrom raw Closed s ≡ found (cutFrom Closed s).whole (take (cutFrom Closed s).size (quote ∷ s)) (drop (cutFrom Closed s).size s)
+AtQuote s = fields_from raw Closed s ≡ found (cut_from Closed s).whole (take (cut_from Closed s).size (quote ∷ s)) (drop (cut_from Closed s).size s)
 
-in-quotes : (b : ℕ) (s : List ℕ) → InQuotes s → AtQuote s → InQuotes (b ∷ s)
-unfolding fieldsFrom step cutFrom
-in-quotes b s h k = go (eqb b quote) refl
+in_quotes : (b : ℕ) (s : List ℕ) → InQuotes s → AtQuote s → InQuotes (b ∷ s)
+unfolding fields_from step cut_from
+in_quotes b s h k = go (eqb b quote) refl
   where
     go : (y : Bool) → eqb b quote ≡ y
-        → after (cond y (goes Closed []) (goes Quoted (b ∷ []))) (λ r. fieldsFrom raw r s)
-        ≡ found (onward (cond y (goes Closed []) (goes Quoted (b ∷ []))) (λ r. cutFrom r s)).whole
-        (take ((onward (cond y (goes Closed []) (goes Quoted (b ∷ []))) (λ r. cutFrom r s)).size - 1) (b ∷ s))
-        (drop (onward (cond y (goes Closed []) (goes Quoted (b ∷ []))) (λ r. cutFrom r s)).size (b ∷ s))
+        → after (cond y (goes Closed []) (goes Quoted (b ∷ []))) (λ r. fields_from raw r s)
+        ≡ found (onward (cond y (goes Closed []) (goes Quoted (b ∷ []))) (λ r. cut_from r s)).whole
+        (take ((onward (cond y (goes Closed []) (goes Quoted (b ∷ []))) (λ r. cut_from r s)).size - 1) (b ∷ s))
+        (drop (onward (cond y (goes Closed []) (goes Quoted (b ∷ []))) (λ r. cut_from r s)).size (b ∷ s))
     go true q =
-        let e : suc (cutFrom Closed s).size - 1 ≡ (cutFrom Closed s).size = omega arith in
-        ap (kept []) k ∙ kept-found (cutFrom Closed s).whole [] (take (cutFrom Closed s).size (quote ∷ s)) (drop (cutFrom Closed s).size s)
+        let e : suc (cut_from Closed s).size - 1 ≡ (cut_from Closed s).size = omega arith in
+        ap (kept []) k ∙ kept_found (cut_from Closed s).whole [] (take (cut_from Closed s).size (quote ∷ s)) (drop (cut_from Closed s).size s)
         ∙ rw (e, eqb-true b quote q)
     go false q =
-        let e : suc (cutFrom Quoted s).size - 1 ≡ (cutFrom Quoted s).size = omega arith in
-        ap (kept (b ∷ [])) h ∙ kept-found (cutFrom Quoted s).whole (b ∷ []) (take ((cutFrom Quoted s).size - 1) s) (drop (cutFrom Quoted s).size s)
-        ∙ one_more b s (drop (cutFrom Quoted s).size s) ∙ rw e
+        let e : suc (cut_from Quoted s).size - 1 ≡ (cut_from Quoted s).size = omega arith in
+        ap (kept (b ∷ [])) h ∙ kept_found (cut_from Quoted s).whole (b ∷ []) (take ((cut_from Quoted s).size - 1) s) (drop (cut_from Quoted s).size s)
+        ∙ one_more b s (drop (cut_from Quoted s).size s) ∙ rw e
 
-at-quote : (b : ℕ) (s : List ℕ) → InQuotes s → AtQuote (b ∷ s)
-unfolding fieldsFrom step cutFrom
-at-quote b s h = go (eqb b comma) (eqb b quote) refl
+at_quote : (b : ℕ) (s : List ℕ) → InQuotes s → AtQuote (b ∷ s)
+unfolding fields_from step cut_from
+at_quote b s h = go (eqb b comma) (eqb b quote) refl
   where
     go : (x y : Bool) → eqb b quote ≡ y
-        → after (cond x ends (cond y (goes Quoted raw) stray)) (λ r. fieldsFrom raw r s)
-        ≡ found (onward (cond x ends (cond y (goes Quoted raw) stray)) (λ r. cutFrom r s)).whole
-        (take (onward (cond x ends (cond y (goes Quoted raw) stray)) (λ r. cutFrom r s)).size (quote ∷ b ∷ s))
-        (drop (onward (cond x ends (cond y (goes Quoted raw) stray)) (λ r. cutFrom r s)).size (b ∷ s))
+        → after (cond x ends (cond y (goes Quoted raw) stray)) (λ r. fields_from raw r s)
+        ≡ found (onward (cond x ends (cond y (goes Quoted raw) stray)) (λ r. cut_from r s)).whole
+        (take (onward (cond x ends (cond y (goes Quoted raw) stray)) (λ r. cut_from r s)).size (quote ∷ b ∷ s))
+        (drop (onward (cond x ends (cond y (goes Quoted raw) stray)) (λ r. cut_from r s)).size (b ∷ s))
     go true y q = refl
     go false true q =
-        ap (kept raw) h ∙ kept-found (cutFrom Quoted s).whole raw (take ((cutFrom Quoted s).size - 1) s) (drop (cutFrom Quoted s).size s)
-        ∙ sym (kept-found (cutFrom Quoted s).whole (quote ∷ []) (quote ∷ take ((cutFrom Quoted s).size - 1) s) (drop (cutFrom Quoted s).size s))
-        ∙ ap (kept (quote ∷ [])) (one_more quote s (drop (cutFrom Quoted s).size s))
-        ∙ kept-found (cutFrom Quoted s).whole (quote ∷ []) (take (cutFrom Quoted s).size (quote ∷ s)) (drop (cutFrom Quoted s).size s)
+        ap (kept raw) h ∙ kept_found (cut_from Quoted s).whole raw (take ((cut_from Quoted s).size - 1) s) (drop (cut_from Quoted s).size s)
+        ∙ sym (kept_found (cut_from Quoted s).whole (quote ∷ []) (quote ∷ take ((cut_from Quoted s).size - 1) s) (drop (cut_from Quoted s).size s))
+        ∙ ap (kept (quote ∷ [])) (one_more quote s (drop (cut_from Quoted s).size s))
+        ∙ kept_found (cut_from Quoted s).whole (quote ∷ []) (take (cut_from Quoted s).size (quote ∷ s)) (drop (cut_from Quoted s).size s)
         ∙ rw (eqb-true b quote q)
     go false false q = refl
 
-quotes-cut : (s : List ℕ) → InQuotes s × AtQuote s
-unfolding fieldsFrom step cutFrom
-quotes-cut [] = (refl, refl)
-quotes-cut (b ∷ s) = let w = quotes-cut s in (in-quotes b s w.0 w.1, at-quote b s w.0)
+quotes_cut : (s : List ℕ) → InQuotes s × AtQuote s
+unfolding fields_from step cut_from
+quotes_cut [] = (refl, refl)
+quotes_cut (b ∷ s) = let w = quotes_cut s in (in_quotes b s w.0 w.1, at_quote b s w.0)
 
 -- A field in quotes: it is what stands between the first and the last of its bytes.
-pub field-quoted : (s : List ℕ)
-    → fieldsFrom raw Fresh (quote ∷ s) ≡ found (cutFrom Quoted s).whole (take ((cutFrom Quoted s).size - 1) s) (drop (cutFrom Quoted s).size s)
-unfolding fieldsFrom step
-field-quoted s =
-    ap (kept []) (quotes-cut s).0 ∙ kept-found (cutFrom Quoted s).whole [] (take ((cutFrom Quoted s).size - 1) s) (drop (cutFrom Quoted s).size s)
+pub field_quoted : (s : List ℕ)
+    → fields_from raw Fresh (quote ∷ s) ≡ found (cut_from Quoted s).whole (take ((cut_from Quoted s).size - 1) s) (drop (cut_from Quoted s).size s)
+unfolding fields_from step
+field_quoted s =
+    ap (kept []) (quotes_cut s).0 ∙ kept_found (cut_from Quoted s).whole [] (take ((cut_from Quoted s).size - 1) s) (drop (cut_from Quoted s).size s)
 
-pub field-none : fieldsFrom raw Fresh [] ≡ some ([] ∷ [])
-unfolding fieldsFrom
-field-none = refl
+pub field_none : fields_from raw Fresh [] ≡ some ([] ∷ [])
+unfolding fields_from
+field_none = refl
 
 -- ---- the first field of what is left of a line, and the fields behind it
 
 abbrev FirstCut : List ℕ → Type 0
-FirstCut s = rawOf s ≡ found (cut_of s).whole (firstField s) (drop (cut_of s).size s)
+FirstCut s = raw_of s ≡ found (cut_of s).whole (first_field s) (drop (cut_of s).size s)
 
 first_plain : (b : ℕ) (s : List ℕ) → eqb b quote ≡ false → FirstCut (b ∷ s)
 first_plain b s e =
     field_plain b s e ∙ ap (λ (f : List ℕ). found (cut_of (b ∷ s)).whole f (drop (cut_of (b ∷ s)).size (b ∷ s))) bare
   where
-    bare : take (cut_of (b ∷ s)).size (b ∷ s) ≡ firstField (b ∷ s)
+    bare : take (cut_of (b ∷ s)).size (b ∷ s) ≡ first_field (b ∷ s)
     bare = rw e
 
-first-quoted : (s : List ℕ) → FirstCut (quote ∷ s)
-unfolding cutFrom step
-first-quoted s = field-quoted s ∙ shorter (cutFrom Quoted s)
+first_quoted : (s : List ℕ) → FirstCut (quote ∷ s)
+unfolding cut_from step
+first_quoted s = field_quoted s ∙ shorter (cut_from Quoted s)
   where
     shorter : (c : Cut) → found c.whole (take (c.size - 1) s) (drop c.size s) ≡ found c.whole (take (suc c.size - 2) s) (drop c.size s)
     shorter c = let e : suc c.size - 2 ≡ c.size - 1 = omega arith in rw e
 
-open-quote : (s : List ℕ) → (cutFrom Quoted s).whole ≡ true → 1 ≤ (cutFrom Quoted s).size
-unfolding cutFrom step
-open-quote [] w = absurd (true≢false (sym w))
-open-quote (b ∷ s) w = go (eqb b quote)
+open_quote : (s : List ℕ) → (cut_from Quoted s).whole ≡ true → 1 ≤ (cut_from Quoted s).size
+unfolding cut_from step
+open_quote [] w = absurd (true≢false (sym w))
+open_quote (b ∷ s) w = go (eqb b quote)
   where
-    go : (x : Bool) → 1 ≤ (onward (cond x (goes Closed []) (goes Quoted (b ∷ []))) (λ r. cutFrom r s)).size
+    go : (x : Bool) → 1 ≤ (onward (cond x (goes Closed []) (goes Quoted (b ∷ []))) (λ r. cut_from r s)).size
     go true = omega arith
     go false = omega arith
 
-quoted-both : (s : List ℕ) → (cut_of (quote ∷ s)).whole ≡ true → 2 ≤ (cut_of (quote ∷ s)).size
-unfolding cutFrom step
-quoted-both s w = omega (arith, open-quote s w)
+quoted_both : (s : List ℕ) → (cut_of (quote ∷ s)).whole ≡ true → 2 ≤ (cut_of (quote ∷ s)).size
+unfolding cut_from step
+quoted_both s w = omega (arith, open_quote s w)
 
-pub first-cut : (s : List ℕ) → FirstCut s
-unfolding cutFrom
-first-cut [] = field-none
-first-cut (b ∷ s) =
-    test-cases (λ x. FirstCut (b ∷ s)) (eqb b quote) (λ e. subst FirstAt (sym (eqb-true b quote e)) (first-quoted s)) (first_plain b s)
+pub first_cut : (s : List ℕ) → FirstCut s
+unfolding cut_from
+first_cut [] = field_none
+first_cut (b ∷ s) =
+    test_cases (λ x. FirstCut (b ∷ s)) (eqb b quote) (λ e. subst FirstAt (sym (eqb-true b quote e)) (first_quoted s)) (first_plain b s)
   where
     FirstAt : ℕ → Type 0
     FirstAt c = FirstCut (c ∷ s)
 
 -- It lies within, and one in quotes that is whole has both quotes.
-size-within : (q : State) (s : List ℕ) → (cutFrom q s).size ≤ length s
-unfolding cutFrom
-size-within q [] = omega arith
-size-within q (b ∷ s) = go (step raw q b) (λ r. size-within r s)
+size_within : (q : State) (s : List ℕ) → (cut_from q s).size ≤ length s
+unfolding cut_from
+size_within q [] = omega arith
+size_within q (b ∷ s) = go (step raw q b) (λ r. size_within r s)
   where
-    go : (d : Step) → ((r : State) → (cutFrom r s).size ≤ length s) → (onward d (λ r. cutFrom r s)).size ≤ suc (length s)
+    go : (d : Step) → ((r : State) → (cut_from r s).size ≤ length s) → (onward d (λ r. cut_from r s)).size ≤ suc (length s)
     go stray h = omega arith
     go ends h = omega arith
     go (goes r t) h = omega (arith, h r)
 
-pub cut-within : (s : List ℕ) → (cut_of s).size ≤ length s
-cut-within = size-within Fresh
+pub cut_within : (s : List ℕ) → (cut_of s).size ≤ length s
+cut_within = size_within Fresh
 
-pub cut-both : (s : List ℕ) → startsQuoted s ≡ true → (cut_of s).whole ≡ true → 2 ≤ (cut_of s).size
-cut-both [] e w = absurd (true≢false (sym e))
-cut-both (b ∷ s) e w = subst Both (sym (eqb-true b quote e)) (quoted-both s) w
+pub cut_both : (s : List ℕ) → starts_quoted s ≡ true → (cut_of s).whole ≡ true → 2 ≤ (cut_of s).size
+cut_both [] e w = absurd (true≢false (sym e))
+cut_both (b ∷ s) e w = subst Both (sym (eqb-true b quote e)) (quoted_both s) w
   where
     Both : ℕ → Type 0
     Both c = (cut_of (c ∷ s)).whole ≡ true → 2 ≤ (cut_of (c ∷ s)).size
 
 -- ---- counting the fields, and finding one
 
-counted-then : (k : ℕ) (f : List ℕ) (o : Option (List (List ℕ))) → counted k (then f o) ≡ counted (k + 1) o
-counted-then k f none = refl
-counted-then k f (some fs) = omega arith
+counted_then : (k : ℕ) (f : List ℕ) (o : Option (List (List ℕ))) → counted k (then f o) ≡ counted (k + 1) o
+counted_then k f none = refl
+counted_then k f (some fs) = omega arith
 
 module _ (s : List ℕ) where
-  pub count-stray : (k : ℕ) → (cut_of s).whole ≡ false → counted k (rawOf s) ≡ 0
-  count-stray k w = ap (counted k) (first-cut s) ∙ rw w
+  pub count_stray : (k : ℕ) → (cut_of s).whole ≡ false → counted k (raw_of s) ≡ 0
+  count_stray k w = ap (counted k) (first_cut s) ∙ rw w
 
   module _ (w : (cut_of s).whole ≡ true) where
     -- The last field, or one with others behind its comma.
-    only-field : (cut_of s).size ≡ length s → rawOf s ≡ some (firstField s ∷ [])
-    only-field e = first-cut s ∙ rw (w, e, drop-length)
+    only_field : (cut_of s).size ≡ length s → raw_of s ≡ some (first_field s ∷ [])
+    only_field e = first_cut s ∙ rw (w, e, drop-length)
 
-    more-fields : (cut_of s).size < length s → rawOf s ≡ then (firstField s) (rawOf (drop ((cut_of s).size + 1) s))
-    more-fields h = first-cut s ∙ rw (w, drop-cons s (cut_of s).size 0 h, add-one)
+    more_fields : (cut_of s).size < length s → raw_of s ≡ then (first_field s) (raw_of (drop ((cut_of s).size + 1) s))
+    more_fields h = first_cut s ∙ rw (w, drop-cons s (cut_of s).size 0 h, add-one)
 
-    pub count-last : (k : ℕ) → (cut_of s).size ≡ length s → counted k (rawOf s) ≡ k + 1
-    count-last k e = ap (counted k) (only-field e)
+    pub count_last : (k : ℕ) → (cut_of s).size ≡ length s → counted k (raw_of s) ≡ k + 1
+    count_last k e = ap (counted k) (only_field e)
 
-    pub count-more : (k : ℕ) → (cut_of s).size < length s → counted k (rawOf s) ≡ counted (k + 1) (rawOf (drop ((cut_of s).size + 1) s))
-    count-more k h = ap (counted k) (more-fields h) ∙ counted-then k (firstField s) (rawOf (drop ((cut_of s).size + 1) s))
+    pub count_more : (k : ℕ) → (cut_of s).size < length s → counted k (raw_of s) ≡ counted (k + 1) (raw_of (drop ((cut_of s).size + 1) s))
+    count_more k h = ap (counted k) (more_fields h) ∙ counted_then k (first_field s) (raw_of (drop ((cut_of s).size + 1) s))
 
 -- A line that is read: its first field is whole, and what stands behind that is read.
-module _ (s : List ℕ) (r : unread (rawOf s) ≡ false) where
+module _ (s : List ℕ) (r : unread (raw_of s) ≡ false) where
   pub read_whole : (cut_of s).whole ≡ true
   read_whole =
-      test-cases (λ x. x ≡ true) (cut_of s).whole (λ w. refl)
-      (λ w. absurd (true≢false (sym (ap unread (first-cut s) ∙ rw w) ∙ r)))
+      test_cases (λ x. x ≡ true) (cut_of s).whole (λ w. refl)
+      (λ w. absurd (true≢false (sym (ap unread (first_cut s) ∙ rw w) ∙ r)))
 
-  pub read_more : (cut_of s).size < length s → unread (rawOf (drop ((cut_of s).size + 1) s)) ≡ false
-  read_more h = go (rawOf (drop ((cut_of s).size + 1) s)) (sym (ap unread (more-fields s read_whole h)) ∙ r)
+  pub read_more : (cut_of s).size < length s → unread (raw_of (drop ((cut_of s).size + 1) s)) ≡ false
+  read_more h = go (raw_of (drop ((cut_of s).size + 1) s)) (sym (ap unread (more_fields s read_whole h)) ∙ r)
     where
-      go : (o : Option (List (List ℕ))) → unread (then (firstField s) o) ≡ false → unread o ≡ false
+      go : (o : Option (List (List ℕ))) → unread (then (first_field s) o) ≡ false → unread o ≡ false
       go none e = e
       go (some fs) e = refl
 
-  pub field-first : field_at (rawOf s) 0 ≡ firstField s
-  field-first =
+  pub field_first : field_at (raw_of s) 0 ≡ first_field s
+  field_first =
       elim (dec_lt (cut_of s).size (length s)) [
         | yes h ↦
-            let e = more-fields s read_whole h in
-            ap (λ o. field_at o 0) e ∙ go (rawOf (drop ((cut_of s).size + 1) s)) (sym (ap unread e) ∙ r)
-        | no h ↦ ap (λ o. field_at o 0) (only-field s read_whole (omega (arith, cut-within s)))
+            let e = more_fields s read_whole h in
+            ap (λ o. field_at o 0) e ∙ go (raw_of (drop ((cut_of s).size + 1) s)) (sym (ap unread e) ∙ r)
+        | no h ↦ ap (λ o. field_at o 0) (only_field s read_whole (omega (arith, cut_within s)))
       ]
     where
-      go : (o : Option (List (List ℕ))) → unread (then (firstField s) o) ≡ false → field_at (then (firstField s) o) 0 ≡ firstField s
+      go : (o : Option (List (List ℕ))) → unread (then (first_field s) o) ≡ false → field_at (then (first_field s) o) 0 ≡ first_field s
       go none e = absurd (true≢false e)
       go (some fs) e = refl
 
-  pub field_past : (j : ℕ) → (cut_of s).size ≡ length s → field_at (rawOf s) (suc j) ≡ []
-  field_past j e = ap (λ o. field_at o (suc j)) (only-field s read_whole e) ∙ none-at j
+  pub field_past : (j : ℕ) → (cut_of s).size ≡ length s → field_at (raw_of s) (suc j) ≡ []
+  field_past j e = ap (λ o. field_at o (suc j)) (only_field s read_whole e) ∙ none_at j
     where
-      none-at : (i : ℕ) → get_or {A = List ℕ} [] i [] ≡ []
-      none-at zero = refl
-      none-at (suc i) = refl
+      none_at : (i : ℕ) → get_or {A = List ℕ} [] i [] ≡ []
+      none_at zero = refl
+      none_at (suc i) = refl
 
-  pub field-later : (j : ℕ) → (cut_of s).size < length s → field_at (rawOf s) (suc j) ≡ field_at (rawOf (drop ((cut_of s).size + 1) s)) j
-  field-later j h = ap (λ o. field_at o (suc j)) (more-fields s read_whole h) ∙ go (rawOf (drop ((cut_of s).size + 1) s)) j
+  pub field_later : (j : ℕ) → (cut_of s).size < length s → field_at (raw_of s) (suc j) ≡ field_at (raw_of (drop ((cut_of s).size + 1) s)) j
+  field_later j h = ap (λ o. field_at o (suc j)) (more_fields s read_whole h) ∙ go (raw_of (drop ((cut_of s).size + 1) s)) j
     where
-      go : (o : Option (List (List ℕ))) (i : ℕ) → field_at (then (firstField s) o) (suc i) ≡ field_at o i
+      go : (o : Option (List (List ℕ))) (i : ℕ) → field_at (then (first_field s) o) (suc i) ≡ field_at o i
       go none zero = refl
       go none (suc i) = refl
       go (some fs) i = refl
 
 -- It has at least one field; so none is counted exactly where it is not read.
-pub count-some : (s : List ℕ) → unread (rawOf s) ≡ false → (counted 0 (rawOf s) ≡ 0 → ⊥)
-count-some s r e =
+pub count_some : (s : List ℕ) → unread (raw_of s) ≡ false → (counted 0 (raw_of s) ≡ 0 → ⊥)
+count_some s r e =
     elim (dec_lt (cut_of s).size (length s)) [
       | yes h ↦
-          let m = more-fields s (read_whole s r) h in
-          go (rawOf (drop ((cut_of s).size + 1) s)) (sym (ap unread m) ∙ r) (sym (ap (counted 0) m) ∙ e)
-      | no h ↦ omega (arith, sym (ap (counted 0) (only-field s (read_whole s r) (omega (arith, cut-within s)))) ∙ e)
+          let m = more_fields s (read_whole s r) h in
+          go (raw_of (drop ((cut_of s).size + 1) s)) (sym (ap unread m) ∙ r) (sym (ap (counted 0) m) ∙ e)
+      | no h ↦ omega (arith, sym (ap (counted 0) (only_field s (read_whole s r) (omega (arith, cut_within s)))) ∙ e)
     ]
   where
-    go : (o : Option (List (List ℕ))) → unread (then (firstField s) o) ≡ false → counted 0 (then (firstField s) o) ≡ 0 → ⊥
+    go : (o : Option (List (List ℕ))) → unread (then (first_field s) o) ≡ false → counted 0 (then (first_field s) o) ≡ 0 → ⊥
     go none e f = true≢false e
     go (some fs) e f = omega arith
 
-pub count-read : (o : Option (List (List ℕ))) → (counted 0 o ≡ 0 → ⊥) → (unread o ≡ false) × (counted 0 o ≡ length (Option.get_or o []))
-count-read none h = absurd (h refl)
-count-read (some fs) h = (refl, omega arith)
+pub count_read : (o : Option (List (List ℕ))) → (counted 0 o ≡ 0 → ⊥) → (unread o ≡ false) × (counted 0 o ≡ length (Option.get_or o []))
+count_read none h = absurd (h refl)
+count_read (some fs) h = (refl, omega arith)
 
 -- The first field as a part of a slice: without its quotes, or all of it.
 module _ (s : List ℕ) where
-  starts : 0 < length s → startsQuoted s ≡ eqb (get_or s 0 0) quote
+  starts : 0 < length s → starts_quoted s ≡ eqb (get_or s 0 0) quote
   starts h = go s h
     where
-      go : (l : List ℕ) → 0 < length l → startsQuoted l ≡ eqb (get_or l 0 0) quote
+      go : (l : List ℕ) → 0 < length l → starts_quoted l ≡ eqb (get_or l 0 0) quote
       go [] h = absurd (omega arith)
       go (b ∷ l) h = refl
 
-  pub quoted-size : unread (rawOf s) ≡ false → 0 < length s → get_or s 0 0 ≡ quote → 2 ≤ (cut_of s).size
-  quoted-size r h e = cut-both s (starts h ∙ eq-eqb (get_or s 0 0) quote e) (read_whole s r)
+  pub quoted_size : unread (raw_of s) ≡ false → 0 < length s → get_or s 0 0 ≡ quote → 2 ≤ (cut_of s).size
+  quoted_size r h e = cut_both s (starts h ∙ eq-eqb (get_or s 0 0) quote e) (read_whole s r)
 
   module _ (n : ℕ) (size : n ≡ (cut_of s).size) where
-    pub quoted-field : 2 ≤ n → get_or s 0 0 ≡ quote → take (n - 1 - 1) (drop 1 s) ≡ firstField s
-    quoted-field h e =
-        let k : 0 < length s = omega (arith, cut-within s) in
+    pub quoted_field : 2 ≤ n → get_or s 0 0 ≡ quote → take (n - 1 - 1) (drop 1 s) ≡ first_field s
+    quoted_field h e =
+        let k : 0 < length s = omega (arith, cut_within s) in
         let less : n - 1 - 1 ≡ n - 2 = omega arith in
         rw (starts k, eq-eqb (get_or s 0 0) quote e, ← size, less)
 
-    pub bare-field : (0 < length s → get_or s 0 0 ≡ quote → ⊥) → take n s ≡ firstField s
-    bare-field h =
+    pub bare_field : (0 < length s → get_or s 0 0 ≡ quote → ⊥) → take n s ≡ first_field s
+    bare_field h =
         elim (dec_lt 0 (length s)) [
           | yes k ↦ rw (starts k, ne_eqb (get_or s 0 0) quote (h k), ← size)
           | no k ↦
-              let e : s ≡ [] = length-nil s (omega arith) in
+              let e : s ≡ [] = length_nil s (omega arith) in
               rw e (take-nil n ∙ sym (take-nil (cut_of []).size))
         ]

@@ -7,13 +7,13 @@ use native.Mathlib.Numerals.{add-one}
 use lib.ListN.{length, set, get_or, take, drop, length-append, length-drop, take-append-drop}
 use lib.Seq.{set_at, split_at, take_at, drop_at, drop-drop, length-take-le}
 use Rattle.text.specs.Grammar.{cr, lf, comma}
-use Rattle.text.specs.Numerals.{digitsOf, numbersText}
-use Rattle.text.proofs.Decimal.{few-digits}
-use Rattle.text.specs.inside.Putting.{Put, lineText}
+use Rattle.text.specs.Numerals.{digits_of, numbers_text}
+use Rattle.text.proofs.Decimal.{few_digits}
+use Rattle.text.specs.inside.Putting.{Put, line_text}
 
 -- Nothing is put; one byte is stored.
-pub put-none : (at : ℕ) (l : List ℕ) → Put [] at l at l
-put-none at l = record { next = omega arith; is = sym (take-append-drop at l) }
+pub put_none : (at : ℕ) (l : List ℕ) → Put [] at l at l
+put_none at l = record { next = omega arith; is = sym (take-append-drop at l) }
 
 pub put_one : (at b : ℕ) (l : List ℕ) → at < length l → Put (b ∷ []) at l (at + 1) (set l at b)
 put_one at b l h =
@@ -25,23 +25,23 @@ put_one at b l h =
     }
 
 -- The memory keeps its length.
-pub put-length : {t : List ℕ} {at : ℕ} {l : List ℕ} {r : ℕ} {m : List ℕ} → Put t at l r m → r ≤ length l → length m ≡ length l
-put-length {t} {at} {l} {r} {m} p h =
+pub put_length : {t : List ℕ} {at : ℕ} {l : List ℕ} {r : ℕ} {m : List ℕ} → Put t at l r m → r ≤ length l → length m ≡ length l
+put_length {t} {at} {l} {r} {m} p h =
     let a = ap length p.is in
     let b = length-append (take at l) (t ++ drop r l) in
     let c = length-append t (drop r l) in
     omega (arith, length-take-le at l (omega (arith, p.next)), length-drop r l, p.next)
 
 -- What was put at the front is there, as far as it reaches.
-pub put-size : {t l : List ℕ} {r : ℕ} {m : List ℕ} → Put t 0 l r m → r ≡ length t
-put-size p = omega (arith, p.next)
+pub put_size : {t l : List ℕ} {r : ℕ} {m : List ℕ} → Put t 0 l r m → r ≡ length t
+put_size p = omega (arith, p.next)
 
 pub put_front : {t l : List ℕ} {r : ℕ} {m : List ℕ} → Put t 0 l r m → take r m ≡ t
-put_front {t} {l} {r} {m} p = ap (take r) p.is ∙ take_at t (drop r l) r (sym (put-size p))
+put_front {t} {l} {r} {m} p = ap (take r) p.is ∙ take_at t (drop r l) r (sym (put_size p))
 
 -- More bytes behind those.
-pub put-more : {t u : List ℕ} {at : ℕ} {l : List ℕ} {r s : ℕ} {m n : List ℕ} → Put t at l r m → Put u r m s n → s ≤ length l → Put (t ++ u) at l s n
-put-more {t} {u} {at} {l} {r} {s} {m} {n} p q h =
+pub put_more : {t u : List ℕ} {at : ℕ} {l : List ℕ} {r s : ℕ} {m n : List ℕ} → Put t at l r m → Put u r m s n → s ≤ length l → Put (t ++ u) at l s n
+put_more {t} {u} {at} {l} {r} {s} {m} {n} p q h =
     let front : length (take at l ++ t) ≡ r = omega (arith, length-append (take at l) t, length-take-le at l (omega (arith, p.next, q.next)), p.next) in
     let whole : m ≡ (take at l ++ t) ++ drop r l = p.is ∙ sym (append_assoc (take at l) t (drop r l)) in
     let before : take r m ≡ take at l ++ t = ap (take r) whole ∙ take_at (take at l ++ t) (drop r l) r front in
@@ -52,26 +52,26 @@ put-more {t} {u} {at} {l} {r} {s} {m} {n} p q h =
     record { next = omega (arith, p.next, q.next, length-append t u); is = q.is ∙ rw (before, behind, append_assoc, append_assoc) }
 
 -- A line of numbers is its first number with a comma, and the line of the others; the last has CR and LF.
-pub line-more : (a b : ℕ) (ns : List ℕ) → lineText (a ∷ b ∷ ns) ≡ (digitsOf a ++ comma ∷ []) ++ lineText (b ∷ ns)
-line-more a b ns =
-    append_assoc (digitsOf a) (comma ∷ numbersText (b ∷ ns)) (cr ∷ lf ∷ []) ∙ sym (append_assoc (digitsOf a) (comma ∷ []) (lineText (b ∷ ns)))
+pub line_more : (a b : ℕ) (ns : List ℕ) → line_text (a ∷ b ∷ ns) ≡ (digits_of a ++ comma ∷ []) ++ line_text (b ∷ ns)
+line_more a b ns =
+    append_assoc (digits_of a) (comma ∷ numbers_text (b ∷ ns)) (cr ∷ lf ∷ []) ∙ sym (append_assoc (digits_of a) (comma ∷ []) (line_text (b ∷ ns)))
 
-pub line-last : (a : ℕ) → lineText (a ∷ []) ≡ (digitsOf a ++ cr ∷ []) ++ lf ∷ []
-line-last a = sym (append_assoc (digitsOf a) (cr ∷ []) (lf ∷ []))
+pub line_last : (a : ℕ) → line_text (a ∷ []) ≡ (digits_of a ++ cr ∷ []) ++ lf ∷ []
+line_last a = sym (append_assoc (digits_of a) (cr ∷ []) (lf ∷ []))
 
-pub length_last : (a : ℕ) → length (lineText (a ∷ [])) ≡ length (digitsOf a) + 2
-length_last a = length-append (digitsOf a) (cr ∷ lf ∷ [])
+pub length_last : (a : ℕ) → length (line_text (a ∷ [])) ≡ length (digits_of a) + 2
+length_last a = length-append (digits_of a) (cr ∷ lf ∷ [])
 
-pub length-field : (a : ℕ) → length (digitsOf a ++ comma ∷ []) ≡ length (digitsOf a) + 1
-length-field a = length-append (digitsOf a) (comma ∷ [])
+pub length_field : (a : ℕ) → length (digits_of a ++ comma ∷ []) ≡ length (digits_of a) + 1
+length_field a = length-append (digits_of a) (comma ∷ [])
 
-pub length_more : (a b : ℕ) (ns : List ℕ) → length (lineText (a ∷ b ∷ ns)) ≡ length (digitsOf a ++ comma ∷ []) + length (lineText (b ∷ ns))
-length_more a b ns = ap length (line-more a b ns) ∙ length-append (digitsOf a ++ comma ∷ []) (lineText (b ∷ ns))
+pub length_more : (a b : ℕ) (ns : List ℕ) → length (line_text (a ∷ b ∷ ns)) ≡ length (digits_of a ++ comma ∷ []) + length (line_text (b ∷ ns))
+length_more a b ns = ap length (line_more a b ns) ∙ length-append (digits_of a ++ comma ∷ []) (line_text (b ∷ ns))
 
 -- Numbers have five digits at most.
-pub three-few : (a b c : ℕ) → length (lineText (a ∷ b ∷ c ∷ [])) ≤ 19
-three-few a b c =
-    omega (arith, length_more a b (c ∷ []), length_more b c [], length-field a, length-field b, length_last c, few-digits 4 a, few-digits 4 b, few-digits 4 c)
+pub three_few : (a b c : ℕ) → length (line_text (a ∷ b ∷ c ∷ [])) ≤ 19
+three_few a b c =
+    omega (arith, length_more a b (c ∷ []), length_more b c [], length_field a, length_field b, length_last c, few_digits 4 a, few_digits 4 b, few_digits 4 c)
 
-pub four-few : (a b c d : ℕ) → length (lineText (a ∷ b ∷ c ∷ d ∷ [])) ≤ 25
-four-few a b c d = omega (arith, length_more a b (c ∷ d ∷ []), length-field a, three-few b c d, few-digits 4 a)
+pub four_few : (a b c d : ℕ) → length (line_text (a ∷ b ∷ c ∷ d ∷ [])) ≤ 25
+four_few a b c d = omega (arith, length_more a b (c ∷ d ∷ []), length_field a, three_few b c d, few_digits 4 a)

@@ -76,12 +76,12 @@ after ends rest = then [] (rest Fresh)
 after (goes q t) rest = kept t (rest q)
 
 -- The fields of what is left of a line, the first being the one at hand; none where a quote is stray or still open (27).
-unfoldable pub fieldsFrom : List ℕ → State → List ℕ → Option (List (List ℕ))
-fieldsFrom two q [] = last q
-fieldsFrom two q (b ∷ s) = after (step two q b) (λ r. fieldsFrom two r s)
+unfoldable pub fields_from : List ℕ → State → List ℕ → Option (List (List ℕ))
+fields_from two q [] = last q
+fields_from two q (b ∷ s) = after (step two q b) (λ r. fields_from two r s)
 
 abbrev pub fields_of : List ℕ → Option (List (List ℕ))
-fields_of = fieldsFrom (quote ∷ []) Fresh
+fields_of = fields_from (quote ∷ []) Fresh
 
 -- Such a line is not read.
 abbrev pub unread : {A : Type 0} → Option A → Bool

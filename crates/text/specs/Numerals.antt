@@ -7,12 +7,12 @@ abbrev pub digit : ℕ → Bool
 digit b = leb 48 b && leb b 57
 
 -- The value of digits that stand behind a number read so far.
-unfoldable pub valueFrom : ℕ → List ℕ → ℕ
-valueFrom v [] = v
-valueFrom v (b ∷ s) = valueFrom (v * 10 + (b - 48)) s
+unfoldable pub value_from : ℕ → List ℕ → ℕ
+value_from v [] = v
+value_from v (b ∷ s) = value_from (v * 10 + (b - 48)) s
 
 abbrev pub value_of : List ℕ → ℕ
-value_of = valueFrom 0
+value_of = value_from 0
 
 -- Digits, one at least, with a value of at most m; zeros at the front do not count.
 abbrev pub is_number : ℕ → List ℕ → Bool
@@ -24,11 +24,11 @@ digits zero n = (48 + n) ∷ []
 digits (suc k) n = cond (ltb n 10) ((48 + n) ∷ []) (digits k (n / 10) ++ (48 + n % 10) ∷ [])
 
 -- A number of 16 bits has five digits at most.
-abbrev pub digitsOf : ℕ → List ℕ
-digitsOf = digits 4
+abbrev pub digits_of : ℕ → List ℕ
+digits_of = digits 4
 
 -- Numbers with commas between them.
-abbrev pub numbersText : List ℕ → List ℕ
-numbersText [] = []
-numbersText (n ∷ []) = digitsOf n
-numbersText (n ∷ m ∷ ns) = digitsOf n ++ comma ∷ numbersText (m ∷ ns)
+abbrev pub numbers_text : List ℕ → List ℕ
+numbers_text [] = []
+numbers_text (n ∷ []) = digits_of n
+numbers_text (n ∷ m ∷ ns) = digits_of n ++ comma ∷ numbers_text (m ∷ ns)

@@ -1,7 +1,7 @@
 // The fields of a line. Two quotes between quotes stay as they stand: a field with a quote in it is neither a number nor a part number, so that nobody sees it.
 ghost use Rattle.std.specs.Prelude.{◌≡◌, false, cond, eqb};
 ghost use Rattle.text.specs.Grammar.{comma, quote, step, unread};
-ghost use Rattle.text.specs.inside.Cursors.{raw, rawOf, turn_of, is_over, cut_of, firstField, counted, field_at};
+ghost use Rattle.text.specs.inside.Cursors.{raw, raw_of, turn_of, is_over, cut_of, first_field, counted, field_at};
 
 use crate::{Cut, State, Turn};
 
@@ -86,7 +86,7 @@ fn cut(s: &[u8]) -> Cut
 
 // How many fields a line has; 0 where a quote is stray or still open.
 pub fn count_fields(line: &[u8]) -> usize
-    ensures { result ≡ counted 0 (rawOf line.now) }
+    ensures { result ≡ counted 0 (raw_of line.now) }
 {
     let n = line.len();
     let mut at = 0;
@@ -108,8 +108,8 @@ pub fn count_fields(line: &[u8]) -> usize
 
 // The first field of what is left of a line, without the quotes around it.
 fn first_field(s: &[u8]) -> &[u8]
-    requires { unread (rawOf s.now) ≡ false }
-    ensures { result.now ≡ firstField s.now }
+    requires { unread (raw_of s.now) ≡ false }
+    ensures { result.now ≡ first_field s.now }
 {
     let size = cut(s).size;
     if size == 0 {
@@ -124,8 +124,8 @@ fn first_field(s: &[u8]) -> &[u8]
 
 // Field i of a line that is read; empty past the last.
 pub fn field(line: &[u8], i: usize) -> &[u8]
-    requires { unread (rawOf line.now) ≡ false }
-    ensures { result.now ≡ field_at (rawOf line.now) i }
+    requires { unread (raw_of line.now) ≡ false }
+    ensures { result.now ≡ field_at (raw_of line.now) i }
 {
     let n = line.len();
     let mut at = 0;

@@ -1,12 +1,12 @@
 // The lines of a text, by place.
 ghost use Rattle.std.specs.Prelude.{◌≡◌, [], ◌<◌, length, get_or};
 ghost use Rattle.text.specs.Grammar.{lines_of};
-ghost use Rattle.text.specs.inside.Cursors.{breaksAt, lineLength, nextLine};
+ghost use Rattle.text.specs.inside.Cursors.{breaks_at, line_length, next_line};
 
 // CR LF stands at a place: a CR or an LF alone ends no line.
 fn is_break(s: &[u8], i: usize) -> bool
     requires { i < length s.now }
-    ensures { result ≡ breaksAt s.now i }
+    ensures { result ≡ breaks_at s.now i }
 {
     if s[i] != b'\r' {
         return false;
@@ -19,7 +19,7 @@ fn is_break(s: &[u8], i: usize) -> bool
 
 // Where the first line ends: at the first CR LF, or at the end.
 pub fn line_end(s: &[u8]) -> usize
-    ensures { result ≡ lineLength s.now }
+    ensures { result ≡ line_length s.now }
 {
     let n = s.len();
     let mut i = 0;
@@ -34,7 +34,7 @@ pub fn line_end(s: &[u8]) -> usize
 
 // Where the line after it begins.
 pub fn next_line(s: &[u8]) -> usize
-    ensures { result ≡ nextLine s.now }
+    ensures { result ≡ next_line s.now }
 {
     let end = line_end(s);
     if end < s.len() {

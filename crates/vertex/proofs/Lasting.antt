@@ -12,15 +12,15 @@ use borrow.Author.Tests.{ltb-true, ltb-false, lt-ltb, le-ltb, eqb-true, eqb-fals
 use Rattle.base.specs.Lists.{In, remove}
 use Rattle.base.specs.Sums.{total}
 use Rattle.base.proofs.Cases.{cond_cases}
-use Rattle.base.proofs.Numbers.{remove-in, in_remove, not-in-remove}
+use Rattle.base.proofs.Numbers.{remove_in, in_remove, not_in_remove}
 use Rattle.schedule.specs.declared.Recorder.{Recorder}
 use Rattle.schedule.specs.Quantities.{jobs, deadline, run, Valid}
-use Rattle.schedule.specs.Visiting.{Vertex, child, earliest, late, cutA}
+use Rattle.schedule.specs.Visiting.{Vertex, child, earliest, late, cut_a}
 use Rattle.schedule.proofs.Tree.{Reached}
 use Rattle.latest.specs.inside.Sets.{has}
 use Rattle.extras.specs.inside.Jobs.{last_of}
 use Rattle.vertex.specs.declared.dues.Dues.{Dues}
-use Rattle.vertex.specs.inside.Sums.{dueWith, dueFor, limitFor}
+use Rattle.vertex.specs.inside.Sums.{due_with, due_for, limit_for}
 use Rattle.vertex.specs.inside.Lasts.{TwoLeast}
 
 -- ---- the bit of a job
@@ -34,22 +34,22 @@ bit_not a j n e q = ne_eqb (a / 2 ^ j % 2) 1 (subst (λ (k : ℕ). k % 2 ≡ 1 �
 -- ---- the two smallest
 
 module _ (R : Recorder) (m : ℕ) where
-  pub two-least-none : TwoLeast R m 0 (record { at = record { 0 = 0 }; first = 65536; second = 65536 })
-  two-least-none =
+  pub two_least_none : TwoLeast R m 0 (record { at = record { 0 = 0 }; first = 65536; second = 65536 })
+  two_least_none =
       record {
-        first-low = λ i b h. absurd (omega arith);
-        second-low = λ i b h ne. absurd (omega arith);
-        first-is = inl refl;
+        first_low = λ i b h. absurd (omega arith);
+        second_low = λ i b h ne. absurd (omega arith);
+        first_is = inl refl;
         second_is = inl refl;
       }
 
   module _ (n : ℕ) (d : Dues) (t : TwoLeast R m n d) where
-    pub two-least-passed : has m n ≡ false → TwoLeast R m (n + 1) d
-    two-least-passed q =
+    pub two_least_passed : has m n ≡ false → TwoLeast R m (n + 1) d
+    two_least_passed q =
         record {
-          first-low = λ i b h. t.first-low i (before i b h) h;
-          second-low = λ i b h ne. t.second-low i (before i b h) h ne;
-          first-is = ⊎_elim inl (λ w. inr (omega (arith, w.0), w.1, w.2)) t.first-is;
+          first_low = λ i b h. t.first_low i (before i b h) h;
+          second_low = λ i b h ne. t.second_low i (before i b h) h ne;
+          first_is = ⊎_elim inl (λ w. inr (omega (arith, w.0), w.1, w.2)) t.first_is;
           second_is = ⊎_elim inl (λ w. inr (w.0, omega (arith, w.1), w.2, w.3, w.4)) t.second_is;
         }
       where
@@ -63,31 +63,31 @@ module _ (R : Recorder) (m : ℕ) where
       smaller : last_of R n < d.first → TwoLeast R m (n + 1) (record { at = record { 0 = n }; first = last_of R n; second = d.first })
       smaller less =
           record {
-            first-low = λ i b h. elim (ℕ_discrete i n) [
+            first_low = λ i b h. elim (ℕ_discrete i n) [
               | yes e ↦ rw e (omega arith)
-              | no ne ↦ omega (arith, t.first-low i (omega (arith, b, ne)) h)
+              | no ne ↦ omega (arith, t.first_low i (omega (arith, b, ne)) h)
             ];
-            second-low = λ i b h ne. t.first-low i (omega (arith, b, ne)) h;
-            first-is = inr (omega arith, one, refl);
-            second_is = ⊎_elim inl (λ w. inr (d.at.0, omega (arith, w.0), w.1, (λ (e : d.at.0 ≡ n). omega (arith, e, w.0)), w.2)) t.first-is;
+            second_low = λ i b h ne. t.first_low i (omega (arith, b, ne)) h;
+            first_is = inr (omega arith, one, refl);
+            second_is = ⊎_elim inl (λ w. inr (d.at.0, omega (arith, w.0), w.1, (λ (e : d.at.0 ≡ n). omega (arith, e, w.0)), w.2)) t.first_is;
           }
 
       -- It is not less than the first.
       at_before : d.first ≤ last_of R n → d.at.0 < n
-      at_before more = ⊎_elim (λ (e : d.first ≡ 65536). absurd (omega (arith, few, more, e))) (λ w. w.0) t.first-is
+      at_before more = ⊎_elim (λ (e : d.first ≡ 65536). absurd (omega (arith, few, more, e))) (λ w. w.0) t.first_is
 
       larger : d.first ≤ last_of R n → TwoLeast R m (n + 1) (record { at = d.at; first = d.first; second = min d.second (last_of R n) })
       larger more =
           record {
-            first-low = λ i b h. elim (ℕ_discrete i n) [
+            first_low = λ i b h. elim (ℕ_discrete i n) [
               | yes e ↦ rw e more
-              | no ne ↦ t.first-low i (omega (arith, b, ne)) h
+              | no ne ↦ t.first_low i (omega (arith, b, ne)) h
             ];
-            second-low = λ i b h w. elim (ℕ_discrete i n) [
+            second_low = λ i b h w. elim (ℕ_discrete i n) [
               | yes e ↦ rw e (omega arith)
-              | no ne ↦ omega (arith, t.second-low i (omega (arith, b, ne)) h w)
+              | no ne ↦ omega (arith, t.second_low i (omega (arith, b, ne)) h w)
             ];
-            first-is = ⊎_elim inl (λ w. inr (omega (arith, w.0), w.1, w.2)) t.first-is;
+            first_is = ⊎_elim inl (λ w. inr (omega (arith, w.0), w.1, w.2)) t.first_is;
             second_is = go (ltb (last_of R n) d.second) refl;
           }
         where
@@ -102,9 +102,9 @@ module _ (R : Recorder) (m : ℕ) where
               let is : min d.second (last_of R n) ≡ d.second = omega (arith, l) in
               rw is (⊎_elim inl (λ w. inr (w.0, omega (arith, w.1), w.2, w.3, w.4)) t.second_is)
 
-      pub two-least-with : (x : ℕ) → x ≡ last_of R n → TwoLeast R m (n + 1) (dueWith d (record { 0 = n }) x)
-      unfolding dueWith
-      two-least-with x e =
+      pub two_least_with : (x : ℕ) → x ≡ last_of R n → TwoLeast R m (n + 1) (due_with d (record { 0 = n }) x)
+      unfolding due_with
+      two_least_with x e =
           rw e
           (cond_cases (TwoLeast R m (n + 1)) (ltb (last_of R n) d.first)
           (λ q. smaller (ltb-true (last_of R n) d.first q)) (λ q. larger (ltb-false (last_of R n) d.first q)))
@@ -118,23 +118,23 @@ record Least (R : Recorder) (u : List ℕ) (y : ℕ) : Type 0 where
 
 module _ (R : Recorder) (valid : Valid R) where
   -- No job of u is late at the time t if and only if t is no later than the smallest last start.
-  pub none-late : (t y : ℕ) (u : List ℕ) → ((i : ℕ) → In i u → i < jobs R) → ((i : ℕ) → In i u → t ≤ last_of R i) → late R t u ≡ false
+  pub none_late : (t y : ℕ) (u : List ℕ) → ((i : ℕ) → In i u → i < jobs R) → ((i : ℕ) → In i u → t ≤ last_of R i) → late R t u ≡ false
   unfolding late
-  none-late t y [] known h = refl
-  none-late t y (i ∷ u) known h =
+  none_late t y [] known h = refl
+  none_late t y (i ∷ u) known h =
       let f = valid.fits i (known i (inl refl)) in
       let l : earliest R t i + run R i ≤ deadline R i = omega (arith, f, h i (inl refl)) in
-      rw (le-ltb (deadline R i) (earliest R t i + run R i) l) (none-late t y u (λ k w. known k (inr w)) (λ k w. h k (inr w)))
+      rw (le-ltb (deadline R i) (earliest R t i + run R i) l) (none_late t y u (λ k w. known k (inr w)) (λ k w. h k (inr w)))
 
-  one-late : (t i : ℕ) (u : List ℕ) → In i u → last_of R i < t → late R t u ≡ true
+  one_late : (t i : ℕ) (u : List ℕ) → In i u → last_of R i < t → late R t u ≡ true
   unfolding late
-  one-late t i (k ∷ u) (inl e) l =
+  one_late t i (k ∷ u) (inl e) l =
       let q : deadline R k < earliest R t k + run R k = rw e at (step l) in
       rw (lt-ltb (deadline R k) (earliest R t k + run R k) q)
     where
       step : last_of R i < t → deadline R i < earliest R t i + run R i
       step l = omega arith
-  one-late t i (k ∷ u) (inr w) l = either (ltb (deadline R k) (earliest R t k + run R k)) (one-late t i u w l)
+  one_late t i (k ∷ u) (inr w) l = either (ltb (deadline R k) (earliest R t k + run R k)) (one_late t i u w l)
     where
       either : (b : Bool) → late R t u ≡ true → (b || late R t u) ≡ true
       either true e = refl
@@ -146,8 +146,8 @@ module _ (R : Recorder) (valid : Valid R) where
       go : (b : Bool) → ltb y t ≡ b → late R t u ≡ b
       go true q =
           let l = ltb-true y t q in
-          ⊎_elim (λ (e : y ≡ 65536). absurd (omega (arith, e, l, few))) (λ w. one-late t w.0 u w.1 (omega (arith, w.2, l))) h.is
-      go false q = none-late t y u known (λ i w. omega (arith, ltb-false y t q, h.low i w))
+          ⊎_elim (λ (e : y ≡ 65536). absurd (omega (arith, e, l, few))) (λ w. one_late t w.0 u w.1 (omega (arith, w.2, l))) h.is
+      go false q = none_late t y u known (λ i w. omega (arith, ltb-false y t q, h.low i w))
 
   module _ (m k : ℕ) (v : Vertex) (h : Reached R (suc k) v) (d : Dues) (two : TwoLeast R m (jobs R) d) (j : ℕ) (i : In j v.unplaced)
       (to : (n : ℕ) → In n v.unplaced → (n < jobs R) × (has m n ≡ true)) (from : (n : ℕ) → n < jobs R → has m n ≡ true → In n v.unplaced) where
@@ -156,31 +156,31 @@ module _ (R : Recorder) (valid : Valid R) where
 
     apart : (n : ℕ) → In n others → n ≡ j → ⊥
     unfolding others
-    apart n w e = not-in-remove j v.unplaced 0 h.rising (subst (λ (x : ℕ). In x (remove j v.unplaced)) e w)
+    apart n w e = not_in_remove j v.unplaced 0 h.rising (subst (λ (x : ℕ). In x (remove j v.unplaced)) e w)
 
-    least-others : Least R others (dueFor d j)
-    unfolding dueFor others
-    least-others =
+    least_others : Least R others (due_for d j)
+    unfolding due_for others
+    least_others =
         cond_cases (Least R (remove j v.unplaced)) (eqb d.at.0 j)
         (λ q. let e = eqb-true d.at.0 j q in
         record {
-          low = λ n w. let o = to n (in_remove j n v.unplaced w) in two.second-low n o.0 o.1 (λ (f : n ≡ d.at.0). apart n w (f ∙ e));
-          is = ⊎_elim inl (λ w. inr (w.0, remove-in j w.0 v.unplaced (from w.0 w.1 w.2) (λ (f : w.0 ≡ j). w.3 (f ∙ sym e)), w.4)) two.second_is;
+          low = λ n w. let o = to n (in_remove j n v.unplaced w) in two.second_low n o.0 o.1 (λ (f : n ≡ d.at.0). apart n w (f ∙ e));
+          is = ⊎_elim inl (λ w. inr (w.0, remove_in j w.0 v.unplaced (from w.0 w.1 w.2) (λ (f : w.0 ≡ j). w.3 (f ∙ sym e)), w.4)) two.second_is;
         })
         (λ q. let ne = eqb-false d.at.0 j q in
         record {
-          low = λ n w. let o = to n (in_remove j n v.unplaced w) in two.first-low n o.0 o.1;
-          is = ⊎_elim inl (λ w. inr (d.at.0, remove-in j d.at.0 v.unplaced (from d.at.0 w.0 w.1) ne, w.2)) two.first-is;
+          low = λ n w. let o = to n (in_remove j n v.unplaced w) in two.first_low n o.0 o.1;
+          is = ⊎_elim inl (λ w. inr (d.at.0, remove_in j d.at.0 v.unplaced (from d.at.0 w.0 w.1) ne, w.2)) two.first_is;
         })
 
     -- Cut A of the child is one comparison.
-    pub cut-limit :
+    pub cut_limit :
         (x s : ℕ) → x ≡ total (run R) (remove j v.unplaced) → x ≤ R.horizon → s + run R j ≤ R.horizon
-        → cutA R (child R v j s) ≡ ltb (limitFor R.horizon x d j) (s + run R j)
-    unfolding cutA limitFor others
-    cut-limit x s e small by =
-        rw (late_is (s + run R j) (dueFor d j) (remove j v.unplaced) (λ n w. h.known n (in_remove j n v.unplaced w)) least-others (omega (arith, valid.few-ticks)), ← e)
-        (both (dueFor d j) (s + run R j))
+        → cut_a R (child R v j s) ≡ ltb (limit_for R.horizon x d j) (s + run R j)
+    unfolding cut_a limit_for others
+    cut_limit x s e small by =
+        rw (late_is (s + run R j) (due_for d j) (remove j v.unplaced) (λ n w. h.known n (in_remove j n v.unplaced w)) least_others (omega (arith, valid.few_ticks)), ← e)
+        (both (due_for d j) (s + run R j))
       where
         both : (y t : ℕ) → (ltb y t || ltb R.horizon (t + x)) ≡ ltb (min (R.horizon - x) y) t
         both y t = go (ltb y t) refl (ltb R.horizon (t + x)) refl

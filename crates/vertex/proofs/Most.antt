@@ -6,26 +6,26 @@ use native.Mathlib.Nat.{le_refl, mul-le-mul, mul-le-mul_right}
 use native.Mathlib.Omega.{arith}
 use borrow.Author.Tests.{ltb-false}
 use Rattle.base.specs.Sums.{total}
-use Rattle.base.proofs.Additions.{sum-most}
-use Rattle.device.specs.Row.{deep, energyOf, pattern}
-use Rattle.device.proofs.Chosen.{deep-low}
-use Rattle.device.proofs.Least.{energy-most}
-use Rattle.device.proofs.Pattern.{length-pattern}
+use Rattle.base.proofs.Additions.{sum_most}
+use Rattle.device.specs.Row.{deep, energy_of, pattern}
+use Rattle.device.proofs.Chosen.{deep_low}
+use Rattle.device.proofs.Least.{energy_most}
+use Rattle.device.proofs.Pattern.{length_pattern}
 use Rattle.schedule.specs.declared.Recorder.{Recorder}
 use Rattle.schedule.specs.Quantities.{device, run, Valid}
 use Rattle.schedule.specs.Listing.{used}
-use Rattle.schedule.specs.Visiting.{Vertex, cutA, late, last_end, since, ticks, deviceFloor, floor}
-use Rattle.schedule.proofs.Gaps.{last-by}
-use Rattle.schedule.proofs.Rounds.{since-by}
+use Rattle.schedule.specs.Visiting.{Vertex, cut_a, late, last_end, since, ticks, device_floor, floor}
+use Rattle.schedule.proofs.Gaps.{last_by}
+use Rattle.schedule.proofs.Rounds.{since_by}
 use Rattle.schedule.proofs.Tree.{Reached}
-use Rattle.keys.proofs.Rises.{ticks-by, or-none}
+use Rattle.keys.proofs.Rises.{ticks_by, or_none}
 
-pub product-fits : (a b : ℕ) → a < 65536 → b ≤ 4096 → a * b ≤ 268431360
-product-fits a b h k = let f : a * b ≤ 65535 * b = mul-le-mul_right b (omega arith) in omega arith
+pub product_fits : (a b : ℕ) → a < 65536 → b ≤ 4096 → a * b ≤ 268431360
+product_fits a b h k = let f : a * b ≤ 65535 * b = mul-le-mul_right b (omega arith) in omega arith
 
 -- At work for a ticks and asleep for b.
-pub both-fit : (w p a b : ℕ) → w < 65536 → p < 65536 → a + b ≤ 4096 → w * a + p * b ≤ 268431360
-both-fit w p a b h k l =
+pub both_fit : (w p a b : ℕ) → w < 65536 → p < 65536 → a + b ≤ 4096 → w * a + p * b ≤ 268431360
+both_fit w p a b h k l =
     let f : w * a ≤ 65535 * a = mul-le-mul_right a (omega arith) in
     let g : p * b ≤ 65535 * b = mul-le-mul_right b (omega arith) in
     omega arith
@@ -39,26 +39,26 @@ whole p w a u x z e h l k m =
     omega arith
 
 module _ (R : Recorder) (valid : Valid R) (narrow : (k : ℕ) → k < R.devices.count → (device R k).pw ≤ 65535) where
-  pub uncut-room : (v : Vertex) → cutA R v ≡ false → v.time + total (run R) v.unplaced ≤ R.horizon
-  unfolding cutA
-  uncut-room v q = ltb-false R.horizon (v.time + total (run R) v.unplaced) (or-none (late R v.time v.unplaced) _ q).1
+  pub uncut_room : (v : Vertex) → cut_a R v ≡ false → v.time + total (run R) v.unplaced ≤ R.horizon
+  unfolding cut_a
+  uncut_room v q = ltb-false R.horizon (v.time + total (run R) v.unplaced) (or_none (late R v.time v.unplaced) _ q).1
 
-  pub floor-most : (m : ℕ) (v : Vertex) → Reached R m v → cutA R v ≡ false → floor R v ≤ 2147450880
-  unfolding floor deviceFloor
-  floor-most m v h q =
-      omega (arith, valid.few-devices, sum-most 268431360 R.devices.count (λ k. deviceFloor R k v) one)
+  pub floor_most : (m : ℕ) (v : Vertex) → Reached R m v → cut_a R v ≡ false → floor R v ≤ 2147450880
+  unfolding floor device_floor
+  floor_most m v h q =
+      omega (arith, valid.few_devices, sum_most 268431360 R.devices.count (λ k. device_floor R k v) one)
     where
-      one : (k : ℕ) → k < R.devices.count → deviceFloor R k v ≤ 268431360
+      one : (k : ℕ) → k < R.devices.count → device_floor R k v ≤ 268431360
       one k b =
           let a = since R k v.placed in
           let e = last_end R k 0 v.placed in
           let x = total (ticks R k) v.unplaced in
-          let first = since-by R k v.placed v.time h.in-turn in
-          let last = last-by R k v.placed 0 0 v.time h.in-turn (omega arith) in
-          let few = ticks-by R k v.unplaced in
-          let all : deviceFloor R k v ≤ (device R k).pw * R.horizon
-          = whole (deep (device R k)) (device R k).pw a (e - a) x (R.horizon - e - x) (energyOf false (device R k) (pattern (used R k v.placed) a (e - a))) R.horizon
-          (deep-low (device R k) (valid.sound k b) 0 (omega arith))
-          (omega (arith, energy-most (device R k) (valid.sound k b) false (pattern (used R k v.placed) a (e - a)), ap (λ (n : ℕ). (device R k).pw * n) (length-pattern (used R k v.placed) a (e - a))))
-          (omega (arith, first, last, few, uncut-room v q)) in
-          omega (arith, all, mul-le-mul (narrow k b) valid.few-ticks)
+          let first = since_by R k v.placed v.time h.in_turn in
+          let last = last_by R k v.placed 0 0 v.time h.in_turn (omega arith) in
+          let few = ticks_by R k v.unplaced in
+          let all : device_floor R k v ≤ (device R k).pw * R.horizon
+          = whole (deep (device R k)) (device R k).pw a (e - a) x (R.horizon - e - x) (energy_of false (device R k) (pattern (used R k v.placed) a (e - a))) R.horizon
+          (deep_low (device R k) (valid.sound k b) 0 (omega arith))
+          (omega (arith, energy_most (device R k) (valid.sound k b) false (pattern (used R k v.placed) a (e - a)), ap (λ (n : ℕ). (device R k).pw * n) (length_pattern (used R k v.placed) a (e - a))))
+          (omega (arith, first, last, few, uncut_room v q)) in
+          omega (arith, all, mul-le-mul (narrow k b) valid.few_ticks)

@@ -9,26 +9,26 @@ use lib.ListN.{get_or, set, length, replicate, length-set}
 use lib.Seq.{get_or-set_same, get_or-set_other}
 use Rattle.base.specs.Lists.{padded, up_from}
 use Rattle.base.specs.Sums.{total, sum}
-use Rattle.base.proofs.Additions.{sum-up}
-use Rattle.base.proofs.Arrays.{getD-padded}
-use Rattle.base.proofs.Cases.{test-cases}
+use Rattle.base.proofs.Additions.{sum_up}
+use Rattle.base.proofs.Arrays.{get_d_padded}
+use Rattle.base.proofs.Cases.{test_cases}
 use Rattle.schedule.specs.declared.Recorder.{Recorder}
 use Rattle.schedule.specs.Quantities.{Valid, jobs, run}
-use Rattle.schedule.specs.Visiting.{root, last_end, firstStart, since, ticks}
-use Rattle.schedule.proofs.Tree.{root-reached}
-use Rattle.latest.specs.inside.Sparing.{setOf}
-use Rattle.vertex.specs.inside.Shown.{loadAt, Shows}
+use Rattle.schedule.specs.Visiting.{root, last_end, first_start, since, ticks}
+use Rattle.schedule.proofs.Tree.{root_reached}
+use Rattle.latest.specs.inside.Sparing.{set_of}
+use Rattle.vertex.specs.inside.Shown.{load_at, Shows}
 
 -- Of the first n devices the ticks of all jobs stand there, and before them all is 0.
 pub record Rooted (R : Recorder) (n : ℕ) (v : List ℕ) : Type 0 where
   pub long : length v ≡ 25
   pub none : (i : ℕ) → i < 16 → get_or v i 0 ≡ 0
-  pub load : loadAt v ≡ sum (jobs R) (run R)
+  pub load : load_at v ≡ sum (jobs R) (run R)
   pub same : (k : ℕ) → k < n → get_or v (16 + k) 0 ≡ sum (jobs R) (ticks R k)
 
 no_number : (i : ℕ) → ◌≡◌ {A = ℕ} (get_or (replicate 25 0) i 0) 0
 unfolding padded
-no_number i = getD-padded 25 0 [] i
+no_number i = get_d_padded 25 0 [] i
 
 module _ (R : Recorder) where
   pub rooted_none : (x : ℕ) → x ≡ sum (jobs R) (run R) → Rooted R 0 (set (replicate 25 0) 24 x)
@@ -53,17 +53,17 @@ module _ (R : Recorder) where
       }
 
   -- All devices: the root is shown.
-  pub rooted-shown : Valid R → (v : List ℕ) → Rooted R R.devices.count v → Shows R v (setOf (root R).unplaced) (jobs R) (root R)
-  unfolding last_end since firstStart
-  rooted-shown valid v h =
+  pub rooted_shown : Valid R → (v : List ℕ) → Rooted R R.devices.count v → Shows R v (set_of (root R).unplaced) (jobs R) (root R)
+  unfolding last_end since first_start
+  rooted_shown valid v h =
       record {
-        reached = root-reached R valid;
+        reached = root_reached R valid;
         long = h.long;
         set = refl;
-        ends = λ k b. h.none k (omega (arith, b, valid.few-devices));
-        firsts = λ k b. h.none (8 + k) (omega (arith, b, valid.few-devices)) ∙ test-cases (λ (r : Bool). ◌≡◌ {A = ℕ} 0 (cond r 0 0)) R.round (λ q. refl) (λ q. refl);
-        aheads = λ k b. h.same k b ∙ sum-up (ticks R k) (jobs R);
-        load = h.load ∙ sum-up (run R) (jobs R);
+        ends = λ k b. h.none k (omega (arith, b, valid.few_devices));
+        firsts = λ k b. h.none (8 + k) (omega (arith, b, valid.few_devices)) ∙ test_cases (λ (r : Bool). ◌≡◌ {A = ℕ} 0 (cond r 0 0)) R.round (λ q. refl) (λ q. refl);
+        aheads = λ k b. h.same k b ∙ sum_up (ticks R k) (jobs R);
+        load = h.load ∙ sum_up (run R) (jobs R);
       }
 
 -- ---- the set of all jobs
@@ -72,8 +72,8 @@ all_from : (lo k : ℕ) → total (λ j. 2 ^ j) (up_from lo k) + 2 ^ lo ≡ 2 ^ 
 all_from lo zero = let e : lo + 0 ≡ lo = omega arith in rw e (omega arith)
 all_from lo (suc k) = let e : lo + suc k ≡ suc lo + k = omega arith in rw e (omega (arith, all_from (suc lo) k))
 
-pub set_all : (R : Recorder) → setOf (root R).unplaced ≡ 2 ^ jobs R - 1
+pub set_all : (R : Recorder) → set_of (root R).unplaced ≡ 2 ^ jobs R - 1
 set_all R =
     let e : 0 + jobs R ≡ jobs R = omega arith in
-    let w : setOf (root R).unplaced + 1 ≡ 2 ^ jobs R = subst (λ (n : ℕ). setOf (up_from 0 (jobs R)) + 1 ≡ 2 ^ n) e (all_from 0 (jobs R)) in
+    let w : set_of (root R).unplaced + 1 ≡ 2 ^ jobs R = subst (λ (n : ℕ). set_of (up_from 0 (jobs R)) + 1 ≡ 2 ^ n) e (all_from 0 (jobs R)) in
     omega arith

@@ -3,9 +3,9 @@ ghost use Rattle.std.specs.Prelude.{◌≡◌, cond, ℕ, ◌+◌, ◌-◌, ◌<
 ghost use Rattle.base.specs.Sums.{sum};
 ghost use Rattle.schedule.specs.Quantities.{Valid, jobs, run};
 ghost use Rattle.schedule.specs.Visiting.{root, ticks};
-ghost use Rattle.flat.specs.inside.Flat.{recorderOf};
-ghost use Rattle.latest.specs.inside.Sparing.{setOf};
-ghost use Rattle.vertex.specs.inside.Shown.{charged, aheadAt, loadAt, Placed, Shows};
+ghost use Rattle.flat.specs.inside.Flat.{recorder_of};
+ghost use Rattle.latest.specs.inside.Sparing.{set_of};
+ghost use Rattle.vertex.specs.inside.Shown.{charged, ahead_at, load_at, Placed, Shows};
 
 use crate::gaps::is_unused;
 use base::wide;
@@ -32,7 +32,7 @@ fn first_of(unused: bool, first: u32, s: u32) -> u32
 
 // A job that starts at s and runs for c ticks, charged to device k.
 fn charge(w: &mut Cells, round: bool, k: usize, s: u32, c: u32)
-    requires { (k < 8) × ((length w.old ≡ 25) × ((s + c < 65536) × (c ≤ aheadAt w.old k))) }
+    requires { (k < 8) × ((length w.old ≡ 25) × ((s + c < 65536) × (c ≤ ahead_at w.old k))) }
     ensures { w.new ≡ charged round k s c w.old }
 {
     let ahead = w[AHEAD + k];
@@ -44,8 +44,8 @@ fn charge(w: &mut Cells, round: bool, k: usize, s: u32, c: u32)
 
 // Places job j at s.
 pub fn place(r: &Flat, w: &mut Cells, j: usize, s: u32)
-    requires { Valid (recorderOf r.now) × ((length w.old ≡ 25) × ((j < 16) × ((s + run (recorderOf r.now) j < 65536) × ((run (recorderOf r.now) j ≤ loadAt w.old) × ((k : ℕ) → k < (recorderOf r.now).devices.count → ticks (recorderOf r.now) k j ≤ aheadAt w.old k))))) }
-    ensures { Placed (recorderOf r.now) w.old w.new j s }
+    requires { Valid (recorder_of r.now) × ((length w.old ≡ 25) × ((j < 16) × ((s + run (recorder_of r.now) j < 65536) × ((run (recorder_of r.now) j ≤ load_at w.old) × ((k : ℕ) → k < (recorder_of r.now).devices.count → ticks (recorder_of r.now) k j ≤ ahead_at w.old k))))) }
+    ensures { Placed (recorder_of r.now) w.old w.new j s }
 {
     let c = wide(run_of(r, j));
     let round = is_round(r);
@@ -70,8 +70,8 @@ fn ticks_of(used: bool, c: u16) -> u32
 
 // The ticks for which all jobs use device k.
 fn all_ticks_of(r: &Flat, k: usize) -> u32
-    requires { (jobs (recorderOf r.now) ≤ 16) × (k < 8) }
-    ensures { result ≡ sum (jobs (recorderOf r.now)) (ticks (recorderOf r.now) k) }
+    requires { (jobs (recorder_of r.now) ≤ 16) × (k < 8) }
+    ensures { result ≡ sum (jobs (recorder_of r.now)) (ticks (recorder_of r.now) k) }
 {
     let n = job_count(r);
     let mut sum: u32 = 0;
@@ -85,8 +85,8 @@ fn all_ticks_of(r: &Flat, k: usize) -> u32
 
 // The running times of all jobs.
 fn load_of(r: &Flat) -> u32
-    requires { jobs (recorderOf r.now) ≤ 16 }
-    ensures { result ≡ sum (jobs (recorderOf r.now)) (run (recorderOf r.now)) }
+    requires { jobs (recorder_of r.now) ≤ 16 }
+    ensures { result ≡ sum (jobs (recorder_of r.now)) (run (recorder_of r.now)) }
 {
     let n = job_count(r);
     let mut load: u32 = 0;
@@ -100,8 +100,8 @@ fn load_of(r: &Flat) -> u32
 
 // No job placed yet.
 pub fn root_of(r: &Flat) -> Cells
-    requires { Valid (recorderOf r.now) }
-    ensures { Shows (recorderOf r.now) result (setOf (root (recorderOf r.now)).unplaced) (jobs (recorderOf r.now)) (root (recorderOf r.now)) }
+    requires { Valid (recorder_of r.now) }
+    ensures { Shows (recorder_of r.now) result (set_of (root (recorder_of r.now)).unplaced) (jobs (recorder_of r.now)) (root (recorder_of r.now)) }
 {
     let m = device_count(r);
     let mut v = [0u32; 25];

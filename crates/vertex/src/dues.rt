@@ -1,10 +1,10 @@
 // Cut A (rule 43) as one comparison: the latest time at which a child passes it depends on its parent and its job alone. No device plays a part here.
 ghost use Rattle.std.specs.Prelude.{◌≡◌, ◌≤◌};
 ghost use Rattle.schedule.specs.Quantities.{jobs};
-ghost use Rattle.flat.specs.inside.Flat.{recorderOf};
+ghost use Rattle.flat.specs.inside.Flat.{recorder_of};
 ghost use Rattle.extras.specs.inside.Tabled.{Tabled};
 ghost use Rattle.vertex.specs.inside.Lasts.{TwoLeast};
-ghost use Rattle.vertex.specs.inside.Sums.{dueWith, limitFor};
+ghost use Rattle.vertex.specs.inside.Sums.{due_with, limit_for};
 
 use base::{JobNumber, smaller};
 use extras::last_start;
@@ -20,7 +20,7 @@ pub struct Dues {
 
 // The same with job j, whose last start is x.
 fn due_with(d: Dues, j: JobNumber, x: u32) -> Dues
-    ensures { result ≡ dueWith d j x }
+    ensures { result ≡ due_with d j x }
 {
     if x < d.first {
         return Dues {
@@ -40,8 +40,8 @@ fn due_with(d: Dues, j: JobNumber, x: u32) -> Dues
 
 // The two smallest over the jobs of a set.
 pub fn dues_in(r: &Flat, extras: &[u32], set: usize) -> Dues
-    requires { Tabled (recorderOf r.now) extras.now }
-    ensures { TwoLeast (recorderOf r.now) set (jobs (recorderOf r.now)) result }
+    requires { Tabled (recorder_of r.now) extras.now }
+    ensures { TwoLeast (recorder_of r.now) set (jobs (recorder_of r.now)) result }
 {
     let n = job_count(r);
     let mut dues = Dues {
@@ -64,7 +64,7 @@ pub fn dues_in(r: &Flat, extras: &[u32], set: usize) -> Dues
 // The last time at which cut A spares a child that places job j, where the other unplaced jobs run for `rest` ticks.
 pub fn limit_of(d: Dues, h: u32, rest: u32, j: JobNumber) -> u32
     requires { rest ≤ h }
-    ensures { result ≡ limitFor h rest d j.0 }
+    ensures { result ≡ limit_for h rest d j.0 }
 {
     let at = d.at;
     if at.0 == j.0 {

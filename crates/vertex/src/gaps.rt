@@ -2,11 +2,11 @@
 ghost use Rattle.std.specs.Prelude.{◌≡◌, cond, ℕ, ◌+◌, ◌-◌, ◌*◌, ◌<◌, ◌≤◌, length};
 ghost use Rattle.base.specs.Sums.{sum};
 ghost use Rattle.schedule.specs.Quantities.{device, run, uses};
-ghost use Rattle.flat.specs.inside.Flat.{recorderOf};
+ghost use Rattle.flat.specs.inside.Flat.{recorder_of};
 ghost use Rattle.keys.specs.inside.Keys.{extra};
 ghost use Rattle.extras.specs.inside.Tabled.{Tabled};
-ghost use Rattle.vertex.specs.inside.Gaps.{gapAt, gapsBy};
-ghost use Rattle.vertex.specs.inside.Shown.{unused, aheadAt, leadsBy, closesBy, endsBy, idleFloor, Ordered};
+ghost use Rattle.vertex.specs.inside.Gaps.{gap_at, gaps_by};
+ghost use Rattle.vertex.specs.inside.Shown.{unused, ahead_at, leads_by, closes_by, ends_by, idle_floor, Ordered};
 
 use crate::cells::Cells;
 use base::wide;
@@ -30,7 +30,7 @@ fn chosen(test: bool, x: u32, y: u32) -> u32
 // The extra of a gap of g ticks; or, if later starts count too, what neither it nor a longer one has less than.
 fn gap_at(extras: &[u32], later: bool, k: usize, g: u32) -> u32
     requires { (k < 8) × ((g ≤ 4096) × (208 + 8 * g ≤ length extras.now)) }
-    ensures { result ≡ gapAt extras.now later k g }
+    ensures { result ≡ gap_at extras.now later k g }
 {
     if later {
         return least_from(extras, k, g);
@@ -42,7 +42,7 @@ fn gap_at(extras: &[u32], later: bool, k: usize, g: u32) -> u32
 // no jump hangs on it.
 fn gap_with(extras: &[u32], later: bool, round: bool, k: usize, end: u32, s: u32) -> u32
     requires { (k < 8) × ((end ≤ s) × ((s ≤ 4096) × (208 + 8 * s ≤ length extras.now))) }
-    ensures { result ≡ cond (unused round end) 0 (gapAt extras.now later k (s - end)) }
+    ensures { result ≡ cond (unused round end) 0 (gap_at extras.now later k (s - end)) }
 {
     let gap = gap_at(extras, later, k, s - end);
     if is_unused(round, end) {
@@ -53,8 +53,8 @@ fn gap_with(extras: &[u32], later: bool, round: bool, k: usize, end: u32, s: u32
 
 // What all devices pay for the gaps before job j. Those that it does not use pay nothing.
 fn gaps_of(r: &Flat, extras: &[u32], v: &Cells, j: usize, s: u32, later: bool) -> u32
-    requires { Tabled (recorderOf r.now) extras.now × ((j < 16) × Ordered (recorderOf r.now) v.now s) }
-    ensures { (result ≡ gapsBy (recorderOf r.now) extras.now v.now later j s) × (result ≤ 2147450880) }
+    requires { Tabled (recorder_of r.now) extras.now × ((j < 16) × Ordered (recorder_of r.now) v.now s) }
+    ensures { (result ≡ gaps_by (recorder_of r.now) extras.now v.now later j s) × (result ≤ 2147450880) }
 {
     let round = is_round(r);
     let n = used_count(extras, j);
@@ -70,24 +70,24 @@ fn gaps_of(r: &Flat, extras: &[u32], v: &Cells, j: usize, s: u32, later: bool) -
 
 // What they pay where it starts at s.
 pub fn lead_of(r: &Flat, extras: &[u32], v: &Cells, j: usize, s: u32) -> u32
-    requires { Tabled (recorderOf r.now) extras.now × ((j < 16) × Ordered (recorderOf r.now) v.now s) }
-    ensures { (result ≡ leadsBy (recorderOf r.now) v.now j s) × (result ≤ 2147450880) }
+    requires { Tabled (recorder_of r.now) extras.now × ((j < 16) × Ordered (recorder_of r.now) v.now s) }
+    ensures { (result ≡ leads_by (recorder_of r.now) v.now j s) × (result ≤ 2147450880) }
 {
     gaps_of(r, extras, v, j, s, false)
 }
 
 // What they pay at least where it starts at s or later.
 pub fn least_of(r: &Flat, extras: &[u32], v: &Cells, j: usize, s: u32) -> u32
-    requires { Tabled (recorderOf r.now) extras.now × ((j < 16) × Ordered (recorderOf r.now) v.now s) }
-    ensures { ((t : ℕ) → s ≤ t → t ≤ (recorderOf r.now).horizon → result ≤ leadsBy (recorderOf r.now) v.now j t) × (result ≤ 2147450880) }
+    requires { Tabled (recorder_of r.now) extras.now × ((j < 16) × Ordered (recorder_of r.now) v.now s) }
+    ensures { ((t : ℕ) → s ≤ t → t ≤ (recorder_of r.now).horizon → result ≤ leads_by (recorder_of r.now) v.now j t) × (result ≤ 2147450880) }
 {
     gaps_of(r, extras, v, j, s, true)
 }
 
 // What device k pays for the gap that closes its round.
 fn close_with(r: &Flat, extras: &[u32], round: bool, k: usize, h: u32, end: u32, first: u32) -> u32
-    requires { Tabled (recorderOf r.now) extras.now × ((k < (recorderOf r.now).devices.count) × ((first ≤ end) × ((end ≤ h) × (h ≤ (recorderOf r.now).horizon)))) }
-    ensures { (result ≡ cond (unused round end) 0 (extra (device (recorderOf r.now) k) (first + (h - end)))) × (result ≤ 268431360) }
+    requires { Tabled (recorder_of r.now) extras.now × ((k < (recorder_of r.now).devices.count) × ((first ≤ end) × ((end ≤ h) × (h ≤ (recorder_of r.now).horizon)))) }
+    ensures { (result ≡ cond (unused round end) 0 (extra (device (recorder_of r.now) k) (first + (h - end)))) × (result ≤ 268431360) }
 {
     let close = extra_of(extras, k, first + (h - end));
     if is_unused(round, end) {
@@ -98,8 +98,8 @@ fn close_with(r: &Flat, extras: &[u32], round: bool, k: usize, h: u32, end: u32,
 
 // What all devices pay for them.
 pub fn close_of(r: &Flat, extras: &[u32], v: &Cells) -> u32
-    requires { Tabled (recorderOf r.now) extras.now × Ordered (recorderOf r.now) v.now (recorderOf r.now).horizon }
-    ensures { (result ≡ closesBy (recorderOf r.now) v.now) × (result ≤ 2147450880) }
+    requires { Tabled (recorder_of r.now) extras.now × Ordered (recorder_of r.now) v.now (recorder_of r.now).horizon }
+    ensures { (result ≡ closes_by (recorder_of r.now) v.now) × (result ≤ 2147450880) }
 {
     let round = is_round(r);
     let h = wide(horizon_of(r));
@@ -126,8 +126,8 @@ fn end_with(
     first: u32,
     s: u32,
 ) -> u32
-    requires { Tabled (recorderOf r.now) extras.now × ((k < (recorderOf r.now).devices.count) × ((j < 16) × ((first ≤ end) × ((end ≤ s) × ((s + c ≤ h) × (h ≤ (recorderOf r.now).horizon)))))) }
-    ensures { (result ≡ cond (unused round (cond (uses (recorderOf r.now) k j) (s + c) end)) 0 (extra (device (recorderOf r.now) k) (cond (uses (recorderOf r.now) k j) (cond (unused round end) s first) first + (h - cond (uses (recorderOf r.now) k j) (s + c) end)))) × (result ≤ 268431360) }
+    requires { Tabled (recorder_of r.now) extras.now × ((k < (recorder_of r.now).devices.count) × ((j < 16) × ((first ≤ end) × ((end ≤ s) × ((s + c ≤ h) × (h ≤ (recorder_of r.now).horizon)))))) }
+    ensures { (result ≡ cond (unused round (cond (uses (recorder_of r.now) k j) (s + c) end)) 0 (extra (device (recorder_of r.now) k) (cond (uses (recorder_of r.now) k j) (cond (unused round end) s first) first + (h - cond (uses (recorder_of r.now) k j) (s + c) end)))) × (result ≤ 268431360) }
 {
     let used = is_used(r, k, j);
     let begun = chosen(is_unused(round, end), s, first);
@@ -137,8 +137,8 @@ fn end_with(
 
 // What all devices pay for them. The child that places job j at s is complete, and is not made.
 pub fn end_of(r: &Flat, extras: &[u32], v: &Cells, j: usize, s: u32) -> u32
-    requires { Tabled (recorderOf r.now) extras.now × ((j < 16) × (Ordered (recorderOf r.now) v.now s × (s + run (recorderOf r.now) j ≤ (recorderOf r.now).horizon))) }
-    ensures { (result ≡ endsBy (recorderOf r.now) v.now j s) × (result ≤ 2147450880) }
+    requires { Tabled (recorder_of r.now) extras.now × ((j < 16) × (Ordered (recorder_of r.now) v.now s × (s + run (recorder_of r.now) j ≤ (recorder_of r.now).horizon))) }
+    ensures { (result ≡ ends_by (recorder_of r.now) v.now j s) × (result ≤ 2147450880) }
 {
     let round = is_round(r);
     let h = wide(horizon_of(r));
@@ -163,8 +163,8 @@ fn floor_with(work: u16, deep: u16, h: u32, ahead: u32) -> u32
 
 // The floor of the root: at work for the ticks to come of each device, and in its deepest sleep for all others.
 pub fn root_floor(r: &Flat, extras: &[u32], v: &Cells) -> u32
-    requires { Tabled (recorderOf r.now) extras.now × ((k : ℕ) → k < (recorderOf r.now).devices.count → aheadAt v.now k ≤ (recorderOf r.now).horizon) }
-    ensures { (result ≡ sum (recorderOf r.now).devices.count (idleFloor (recorderOf r.now) v.now)) × (result ≤ 2147450880) }
+    requires { Tabled (recorder_of r.now) extras.now × ((k : ℕ) → k < (recorder_of r.now).devices.count → ahead_at v.now k ≤ (recorder_of r.now).horizon) }
+    ensures { (result ≡ sum (recorder_of r.now).devices.count (idle_floor (recorder_of r.now) v.now)) × (result ≤ 2147450880) }
 {
     let h = wide(horizon_of(r));
     let m = device_count(r);

@@ -6,14 +6,14 @@ use native.Mathlib.Decide.{ℕ_discrete}
 use native.Mathlib.Omega.{arith}
 use lib.ListN.{get_or, set, length, length-set}
 use lib.Seq.{get_or-set_same, get_or-set_other}
-use Rattle.visit.specs.inside.Lent.{start_at, bestAt, stop_at}
+use Rattle.visit.specs.inside.Lent.{start_at, best_at, stop_at}
 use Rattle.visit.specs.inside.Offers.{Bettered}
 
 -- The first n are copied.
 pub record Copied (n : ℕ) (l w : List ℕ) : Type 0 where
   pub long : length w ≡ 35
   pub kept : (i : ℕ) → i < 18 → get_or w i 0 ≡ get_or l i 0
-  pub best : (j : ℕ) → j < n → bestAt w j ≡ start_at l j
+  pub best : (j : ℕ) → j < n → best_at w j ≡ start_at l j
   pub stops : stop_at w ≡ stop_at l
 
 pub copied_none : (l : List ℕ) → length l ≡ 35 → Copied 0 l l

@@ -15,86 +15,86 @@ use Rattle.recall.specs.declared.asking.Asked.{Asked}
 use Rattle.recall.specs.inside.Slack.{more, Slack}
 use Rattle.recall.specs.inside.Entries.{kept}
 use Rattle.recall.specs.inside.Asks.{Asks}
-use Rattle.recall.proofs.Answered.{seen-kept, Costs, choices-stay}
-use Rattle.visit.specs.inside.Lent.{countAt, energyAt, Bests, slackBy, Lends, Tells, Came, done, over, Added, fits, beyond, Stands}
-use Rattle.visit.specs.inside.Stops.{visitBy}
-use Rattle.visit.proofs.Stopping.{choices-left, choices-open}
-use Rattle.visit.proofs.Visits.{choices-grow}
-use Rattle.visit.proofs.Telling.{best-same, tells_none}
+use Rattle.recall.proofs.Answered.{seen_kept, Costs, choices_stay}
+use Rattle.visit.specs.inside.Lent.{count_at, energy_at, Bests, slack_by, Lends, Tells, Came, done, over, Added, fits, beyond, Stands}
+use Rattle.visit.specs.inside.Stops.{visit_by}
+use Rattle.visit.proofs.Stopping.{choices_left, choices_open}
+use Rattle.visit.proofs.Visits.{choices_grow}
+use Rattle.visit.proofs.Telling.{best_same, tells_none}
 
 module _ (R : Recorder) where
   -- The slack of the best that the tally holds.
-  pub slack-told : (l : List ℕ) (f : ℕ) (o : Option (List ℕ)) → Bests R l o → f < energyAt l → Slack R f o (slackBy (energyAt l) f)
-  unfolding Bests Slack slackBy
-  slack-told l f none b h = rw (eq-eqb (energyAt l) 4294967295 b)
-  slack-told l f (some s) b h = rw (ne_eqb (energyAt l) 4294967295 (λ e. omega (arith, b.1))) (omega (arith, h), omega (arith, h, b.0))
+  pub slack_told : (l : List ℕ) (f : ℕ) (o : Option (List ℕ)) → Bests R l o → f < energy_at l → Slack R f o (slack_by (energy_at l) f)
+  unfolding Bests Slack slack_by
+  slack_told l f none b h = rw (eq-eqb (energy_at l) 4294967295 b)
+  slack_told l f (some s) b h = rw (ne_eqb (energy_at l) 4294967295 (λ e. omega (arith, b.1))) (omega (arith, h), omega (arith, h, b.0))
 
   -- Two tallies with the same energy hold bests of the same cost.
-  same-costs : (l l' : List ℕ) → energyAt l' ≡ energyAt l → (o o' : Option (List ℕ)) → Bests R l o → Bests R l' o' → Costs R o o'
+  same_costs : (l l' : List ℕ) → energy_at l' ≡ energy_at l → (o o' : Option (List ℕ)) → Bests R l o → Bests R l' o' → Costs R o o'
   unfolding Bests Costs
-  same-costs l l' e none none b b' = tt
-  same-costs l l' e none (some t) b b' = omega (arith, e, b, b'.1)
-  same-costs l l' e (some s) none b b' = omega (arith, e, b.1, b')
-  same-costs l l' e (some s) (some t) b b' = sym b'.0 ∙ e ∙ b.0
+  same_costs l l' e none none b b' = tt
+  same_costs l l' e none (some t) b b' = omega (arith, e, b, b'.1)
+  same_costs l l' e (some s) none b b' = omega (arith, e, b.1, b')
+  same_costs l l' e (some s) (some t) b b' = sym b'.0 ∙ e ∙ b.0
 
   module _ (stop : Bool) (budget : ℕ) where
     -- ---- n vertices more
 
-    tells_more : (n : ℕ) (l : List ℕ) (v : Vertex) (st : Visited) → Tells R stop budget l v st → countAt l + n ≤ budget → Tells R stop budget (set l 0 (countAt l + n)) v (more n st)
+    tells_more : (n : ℕ) (l : List ℕ) (v : Vertex) (st : Visited) → Tells R stop budget l v st → count_at l + n ≤ budget → Tells R stop budget (set l 0 (count_at l + n)) v (more n st)
     tells_more n l v st t less =
         record {
           long = rw length-set t.long;
           stops = beside 34 (λ (e : 34 ≡ 0). omega (arith, e)) ∙ t.stops;
-          count = get_or-set_same l 0 (countAt l + n) 0 (omega (arith, t.long)) ∙ ap (λ (c : ℕ). c + n) t.count;
-          best = best-same R l (set l 0 (countAt l + n)) (beside 1 (λ (e : 1 ≡ 0). omega (arith, e))) (λ j b. beside (18 + j) (λ (e : 18 + j ≡ 0). omega (arith, e))) st.best
+          count = get_or-set_same l 0 (count_at l + n) 0 (omega (arith, t.long)) ∙ ap (λ (c : ℕ). c + n) t.count;
+          best = best_same R l (set l 0 (count_at l + n)) (beside 1 (λ (e : 1 ≡ 0). omega (arith, e))) (λ j b. beside (18 + j) (λ (e : 18 + j ≡ 0). omega (arith, e))) st.best
               t.best;
           path = λ j b ne. beside (2 + j) (λ (e : 2 + j ≡ 0). omega (arith, e)) ∙ t.path j b ne;
           within = omega (arith, t.count, less);
           going = t.going;
         }
       where
-        beside : (i : ℕ) → (i ≡ 0 → ⊥) → get_or (set l 0 (countAt l + n)) i 0 ≡ get_or l i 0
-        beside i ne = get_or-set_other l 0 i (countAt l + n) 0 ne
+        beside : (i : ℕ) → (i ≡ 0 → ⊥) → get_or (set l 0 (count_at l + n)) i 0 ≡ get_or l i 0
+        beside i ne = get_or-set_other l 0 i (count_at l + n) 0 ne
 
-    pub added-comes :
+    pub added_comes :
         (n : ℕ) (l l' : List ℕ) (x : Bool) → Added budget n l l' x → (v : Vertex) (st st' : Visited) → st' ≡ more n st → Tells R stop budget l v st
         → Came R stop budget l' v st' x
-    added-comes n l l' false (fits h e) v st st' q t = rw (e, q) (done (tells_more n l v st t h))
-    added-comes n l l' true (beyond h e) v st st' q t =
+    added_comes n l l' false (fits h e) v st st' q t = rw (e, q) (done (tells_more n l v st t h))
+    added_comes n l l' true (beyond h e) v st st' q t =
         rw e (over t.stops (omega (arith, h, t.count, ap (λ (u : Visited). u.count) q)) (tells_none R stop budget l v st t))
 
-    pub added-kept : (n : ℕ) (l l' : List ℕ) (x : Bool) → length l ≡ 35 → Added budget n l l' x → (length l' ≡ 35) × (energyAt l' ≤ energyAt l)
-    added-kept n l l' false h (fits q e) =
-        let same : energyAt l' ≡ energyAt l = ap energyAt e ∙ get_or-set_other l 0 1 (countAt l + n) 0 (λ (z : 1 ≡ 0). omega (arith, z)) in
+    pub added_kept : (n : ℕ) (l l' : List ℕ) (x : Bool) → length l ≡ 35 → Added budget n l l' x → (length l' ≡ 35) × (energy_at l' ≤ energy_at l)
+    added_kept n l l' false h (fits q e) =
+        let same : energy_at l' ≡ energy_at l = ap energy_at e ∙ get_or-set_other l 0 1 (count_at l + n) 0 (λ (z : 1 ≡ 0). omega (arith, z)) in
         (ap length e ∙ rw length-set h, omega (arith, same))
-    added-kept n l l' true h (beyond q e) = (ap length e ∙ h, omega (arith, ap energyAt e))
+    added_kept n l l' true h (beyond q e) = (ap length e ∙ h, omega (arith, ap energy_at e))
 
     -- ---- what was seen
 
-    pub seen-lends :
+    pub seen_lends :
         (ex memory l : List ℕ) → Lends R ex memory → (a from time : ℕ) (asked : Asked) (tally tally' : List ℕ)
-        → Asks R (cap_at ex) l a time (slackBy (energyAt tally) from) asked → from < energyAt tally → (m : ℕ) (u : Vertex) → Stands R l a from m u → u.time ≡ time
-        → (st : Visited) → Tells R stop budget tally u st → Tells R stop budget tally' u (choices R (visitBy R stop m) u st) → energyAt tally' ≡ energyAt tally
-        → (n : ℕ) → n ≡ countAt tally' - countAt tally → n < 4294967296 → (after : List ℕ) → after ≡ kept memory asked.slot asked.key n → Lends R ex after
-    seen-lends ex memory l lends a from time asked tally tally' asks spare m u stands t st tells tells' same n n-is few after after_is =
-        let both = choices-open R m u st stop tells.going tells'.going in
-        let grown : st.count ≤ (choices R (visitBy R stop m) u st).count = choices-grow R stop m u st in
+        → Asks R (cap_at ex) l a time (slack_by (energy_at tally) from) asked → from < energy_at tally → (m : ℕ) (u : Vertex) → Stands R l a from m u → u.time ≡ time
+        → (st : Visited) → Tells R stop budget tally u st → Tells R stop budget tally' u (choices R (visit_by R stop m) u st) → energy_at tally' ≡ energy_at tally
+        → (n : ℕ) → n ≡ count_at tally' - count_at tally → n < 4294967296 → (after : List ℕ) → after ≡ kept memory asked.slot asked.key n → Lends R ex after
+    seen_lends ex memory l lends a from time asked tally tally' asks spare m u stands t st tells tells' same n n-is few after after_is =
+        let both = choices_open R m u st stop tells.going tells'.going in
+        let grown : st.count ≤ (choices R (visit_by R stop m) u st).count = choices_grow R stop m u st in
         let more_by : (choices R (visit R m) u st).count ≡ st.count + n = omega (arith, grown, tells.count, tells'.count, n-is, ap (λ (w : Visited). w.count) both) in
-        let seen = choices-stay R m u st n more_by (same-costs tally tally' same st.best (choices R (visit R m) u st).best tells.best (subst (λ (w : Visited). Bests R tally' w.best) both tells'.best)) in
-        let slack = slack-told tally from st.best tells.best spare in
+        let seen = choices_stay R m u st n more_by (same_costs tally tally' same st.best (choices R (visit R m) u st).best tells.best (subst (λ (w : Visited). Bests R tally' w.best) both tells'.best)) in
+        let slack = slack_told tally from st.best tells.best spare in
         subst (Lends R ex) (sym after_is)
         (record {
           tabled = lends.tabled;
-          right = seen-kept R ex l lends.tabled a time memory lends.right (slackBy (energyAt tally) from) asked.key asks.key m u stands.shows t st
-              (subst (λ (f : ℕ). Slack R f st.best (slackBy (energyAt tally) from)) (sym stands.floor-is) slack) n few seen asked.slot;
+          right = seen_kept R ex l lends.tabled a time memory lends.right (slack_by (energy_at tally) from) asked.key asks.key m u stands.shows t st
+              (subst (λ (f : ℕ). Slack R f st.best (slack_by (energy_at tally) from)) (sym stands.floor_is) slack) n few seen asked.slot;
         })
 
     -- What is remembered comes.
-    pub asked-comes :
-        (ex l : List ℕ) (a from time : ℕ) (asked : Asked) (tally : List ℕ) → Asks R (cap_at ex) l a time (slackBy (energyAt tally) from) asked → from < energyAt tally
+    pub asked_comes :
+        (ex l : List ℕ) (a from time : ℕ) (asked : Asked) (tally : List ℕ) → Asks R (cap_at ex) l a time (slack_by (energy_at tally) from) asked → from < energy_at tally
         → 0 < asked.count → (m : ℕ) (u : Vertex) → Stands R l a from m u → u.time ≡ time → (st : Visited) → Tells R stop budget tally u st
-        → choices R (visitBy R stop m) u st ≡ more asked.count st
-    asked-comes ex l a from time asked tally asks spare some_Known m u stands t st tells =
+        → choices R (visit_by R stop m) u st ≡ more asked.count st
+    asked_comes ex l a from time asked tally asks spare some_Known m u stands t st tells =
         let known = asks.told some_Known m u stands.shows t st
-        (subst (λ (f : ℕ). Slack R f st.best (slackBy (energyAt tally) from)) (sym stands.floor-is) (slack-told tally from st.best tells.best spare)) in
-        choices-left R m u st stop tells.going (ap (λ (w : Visited). w.best) known) ∙ known
+        (subst (λ (f : ℕ). Slack R f st.best (slack_by (energy_at tally) from)) (sym stands.floor_is) (slack_told tally from st.best tells.best spare)) in
+        choices_left R m u st stop tells.going (ap (λ (w : Visited). w.best) known) ∙ known

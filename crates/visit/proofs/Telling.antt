@@ -11,60 +11,60 @@ use lib.ListN.{get_or, set, length, length-set}
 use lib.Seq.{get_or-set_same, get_or-set_other}
 use borrow.Author.Tests.{lt-ltb, le-ltb}
 use Rattle.base.specs.Lists.{In, remove}
-use Rattle.base.proofs.Numbers.{length-nil, remove-in, in_remove}
+use Rattle.base.proofs.Numbers.{length_nil, remove_in, in_remove}
 use Rattle.schedule.specs.declared.Recorder.{Recorder}
 use Rattle.schedule.specs.Quantities.{jobs, Valid}
-use Rattle.schedule.specs.Visiting.{Vertex, Visited, child, startsOf, counted, planEnergy, better}
-use Rattle.schedule.proofs.Runs.{length-starts, run-feasible}
-use Rattle.schedule.proofs.Tree.{Reached, starts-child, full-run}
-use Rattle.visit.specs.inside.Lent.{countAt, energyAt, start_at, bestAt, stop_at, Bests, Holds, Tells, Came, done, over, ended}
+use Rattle.schedule.specs.Visiting.{Vertex, Visited, child, starts_of, counted, plan_energy, better}
+use Rattle.schedule.proofs.Runs.{length_starts, run_feasible}
+use Rattle.schedule.proofs.Tree.{Reached, starts_child, full_run}
+use Rattle.visit.specs.inside.Lent.{count_at, energy_at, start_at, best_at, stop_at, Bests, Holds, Tells, Came, done, over, ended}
 use Rattle.visit.specs.inside.Stops.{entered}
 use Rattle.visit.specs.inside.Offers.{Bettered, Offered, kept, taken}
 
 module _ (R : Recorder) where
   -- The best is the same in two tallies.
-  pub best-same : (l w : List ℕ) → energyAt w ≡ energyAt l → ((j : ℕ) → j < jobs R → bestAt w j ≡ bestAt l j) → (o : Option (List ℕ)) → Bests R l o → Bests R w o
+  pub best_same : (l w : List ℕ) → energy_at w ≡ energy_at l → ((j : ℕ) → j < jobs R → best_at w j ≡ best_at l j) → (o : Option (List ℕ)) → Bests R l o → Bests R w o
   unfolding Bests
-  best-same l w e h none b = e ∙ b
-  best-same l w e h (some s) b = (e ∙ b.0, omega (arith, e, b.1), b.2, (λ j m. h j m ∙ b.3 j m), b.4)
+  best_same l w e h none b = e ∙ b
+  best_same l w e h (some s) b = (e ∙ b.0, omega (arith, e, b.1), b.2, (λ j m. h j m ∙ b.3 j m), b.4)
 
   -- Where the visit would have ended, there is no best yet.
-  none_told : (l : List ℕ) (o : Option (List ℕ)) → o ≡ none → Bests R l o → energyAt l ≡ 4294967295
+  none_told : (l : List ℕ) (o : Option (List ℕ)) → o ≡ none → Bests R l o → energy_at l ≡ 4294967295
   unfolding Bests
   none_told l none e b = b
   none_told l (some s) e b = let z : ◌≡◌ {A = ℕ} 0 1 = cc in absurd (omega arith)
 
-  pub tells_none : (stop : Bool) (budget : ℕ) (l : List ℕ) (v : Vertex) (st : Visited) → Tells R stop budget l v st → stop ≡ true → energyAt l ≡ 4294967295
+  pub tells_none : (stop : Bool) (budget : ℕ) (l : List ℕ) (v : Vertex) (st : Visited) → Tells R stop budget l v st → stop ≡ true → energy_at l ≡ 4294967295
   tells_none stop budget l v st t e = none_told l st.best (t.going e) t.best
 
   module _ (stop : Bool) (budget : ℕ) where
     -- ---- one vertex more
 
-    pub tells-counted : (l : List ℕ) (v : Vertex) (st : Visited) → Tells R stop budget l v st → countAt l < budget → Tells R stop budget (set l 0 (countAt l + 1)) v (counted st)
-    tells-counted l v st t less =
+    pub tells_counted : (l : List ℕ) (v : Vertex) (st : Visited) → Tells R stop budget l v st → count_at l < budget → Tells R stop budget (set l 0 (count_at l + 1)) v (counted st)
+    tells_counted l v st t less =
         record {
           long = rw length-set t.long;
           stops = beside 34 (λ (e : 34 ≡ 0). omega (arith, e)) ∙ t.stops;
-          count = get_or-set_same l 0 (countAt l + 1) 0 (omega (arith, t.long)) ∙ omega (arith, t.count);
-          best = best-same l (set l 0 (countAt l + 1)) (beside 1 (λ (e : 1 ≡ 0). omega (arith, e))) (λ j b. beside (18 + j) (λ (e : 18 + j ≡ 0). omega (arith, e))) st.best t.best;
+          count = get_or-set_same l 0 (count_at l + 1) 0 (omega (arith, t.long)) ∙ omega (arith, t.count);
+          best = best_same l (set l 0 (count_at l + 1)) (beside 1 (λ (e : 1 ≡ 0). omega (arith, e))) (λ j b. beside (18 + j) (λ (e : 18 + j ≡ 0). omega (arith, e))) st.best t.best;
           path = λ j b ne. beside (2 + j) (λ (e : 2 + j ≡ 0). omega (arith, e)) ∙ t.path j b ne;
           within = omega (arith, t.count, less);
           going = t.going;
         }
       where
-        beside : (i : ℕ) → (i ≡ 0 → ⊥) → get_or (set l 0 (countAt l + 1)) i 0 ≡ get_or l i 0
-        beside i ne = get_or-set_other l 0 i (countAt l + 1) 0 ne
+        beside : (i : ℕ) → (i ≡ 0 → ⊥) → get_or (set l 0 (count_at l + 1)) i 0 ≡ get_or l i 0
+        beside i ne = get_or-set_other l 0 i (count_at l + 1) 0 ne
 
     -- ---- a job placed, and taken back
 
     module _ (v : Vertex) (j s : ℕ) (i : In j v.unplaced) where
-      pub tells-noted : (l : List ℕ) (st : Visited) → j < 16 → jobs R ≤ 16 → Tells R stop budget l v st → Tells R stop budget (set l (2 + j) s) (child R v j s) st
-      tells-noted l st few all t =
+      pub tells_noted : (l : List ℕ) (st : Visited) → j < 16 → jobs R ≤ 16 → Tells R stop budget l v st → Tells R stop budget (set l (2 + j) s) (child R v j s) st
+      tells_noted l st few all t =
           record {
             long = rw length-set t.long;
             stops = beside 34 (λ (e : 34 ≡ 2 + j). omega (arith, few, e)) ∙ t.stops;
             count = beside 0 (λ (e : 0 ≡ 2 + j). omega (arith, e)) ∙ t.count;
-            best = best-same l (set l (2 + j) s) (beside 1 (λ (e : 1 ≡ 2 + j). omega (arith, e))) (λ k b. beside (18 + k) (λ (e : 18 + k ≡ 2 + j). omega (arith, few, e))) st.best t.best;
+            best = best_same l (set l (2 + j) s) (beside 1 (λ (e : 1 ≡ 2 + j). omega (arith, e))) (λ k b. beside (18 + k) (λ (e : 18 + k ≡ 2 + j). omega (arith, few, e))) st.best t.best;
             path = path;
             within = t.within;
             going = t.going;
@@ -73,21 +73,21 @@ module _ (R : Recorder) where
           beside : (k : ℕ) → (k ≡ 2 + j → ⊥) → get_or (set l (2 + j) s) k 0 ≡ get_or l k 0
           beside k ne = get_or-set_other l (2 + j) k s 0 ne
 
-          path : (k : ℕ) → k < jobs R → (In k (remove j v.unplaced) → ⊥) → start_at (set l (2 + j) s) k ≡ get_or (startsOf R (child R v j s)) k 0
+          path : (k : ℕ) → k < jobs R → (In k (remove j v.unplaced) → ⊥) → start_at (set l (2 + j) s) k ≡ get_or (starts_of R (child R v j s)) k 0
           path k b ne =
               elim (ℕ_discrete k j) [
                 | yes e ↦
-                    rw (e, starts-child R v j s)
+                    rw (e, starts_child R v j s)
                     (get_or-set_same l (2 + j) s 0 (omega (arith, few, t.long))
-                    ∙ sym (get_or-set_same (startsOf R v) j s 0 (omega (arith, b, e, length-starts R v.placed))))
+                    ∙ sym (get_or-set_same (starts_of R v) j s 0 (omega (arith, b, e, length_starts R v.placed))))
                 | no o ↦
-                    rw (starts-child R v j s)
-                    (beside (2 + k) (λ (e : 2 + k ≡ 2 + j). o (omega (arith, e))) ∙ t.path k b (λ w. ne (remove-in j k v.unplaced w o))
-                    ∙ sym (get_or-set_other (startsOf R v) j k s 0 o))
+                    rw (starts_child R v j s)
+                    (beside (2 + k) (λ (e : 2 + k ≡ 2 + j). o (omega (arith, e))) ∙ t.path k b (λ w. ne (remove_in j k v.unplaced w o))
+                    ∙ sym (get_or-set_other (starts_of R v) j k s 0 o))
               ]
 
-      tells-back : (l : List ℕ) (st : Visited) → Tells R stop budget l (child R v j s) st → Tells R stop budget l v st
-      tells-back l st t =
+      tells_back : (l : List ℕ) (st : Visited) → Tells R stop budget l (child R v j s) st → Tells R stop budget l v st
+      tells_back l st t =
           record {
             long = t.long;
             stops = t.stops;
@@ -95,103 +95,103 @@ module _ (R : Recorder) where
             best = t.best;
             path = λ k b ne.
                 let o : k ≡ j → ⊥ = λ e. ne (subst (λ (x : ℕ). In x v.unplaced) (sym e) i) in
-                t.path k b (λ w. ne (in_remove j k v.unplaced w)) ∙ ap (λ (u : List ℕ). get_or u k 0) (starts-child R v j s) ∙ get_or-set_other (startsOf R v) j k s 0 o;
+                t.path k b (λ w. ne (in_remove j k v.unplaced w)) ∙ ap (λ (u : List ℕ). get_or u k 0) (starts_child R v j s) ∙ get_or-set_other (starts_of R v) j k s 0 o;
             within = t.within;
             going = t.going;
           }
 
-      pub came-back : (l : List ℕ) (st : Visited) (b : Bool) → Came R stop budget l (child R v j s) st b → Came R stop budget l v st b
-      came-back l st false (done t) = done (tells-back l st t)
-      came-back l st true (over m q n) = over m q n
-      came-back l st true (ended m e q h) = ended m e q h
+      pub came_back : (l : List ℕ) (st : Visited) (b : Bool) → Came R stop budget l (child R v j s) st b → Came R stop budget l v st b
+      came_back l st false (done t) = done (tells_back l st t)
+      came_back l st true (over m q n) = over m q n
+      came_back l st true (ended m e q h) = ended m e q h
 
     -- ---- a complete vertex offered
 
-    module _ (v : Vertex) (h : Reached R 0 v) (valid : Valid R) (l w : List ℕ) (e : ℕ) (st : Visited) (e-is : e ≡ planEnergy R (startsOf R v)) (small : e < 4294967295) where
+    module _ (v : Vertex) (h : Reached R 0 v) (valid : Valid R) (l w : List ℕ) (e : ℕ) (st : Visited) (e-is : e ≡ plan_energy R (starts_of R v)) (small : e < 4294967295) where
       none_left : (k : ℕ) → In k v.unplaced → ⊥
-      none_left k i = subst (In k) (length-nil v.unplaced h.size) i
+      none_left k i = subst (In k) (length_nil v.unplaced h.size) i
 
-      better-is : (o : Option (List ℕ)) → Bests R l o → e < energyAt l → better R o (startsOf R v) ≡ some (startsOf R v)
+      better_is : (o : Option (List ℕ)) → Bests R l o → e < energy_at l → better R o (starts_of R v) ≡ some (starts_of R v)
       unfolding better Bests
-      better-is none b less = refl
-      better-is (some s) b less = rw (lt-ltb (planEnergy R (startsOf R v)) (planEnergy R s) (omega (arith, e-is, b.0, less)))
+      better_is none b less = refl
+      better_is (some s) b less = rw (lt-ltb (plan_energy R (starts_of R v)) (plan_energy R s) (omega (arith, e-is, b.0, less)))
 
-      better-not : (o : Option (List ℕ)) → Bests R l o → energyAt l ≤ e → better R o (startsOf R v) ≡ o
+      better_not : (o : Option (List ℕ)) → Bests R l o → energy_at l ≤ e → better R o (starts_of R v) ≡ o
       unfolding better Bests
-      better-not none b more = absurd (omega (arith, b, more, small))
-      better-not (some s) b more = rw (le-ltb (planEnergy R (startsOf R v)) (planEnergy R s) (omega (arith, e-is, b.0, more)))
+      better_not none b more = absurd (omega (arith, b, more, small))
+      better_not (some s) b more = rw (le-ltb (plan_energy R (starts_of R v)) (plan_energy R s) (omega (arith, e-is, b.0, more)))
 
-      best-taken : Bettered e l w → Tells R stop budget l v st → Bests R w (some (startsOf R v))
+      best_taken : Bettered e l w → Tells R stop budget l v st → Bests R w (some (starts_of R v))
       unfolding Bests
-      best-taken c t = (
+      best_taken c t = (
         c.energy ∙ e-is,
         omega (arith, c.energy, small),
-        length-starts R v.placed,
-        (λ j b. c.best j (omega (arith, b, valid.few-jobs)) ∙ t.path j b (none_left j)),
-        run-feasible R v.placed (full-run R valid v h),
+        length_starts R v.placed,
+        (λ j b. c.best j (omega (arith, b, valid.few_jobs)) ∙ t.path j b (none_left j)),
+        run_feasible R v.placed (full_run R valid v h),
       )
 
       -- The tally holds what the visit comes to.
-      holds-offered : Offered e l w → Tells R stop budget l v st → Holds R budget w (entered R stop 0 v st)
+      holds_offered : Offered e l w → Tells R stop budget l v st → Holds R budget w (entered R stop 0 v st)
       unfolding entered
-      holds-offered (taken less c) t =
-          rw (better-is st.best t.best less) (record { count = c.count ∙ t.count; best = best-taken c t; within = t.within })
-      holds-offered (kept more same) t =
-          rw (better-not st.best t.best more, same) (record { count = t.count; best = t.best; within = t.within })
+      holds_offered (taken less c) t =
+          rw (better_is st.best t.best less) (record { count = c.count ∙ t.count; best = best_taken c t; within = t.within })
+      holds_offered (kept more same) t =
+          rw (better_not st.best t.best more, same) (record { count = t.count; best = t.best; within = t.within })
 
       -- All else is as it was.
-      offered-path : Offered e l w → (j : ℕ) → j < 16 → start_at w j ≡ start_at l j
-      offered-path (kept more same) j b = ap (λ (x : List ℕ). start_at x j) same
-      offered-path (taken less c) j b = c.starts j b
+      offered_path : Offered e l w → (j : ℕ) → j < 16 → start_at w j ≡ start_at l j
+      offered_path (kept more same) j b = ap (λ (x : List ℕ). start_at x j) same
+      offered_path (taken less c) j b = c.starts j b
 
-      offered-stops : Offered e l w → (length l ≡ 35 → length w ≡ 35) × (stop_at w ≡ stop_at l)
-      offered-stops (kept more same) = ((λ q. ap length same ∙ q), ap stop_at same)
-      offered-stops (taken less c) = ((λ q. c.long), c.stops)
+      offered_stops : Offered e l w → (length l ≡ 35 → length w ≡ 35) × (stop_at w ≡ stop_at l)
+      offered_stops (kept more same) = ((λ q. ap length same ∙ q), ap stop_at same)
+      offered_stops (taken less c) = ((λ q. c.long), c.stops)
 
-      tells-offered : Offered e l w → stop ≡ false → Tells R stop budget l v st → Tells R stop budget w v (entered R stop 0 v st)
-      tells-offered o go t =
-          let k = holds-offered o t in
+      tells_offered : Offered e l w → stop ≡ false → Tells R stop budget l v st → Tells R stop budget w v (entered R stop 0 v st)
+      tells_offered o go t =
+          let k = holds_offered o t in
           record {
-            long = (offered-stops o).0 t.long;
-            stops = (offered-stops o).1 ∙ t.stops;
+            long = (offered_stops o).0 t.long;
+            stops = (offered_stops o).1 ∙ t.stops;
             count = k.count;
             best = k.best;
-            path = λ j b ne. offered-path o j (omega (arith, b, valid.few-jobs)) ∙ t.path j b ne;
+            path = λ j b ne. offered_path o j (omega (arith, b, valid.few_jobs)) ∙ t.path j b ne;
             within = k.within;
             going = λ q. absurd (true≢false (sym q ∙ go));
           }
 
       -- Where the visit stops there was no best, so that this is one.
-      offered-found : Offered e l w → energyAt l ≡ 4294967295 → energyAt w < 4294967295
-      offered-found (kept more same) n = absurd (omega (arith, more, small, n))
-      offered-found (taken less c) n = omega (arith, c.energy, small)
+      offered_found : Offered e l w → energy_at l ≡ 4294967295 → energy_at w < 4294967295
+      offered_found (kept more same) n = absurd (omega (arith, more, small, n))
+      offered_found (taken less c) n = omega (arith, c.energy, small)
 
-      came-cases : (b : Bool) → stop ≡ b → Offered e l w → Tells R stop budget l v st → Came R stop budget w v (entered R stop 0 v st) b
-      came-cases false q o t = done (tells-offered o q t)
-      came-cases true q o t = ended ((offered-stops o).1 ∙ t.stops) q (offered-found o (tells_none stop budget l v st t q)) (holds-offered o t)
+      came_cases : (b : Bool) → stop ≡ b → Offered e l w → Tells R stop budget l v st → Came R stop budget w v (entered R stop 0 v st) b
+      came_cases false q o t = done (tells_offered o q t)
+      came_cases true q o t = ended ((offered_stops o).1 ∙ t.stops) q (offered_found o (tells_none stop budget l v st t q)) (holds_offered o t)
 
       stop_is : (b : Bool) → stop ≡ b → stop_at w ≡ cond stop 1 0 → eqb (stop_at w) 1 ≡ b
       stop_is true q r = rw (r, q)
       stop_is false q r = rw (r, q)
 
       -- The call answers whether the visit stops.
-      pub came-offered : Offered e l w → (b : Bool) → b ≡ eqb (stop_at w) 1 → Tells R stop budget l v st → Came R stop budget w v (entered R stop 0 v st) b
-      came-offered o b is t = came-cases b (sym (is ∙ stop_is stop refl ((offered-stops o).1 ∙ t.stops))) o t
+      pub came_offered : Offered e l w → (b : Bool) → b ≡ eqb (stop_at w) 1 → Tells R stop budget l v st → Came R stop budget w v (entered R stop 0 v st) b
+      came_offered o b is t = came_cases b (sym (is ∙ stop_is stop refl ((offered_stops o).1 ∙ t.stops))) o t
 
-pub counted-less : (l x : List ℕ) → length l ≡ 35 → x ≡ set l 0 (countAt l + 1) → (length x ≡ 35) × (energyAt x ≡ energyAt l)
-counted-less l x h e = rw e (rw length-set h, get_or-set_other l 0 1 (countAt l + 1) 0 (λ (q : 1 ≡ 0). omega (arith, q)))
+pub counted_less : (l x : List ℕ) → length l ≡ 35 → x ≡ set l 0 (count_at l + 1) → (length x ≡ 35) × (energy_at x ≡ energy_at l)
+counted_less l x h e = rw e (rw length-set h, get_or-set_other l 0 1 (count_at l + 1) 0 (λ (q : 1 ≡ 0). omega (arith, q)))
 
-pub noted-less : (l x : List ℕ) (j y : ℕ) → length l ≡ 35 → x ≡ set l (2 + j) y → (length x ≡ 35) × (energyAt x ≡ energyAt l)
-noted-less l x j y h e = rw e (rw length-set h, get_or-set_other l (2 + j) 1 y 0 (λ (q : 1 ≡ 2 + j). omega (arith, q)))
+pub noted_less : (l x : List ℕ) (j y : ℕ) → length l ≡ 35 → x ≡ set l (2 + j) y → (length x ≡ 35) × (energy_at x ≡ energy_at l)
+noted_less l x j y h e = rw e (rw length-set h, get_or-set_other l (2 + j) 1 y 0 (λ (q : 1 ≡ 2 + j). omega (arith, q)))
 
-pub offered-less : (e : ℕ) (l w : List ℕ) → length l ≡ 35 → Offered e l w → (length w ≡ 35) × (energyAt w ≤ energyAt l)
-offered-less e l w h (kept more same) = (ap length same ∙ h, omega (arith, ap energyAt same))
-offered-less e l w h (taken less c) = (c.long, omega (arith, c.energy, less))
+pub offered_less : (e : ℕ) (l w : List ℕ) → length l ≡ 35 → Offered e l w → (length w ≡ 35) × (energy_at w ≤ energy_at l)
+offered_less e l w h (kept more same) = (ap length same ∙ h, omega (arith, ap energy_at same))
+offered_less e l w h (taken less c) = (c.long, omega (arith, c.energy, less))
 
 -- Nothing counted, and no best.
 pub begun :
     (l : List ℕ) (x : ℕ) → length l ≡ 35 → let w = set (set (set l 0 0) 1 4294967295) 34 x in
-    (length w ≡ 35) × ((countAt w ≡ 0) × ((energyAt w ≡ 4294967295) × (stop_at w ≡ x)))
+    (length w ≡ 35) × ((count_at w ≡ 0) × ((energy_at w ≡ 4294967295) × (stop_at w ≡ x)))
 begun l x h =
     let a = set l 0 0 in
     let b = set a 1 4294967295 in

@@ -1,11 +1,11 @@
 // From which start on the cuts drop every child that places a job: by cut A or its deadline at first (rule 43), then by cut B (rule 45).
 ghost use Rattle.std.specs.Prelude.{◌≡◌, ◌⊎◌, ℕ, suc, ◌+◌, ◌-◌, ◌<◌, ◌≤◌, min, length};
 ghost use Rattle.schedule.specs.Quantities.{Valid, deadline, run};
-ghost use Rattle.flat.specs.inside.Flat.{recorderOf};
+ghost use Rattle.flat.specs.inside.Flat.{recorder_of};
 ghost use Rattle.extras.specs.inside.Tabled.{Tabled};
-ghost use Rattle.vertex.specs.inside.Shown.{loadAt, leadsBy, Ordered};
-ghost use Rattle.vertex.specs.inside.Sums.{limitFor};
-ghost use Rattle.visit.specs.inside.Lent.{countAt, Added};
+ghost use Rattle.vertex.specs.inside.Shown.{load_at, leads_by, Ordered};
+ghost use Rattle.vertex.specs.inside.Sums.{limit_for};
+ghost use Rattle.visit.specs.inside.Lent.{count_at, Added};
 
 use crate::tally::{Tally, add_count};
 use base::{JobNumber, lessened, smaller, wide};
@@ -16,8 +16,8 @@ use vertex::gaps::least_of;
 
 // Up to which start of job j, it not included, children need be looked at one by one: from there on cut A drops them, or the job misses its deadline.
 pub fn first_cut(r: &Flat, v: &Cells, dues: Dues, j: JobNumber) -> u32
-    requires { Valid (recorderOf r.now) × ((j.0 < 16) × ((run (recorderOf r.now) j.0 ≤ loadAt v.now) × (loadAt v.now ≤ (recorderOf r.now).horizon))) }
-    ensures { result ≡ min (limitFor (recorderOf r.now).horizon (loadAt v.now - run (recorderOf r.now) j.0) dues j.0) (deadline (recorderOf r.now) j.0) + 1 - run (recorderOf r.now) j.0 }
+    requires { Valid (recorder_of r.now) × ((j.0 < 16) × ((run (recorder_of r.now) j.0 ≤ load_at v.now) × (load_at v.now ≤ (recorder_of r.now).horizon))) }
+    ensures { result ≡ min (limit_for (recorder_of r.now).horizon (load_at v.now - run (recorder_of r.now) j.0) dues j.0) (deadline (recorder_of r.now) j.0) + 1 - run (recorder_of r.now) j.0 }
 {
     let c = wide(run_of(r, j.0));
     let limit = limit_of(dues, wide(horizon_of(r)), v[LOAD] - c, j);
@@ -37,8 +37,8 @@ pub fn cut_at(
     j: usize,
     s: u32,
 ) -> u32
-    requires { Tabled (recorderOf r.now) extras.now × ((from ≤ 2147450880) × ((j < 16) × Ordered (recorderOf r.now) v.now s)) }
-    ensures { (result ≡ cut) ⊎ ((result ≡ s) × ((t : ℕ) → s ≤ t → t ≤ (recorderOf r.now).horizon → best ≤ from + leadsBy (recorderOf r.now) v.now j t)) }
+    requires { Tabled (recorder_of r.now) extras.now × ((from ≤ 2147450880) × ((j < 16) × Ordered (recorder_of r.now) v.now s)) }
+    ensures { (result ≡ cut) ⊎ ((result ≡ s) × ((t : ℕ) → s ≤ t → t ≤ (recorder_of r.now).horizon → best ≤ from + leads_by (recorder_of r.now) v.now j t)) }
 {
     if best <= floor {
         let least = from + least_of(r, extras, v, j, s);
@@ -51,8 +51,8 @@ pub fn cut_at(
 
 // The starts of job j from `start` on, at which every child is dropped: they are counted at once. Answers whether the budget does not have them.
 pub fn drops(r: &Flat, tally: &mut Tally, budget: u32, j: JobNumber, start: u32) -> bool
-    requires { (j.0 < 16) × ((start ≤ 65536) × ((length tally.old ≡ 35) × (countAt tally.old ≤ budget))) }
-    ensures { Added budget (suc (deadline (recorderOf r.now) j.0) - (start + run (recorderOf r.now) j.0)) tally.old tally.new result }
+    requires { (j.0 < 16) × ((start ≤ 65536) × ((length tally.old ≡ 35) × (count_at tally.old ≤ budget))) }
+    ensures { Added budget (suc (deadline (recorder_of r.now) j.0) - (start + run (recorder_of r.now) j.0)) tally.old tally.new result }
 {
     let c = wide(run_of(r, j.0));
     let d = wide(deadline_of(r, j.0));

@@ -4,8 +4,8 @@ ghost use Rattle.base.specs.Lists.{up_to};
 ghost use Rattle.schedule.specs.Quantities.{Valid};
 ghost use Rattle.schedule.specs.Visiting.{visited};
 ghost use Rattle.extras.specs.inside.Tabled.{Room};
-ghost use Rattle.visit.specs.inside.Stops.{visitedBy};
-ghost use Rattle.visit.specs.inside.Lent.{bestAt, Finds, KeptWithin};
+ghost use Rattle.visit.specs.inside.Stops.{visited_by};
+ghost use Rattle.visit.specs.inside.Lent.{best_at, Finds, KeptWithin};
 
 use crate::stages::laid_visit;
 use crate::tally::{BEST, COUNT, ENERGY, NONE, Tally};
@@ -27,8 +27,8 @@ pub struct Found {
 
 // Writes the first n starts of the best into the lent list.
 fn write_starts(tally: &Tally, n: usize, out: &mut [u16])
-    requires { (n ≤ 16) × ((n ≤ length out.old) × ((j : ℕ) → j < n → bestAt tally.now j < 65536)) }
-    ensures { out.new ≡ up_to (bestAt tally.now) n ++ drop n out.old }
+    requires { (n ≤ 16) × ((n ≤ length out.old) × ((j : ℕ) → j < n → best_at tally.now j < 65536)) }
+    ensures { out.new ≡ up_to (best_at tally.now) n ++ drop n out.old }
 {
     let mut j = 0;
     while j < n {
@@ -49,7 +49,7 @@ fn found_by(
     out: &mut [u16],
 ) -> Found
     requires { Valid r × Room r extras.old }
-    ensures finds { Finds r (visitedBy r stop) budget out.old result out.new }
+    ensures finds { Finds r (visited_by r stop) budget out.old result out.new }
     ensures within { KeptWithin result.count memory.old memory.new }
 {
     let jobs = r.jobs;
@@ -120,7 +120,7 @@ pub fn search_in(r: Recorder, budget: u32, memory: &mut [u64], out: &mut [u16]) 
 // The first of all schedules of a recorder that has no device: nothing costs anything, and the table holds no extras.
 pub fn first(r: Recorder, budget: u32, out: &mut [u16]) -> Found
     requires { Valid r × (r.devices.count ≡ 0) }
-    ensures { Finds r (visitedBy r true) budget out.old result out.new }
+    ensures { Finds r (visited_by r true) budget out.old result out.new }
 {
     let mut none = [0u64; 1];
     let mut extras = [0u32; 208];

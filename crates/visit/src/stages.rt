@@ -1,9 +1,9 @@
 // The whole visit, and what it is lent: the table of extras, and a memory, where a few vertices do not suffice.
 ghost use Rattle.std.specs.Prelude.{◌≡◌, min, length};
 ghost use Rattle.schedule.specs.Quantities.{Valid};
-ghost use Rattle.flat.specs.inside.Flat.{recorderOf};
+ghost use Rattle.flat.specs.inside.Flat.{recorder_of};
 ghost use Rattle.extras.specs.inside.Tabled.{Room, Tabled};
-ghost use Rattle.visit.specs.inside.Stops.{visitedBy};
+ghost use Rattle.visit.specs.inside.Stops.{visited_by};
 ghost use Rattle.visit.specs.inside.Lent.{Lends, Ran, KeptWithin};
 
 use crate::tally::{Tally, begin, is_over};
@@ -25,8 +25,8 @@ fn whole_visit(
     stop: bool,
     budget: u32,
 ) -> bool
-    requires { Lends (recorderOf r.now) extras.now memory.old × (length tally.old ≡ 35) }
-    ensures { (length tally.new ≡ 35) × Ran (recorderOf r.now) stop budget tally.new result }
+    requires { Lends (recorder_of r.now) extras.now memory.old × (length tally.old ≡ 35) }
+    ensures { (length tally.new ≡ 35) × Ran (recorder_of r.now) stop budget tally.new result }
 {
     begin(tally, stop);
     let ended = root_visit(r, extras, memory, tally, budget);
@@ -42,8 +42,8 @@ fn lent_visit(
     stop: bool,
     budget: u32,
 ) -> bool
-    requires { Tabled (recorderOf r.now) extras.now × (length tally.old ≡ 35) }
-    ensures { Ran (recorderOf r.now) stop budget tally.new result }
+    requires { Tabled (recorder_of r.now) extras.now × (length tally.old ≡ 35) }
+    ensures { Ran (recorder_of r.now) stop budget tally.new result }
 {
     clear(memory);
     whole_visit(r, extras, memory, tally, stop, budget)
@@ -51,8 +51,8 @@ fn lent_visit(
 
 // The same with a memory of its own, of 2,048 entries of six words.
 fn own_visit(r: &Flat, extras: &[u32], tally: &mut Tally, stop: bool, budget: u32) -> bool
-    requires { Tabled (recorderOf r.now) extras.now × (length tally.old ≡ 35) }
-    ensures { Ran (recorderOf r.now) stop budget tally.new result }
+    requires { Tabled (recorder_of r.now) extras.now × (length tally.old ≡ 35) }
+    ensures { Ran (recorder_of r.now) stop budget tally.new result }
 {
     let mut memory = [0u64; 12288];
     whole_visit(r, extras, &mut memory, tally, stop, budget)
@@ -60,8 +60,8 @@ fn own_visit(r: &Flat, extras: &[u32], tally: &mut Tally, stop: bool, budget: u3
 
 // The same without one, under a budget of few vertices.
 fn few_visit(r: &Flat, extras: &[u32], tally: &mut Tally, stop: bool, budget: u32) -> bool
-    requires { Tabled (recorderOf r.now) extras.now × (length tally.old ≡ 35) }
-    ensures { (length tally.new ≡ 35) × Ran (recorderOf r.now) stop (min budget 256) tally.new result }
+    requires { Tabled (recorder_of r.now) extras.now × (length tally.old ≡ 35) }
+    ensures { (length tally.new ≡ 35) × Ran (recorder_of r.now) stop (min budget 256) tally.new result }
 {
     let mut none = [0u64; 1];
     whole_visit(r, extras, &mut none, tally, stop, smaller(budget, FEW))
@@ -78,9 +78,9 @@ fn staged_visit(
     stop: bool,
     budget: u32,
 ) -> bool
-    requires { Tabled (recorderOf r.now) extras.now × (length tally.old ≡ 35) }
-    ensures ran { Ran (recorderOf r.now) stop budget tally.new result }
-    ensures within { KeptWithin (min budget (visitedBy (recorderOf r.now) stop).count) memory.old memory.new }
+    requires { Tabled (recorder_of r.now) extras.now × (length tally.old ≡ 35) }
+    ensures ran { Ran (recorder_of r.now) stop budget tally.new result }
+    ensures within { KeptWithin (min budget (visited_by (recorder_of r.now) stop).count) memory.old memory.new }
 {
     if !few_visit(r, extras, tally, stop, budget) {
         return false;
@@ -104,9 +104,9 @@ pub fn laid_visit(
     stop: bool,
     budget: u32,
 ) -> bool
-    requires { Valid (recorderOf r.now) × (Room (recorderOf r.now) extras.old × (length tally.old ≡ 35)) }
-    ensures ran { Ran (recorderOf r.now) stop budget tally.new result }
-    ensures within { KeptWithin (min budget (visitedBy (recorderOf r.now) stop).count) memory.old memory.new }
+    requires { Valid (recorder_of r.now) × (Room (recorder_of r.now) extras.old × (length tally.old ≡ 35)) }
+    ensures ran { Ran (recorder_of r.now) stop budget tally.new result }
+    ensures within { KeptWithin (min budget (visited_by (recorder_of r.now) stop).count) memory.old memory.new }
 {
     lay_extras(r, extras);
     staged_visit(r, extras, memory, own, tally, stop, budget)

@@ -1,6 +1,6 @@
 // The lent tally: the vertices counted, the best so far, the starts of the jobs that are placed, and where the visit stops.
 ghost use Rattle.std.specs.Prelude.{◌≡◌, true, cond, ◌+◌, ◌<◌, ◌≤◌, eqb, set, length};
-ghost use Rattle.visit.specs.inside.Lent.{countAt, energyAt, stop_at, Added, Over};
+ghost use Rattle.visit.specs.inside.Lent.{count_at, energy_at, stop_at, Added, Over};
 ghost use Rattle.visit.specs.inside.Offers.{Offered};
 
 pub type Tally = [u32; 35];
@@ -24,7 +24,7 @@ pub const NONE: u32 = 4294967295;
 // Nothing is counted, and there is no best.
 pub fn begin(tally: &mut Tally, stop: bool)
     requires { length tally.old ≡ 35 }
-    ensures { (length tally.new ≡ 35) × ((countAt tally.new ≡ 0) × ((energyAt tally.new ≡ 4294967295) × (stop_at tally.new ≡ cond stop 1 0))) }
+    ensures { (length tally.new ≡ 35) × ((count_at tally.new ≡ 0) × ((energy_at tally.new ≡ 4294967295) × (stop_at tally.new ≡ cond stop 1 0))) }
 {
     tally[COUNT] = 0;
     tally[ENERGY] = NONE;
@@ -33,15 +33,15 @@ pub fn begin(tally: &mut Tally, stop: bool)
 
 // One vertex more.
 pub fn count_one(tally: &mut Tally)
-    requires { (length tally.old ≡ 35) × (countAt tally.old < 4294967295) }
-    ensures { tally.new ≡ set tally.old 0 (countAt tally.old + 1) }
+    requires { (length tally.old ≡ 35) × (count_at tally.old < 4294967295) }
+    ensures { tally.new ≡ set tally.old 0 (count_at tally.old + 1) }
 {
     tally[COUNT] += 1;
 }
 
 // So many vertices more, if the budget has them. Answers whether it has not.
 pub fn add_count(tally: &mut Tally, budget: u32, n: u32) -> bool
-    requires { (length tally.old ≡ 35) × (countAt tally.old ≤ budget) }
+    requires { (length tally.old ≡ 35) × (count_at tally.old ≤ budget) }
     ensures { Added budget n tally.old tally.new result }
 {
     if budget - tally[COUNT] < n {

@@ -3,13 +3,13 @@
 ghost use Rattle.std.specs.Prelude.{◌≡◌, Bool, true, false, cond, ◌^◌, ◌<◌, length};
 ghost use Rattle.schedule.specs.Quantities.{jobs};
 ghost use Rattle.schedule.specs.Visiting as order;
-ghost use Rattle.flat.specs.inside.Flat.{recorderOf};
+ghost use Rattle.flat.specs.inside.Flat.{recorder_of};
 ghost use Rattle.latest.specs.inside.Sets.{has};
 ghost use Rattle.extras.specs.inside.Tabled.{cap_at};
 ghost use Rattle.vertex.specs.inside.Lasts.{TwoLeast};
 ghost use Rattle.recall.specs.inside.Asks.{Asks};
-ghost use Rattle.visit.specs.inside.Stops.{visitedBy};
-ghost use Rattle.visit.specs.inside.Lent.{Leaves, StandsAt, VisitCame, EnterCame, ChoicesCame, StartsCame, countAt, energyAt, stop_at, slackBy, Lends, Came, Tries, Enters, Some};
+ghost use Rattle.visit.specs.inside.Stops.{visited_by};
+ghost use Rattle.visit.specs.inside.Lent.{Leaves, StandsAt, VisitCame, EnterCame, ChoicesCame, StartsCame, count_at, energy_at, stop_at, slack_by, Lends, Came, Tries, Enters, Some};
 
 use crate::cuts::{cut_at, drops, first_cut};
 use crate::tally::{COUNT, ENERGY, NONE, Tally, add_count, count_one, note, offer, stops};
@@ -42,7 +42,7 @@ fn is_many(set: usize, words: usize) -> bool {
 // By how much the best lies above a floor; 0 where there is no best.
 fn slack_of(best: u32, floor: u32) -> u32
     requires { floor < best }
-    ensures { result ≡ slackBy best floor }
+    ensures { result ≡ slack_by best floor }
 {
     if best == NONE { 0 } else { best - floor }
 }
@@ -75,9 +75,9 @@ fn visit(
     j: JobNumber,
     s: u32,
 ) -> bool
-    requires { Lends (recorderOf r.now) extras.now memory.old × ((p ≡ 2 ^ j.0) × Some (recorderOf r.now) budget tally.old (Tries (recorderOf r.now) v.now (energyAt tally.old) set from cut floor j.0 s)) }
-    ensures kept { Leaves (recorderOf r.now) extras.now memory.new tally.old tally.new }
-    ensures came { VisitCame (recorderOf r.now) budget v.now tally.old tally.new result set from cut floor j.0 s }
+    requires { Lends (recorder_of r.now) extras.now memory.old × ((p ≡ 2 ^ j.0) × Some (recorder_of r.now) budget tally.old (Tries (recorder_of r.now) v.now (energy_at tally.old) set from cut floor j.0 s)) }
+    ensures kept { Leaves (recorder_of r.now) extras.now memory.new tally.old tally.new }
+    ensures came { VisitCame (recorder_of r.now) budget v.now tally.old tally.new result set from cut floor j.0 s }
 {
     if tally[COUNT] == budget {
         return true;
@@ -106,9 +106,9 @@ fn enter(
     j: JobNumber,
     s: u32,
 ) -> bool
-    requires { Lends (recorderOf r.now) extras.now memory.old × ((floor < energyAt tally.old) × Some (recorderOf r.now) budget tally.old (Enters (recorderOf r.now) v.now left floor j.0 s)) }
-    ensures kept { Leaves (recorderOf r.now) extras.now memory.new tally.old tally.new }
-    ensures came { EnterCame (recorderOf r.now) budget v.now tally.old tally.new result left floor j.0 s }
+    requires { Lends (recorder_of r.now) extras.now memory.old × ((floor < energy_at tally.old) × Some (recorder_of r.now) budget tally.old (Enters (recorder_of r.now) v.now left floor j.0 s)) }
+    ensures kept { Leaves (recorder_of r.now) extras.now memory.new tally.old tally.new }
+    ensures came { EnterCame (recorder_of r.now) budget v.now tally.old tally.new result left floor j.0 s }
 {
     note(tally, j.0, s);
     if left == 0 {
@@ -135,9 +135,9 @@ fn below(
     from: u32,
     time: u32,
 ) -> bool
-    requires { Lends (recorderOf r.now) extras.now memory.old × ((from < energyAt tally.old) × Some (recorderOf r.now) budget tally.old (StandsAt (recorderOf r.now) v.now set from time)) }
-    ensures kept { Leaves (recorderOf r.now) extras.now memory.new tally.old tally.new }
-    ensures came { ChoicesCame (recorderOf r.now) budget v.now tally.old tally.new result set from time }
+    requires { Lends (recorder_of r.now) extras.now memory.old × ((from < energy_at tally.old) × Some (recorder_of r.now) budget tally.old (StandsAt (recorder_of r.now) v.now set from time)) }
+    ensures kept { Leaves (recorder_of r.now) extras.now memory.new tally.old tally.new }
+    ensures came { ChoicesCame (recorder_of r.now) budget v.now tally.old tally.new result set from time }
 {
     if !is_many(set, memory.len()) {
         return choices(r, extras, memory, v, tally, budget, set, from, time);
@@ -164,9 +164,9 @@ fn learn(
     time: u32,
     asked: Asked,
 ) -> bool
-    requires { Lends (recorderOf r.now) extras.now memory.old × ((from < energyAt tally.old) × (Asks (recorderOf r.now) (cap_at extras.now) v.now set time (slackBy (energyAt tally.old) from) asked × Some (recorderOf r.now) budget tally.old (StandsAt (recorderOf r.now) v.now set from time))) }
-    ensures kept { Leaves (recorderOf r.now) extras.now memory.new tally.old tally.new }
-    ensures came { ChoicesCame (recorderOf r.now) budget v.now tally.old tally.new result set from time }
+    requires { Lends (recorder_of r.now) extras.now memory.old × ((from < energy_at tally.old) × (Asks (recorder_of r.now) (cap_at extras.now) v.now set time (slack_by (energy_at tally.old) from) asked × Some (recorder_of r.now) budget tally.old (StandsAt (recorder_of r.now) v.now set from time))) }
+    ensures kept { Leaves (recorder_of r.now) extras.now memory.new tally.old tally.new }
+    ensures came { ChoicesCame (recorder_of r.now) budget v.now tally.old tally.new result set from time }
 {
     let before = tally[COUNT];
     let best = tally[ENERGY];
@@ -190,9 +190,9 @@ fn choices(
     from: u32,
     time: u32,
 ) -> bool
-    requires { Lends (recorderOf r.now) extras.now memory.old × Some (recorderOf r.now) budget tally.old (StandsAt (recorderOf r.now) v.now set from time) }
-    ensures kept { Leaves (recorderOf r.now) extras.now memory.new tally.old tally.new }
-    ensures came { ChoicesCame (recorderOf r.now) budget v.now tally.old tally.new result set from time }
+    requires { Lends (recorder_of r.now) extras.now memory.old × Some (recorder_of r.now) budget tally.old (StandsAt (recorder_of r.now) v.now set from time) }
+    ensures kept { Leaves (recorder_of r.now) extras.now memory.new tally.old tally.new }
+    ensures came { ChoicesCame (recorder_of r.now) budget v.now tally.old tally.new result set from time }
 {
     let n = job_count(r);
     let dues = dues_in(r, extras, set);
@@ -241,9 +241,9 @@ fn tries(
     dues: Dues,
     j: JobNumber,
 ) -> bool
-    requires { Lends (recorderOf r.now) extras.now memory.old × ((j.0 < jobs (recorderOf r.now)) × ((has set j.0 ≡ true) × ((p ≡ 2 ^ j.0) × (TwoLeast (recorderOf r.now) set (jobs (recorderOf r.now)) dues × Some (recorderOf r.now) budget tally.old (StandsAt (recorderOf r.now) v.now set from time))))) }
-    ensures kept { Leaves (recorderOf r.now) extras.now memory.new tally.old tally.new }
-    ensures came { StartsCame (recorderOf r.now) budget v.now tally.old tally.new result set from time j.0 }
+    requires { Lends (recorder_of r.now) extras.now memory.old × ((j.0 < jobs (recorder_of r.now)) × ((has set j.0 ≡ true) × ((p ≡ 2 ^ j.0) × (TwoLeast (recorder_of r.now) set (jobs (recorder_of r.now)) dues × Some (recorder_of r.now) budget tally.old (StandsAt (recorder_of r.now) v.now set from time))))) }
+    ensures kept { Leaves (recorder_of r.now) extras.now memory.new tally.old tally.new }
+    ensures came { StartsCame (recorder_of r.now) budget v.now tally.old tally.new result set from time j.0 }
 {
     let mut cut = first_cut(r, v, dues, j);
     let mut s = larger(time, wide(release_of(r, j.0)));
@@ -268,8 +268,8 @@ pub fn root_visit(
     tally: &mut Tally,
     budget: u32,
 ) -> bool
-    requires { Lends (recorderOf r.now) extras.now memory.old × ((length tally.old ≡ 35) × ((countAt tally.old ≡ 0) × ((energyAt tally.old ≡ 4294967295) × ((stop : Bool) × (stop_at tally.old ≡ cond stop 1 0))))) }
-    ensures { (length tally.new ≡ 35) × ((stop : Bool) → stop_at tally.old ≡ cond stop 1 0 → Came (recorderOf r.now) stop budget tally.new (order.root (recorderOf r.now)) (visitedBy (recorderOf r.now) stop) result) }
+    requires { Lends (recorder_of r.now) extras.now memory.old × ((length tally.old ≡ 35) × ((count_at tally.old ≡ 0) × ((energy_at tally.old ≡ 4294967295) × ((stop : Bool) × (stop_at tally.old ≡ cond stop 1 0))))) }
+    ensures { (length tally.new ≡ 35) × ((stop : Bool) → stop_at tally.old ≡ cond stop 1 0 → Came (recorder_of r.now) stop budget tally.new (order.root (recorder_of r.now)) (visited_by (recorder_of r.now) stop) result) }
 {
     if budget == 0 {
         return true;

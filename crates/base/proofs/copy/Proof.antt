@@ -6,7 +6,7 @@ use Prim.Native.Nat.{◌≤◌, ◌-◌}
 use native.Mathlib.Omega.{arith}
 use lib.ListN.{length, take, drop}
 use lib.Seq.{take_all}
-use Rattle.base.proofs.Copying.{copied_more, copied-length}
+use Rattle.base.proofs.Copying.{copied_more, copied_length}
 use Rattle.base.proofs.copy.Statement.{statement}
 use Rattle.base.proofs.copy.Tie as tie
 
@@ -23,7 +23,7 @@ slice-write-out : tie.Need-slice-write-out invariant-loop decreases-loop
 slice-write-out c =
     let l = c.before.before.loop in
     let a = c.before.before.before.args in
-    omega (arith, ap length l.invariant.1, copied-length a.s.now a.out.now l.i l.invariant.0 c.before.before.before.requires)
+    omega (arith, ap length l.invariant.1, copied_length a.s.now a.out.now l.i l.invariant.0 c.before.before.before.requires)
 
 loop-again : tie.Need-loop-preserved invariant-loop decreases-loop
 loop-again c =
@@ -35,7 +35,7 @@ same_length : tie.Need-same-length invariant-loop decreases-loop
 same_length c =
     let l = c.before.loop in
     let a = c.before.before.args in
-    rw l.invariant.1 (copied-length a.s.now a.out.now l.i l.invariant.0 c.before.before.requires)
+    rw l.invariant.1 (copied_length a.s.now a.out.now l.i l.invariant.0 c.before.before.requires)
 
 returns : tie.Need-returns invariant-loop decreases-loop
 returns c =

@@ -1,15 +1,15 @@
 -- `calls::floe_check` meets its contract.
 use Rattle.planner.specs.Promises.{CheckOf}
-use Rattle.calls.proofs.Crossing.{cramped-call, roomy-call}
+use Rattle.calls.proofs.Crossing.{cramped_call, roomy_call}
 use borrow.Author.Rules.{rules}
 use Rattle.calls.proofs.floe_check.Statement.{statement}
 use Rattle.calls.proofs.floe_check.Tie as tie
 
 returns : tie.Need-returns
-returns c = cramped-call _ _ tt (λ R a u. CheckOf R a) c.before.if1.true c.cramped.ensures
+returns c = cramped_call _ _ tt (λ R a u. CheckOf R a) c.before.if1.true c.cramped.ensures
 
 returns-2 : tie.Need-returns-2
-returns-2 c = let told = c.before.before.tell.ensures in rw (told.0, told.1) (roomy-call _ _ tt (λ R a u. CheckOf R a) c.before.before.before.before.before.if1.false c.before.before.before.before.check.ensures)
+returns-2 c = let told = c.before.before.tell.ensures in rw (told.0, told.1) (roomy_call _ _ tt (λ R a u. CheckOf R a) c.before.before.before.before.before.if1.false c.before.before.before.before.check.ensures)
 
 pub floe-check-spec : {M : Type 1} → statement M
 floe-check-spec =

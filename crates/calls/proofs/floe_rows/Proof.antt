@@ -2,24 +2,24 @@
 use native.Mathlib.Omega.{arith}
 use Prim.Native.Nat.{◌≤◌}
 use Rattle.schedule.specs.Quantities.{jobs}
-use Rattle.request.proofs.Accepted.{read-accepted, read-refused, accepted-valid}
+use Rattle.request.proofs.Accepted.{read_accepted, read_refused, accepted_valid}
 use Rattle.planner.specs.Promises as P
 use Rattle.planner.specs.Promises.{Reads}
 use Rattle.calls.specs.Calls as Calls
-use Rattle.calls.proofs.Crossing.{rows-cramped}
+use Rattle.calls.proofs.Crossing.{rows_cramped}
 use borrow.Author.Rules.{rules}
 use Rattle.calls.proofs.floe_rows.Statement.{statement}
 use Rattle.calls.proofs.floe_rows.Tie as tie
 
 -- The file is read as the recorder, which has at most 16 jobs.
 recorded : (c : tie.Else1) → Reads c.before.before.before.before.before.before.before.args.file.now c.before.before.read.result.recorder
-recorded c = read-accepted _ _ c.before.before.read.ensures c.if1.false
+recorded c = read_accepted _ _ c.before.before.read.ensures c.if1.false
 
 few : (c : tie.Else1) → jobs c.before.before.read.result.recorder ≤ 16
-few c = (accepted-valid _ _ (recorded c)).few-jobs
+few c = (accepted_valid _ _ (recorded c)).few_jobs
 
 returns : tie.Need-returns
-returns c = let told = c.before.before.tell.ensures in rw (told.0, told.1, c.before.before.before.before.refusal.ensures) (Calls.called (P.OfFile.refused (read-refused _ _ c.before.before.before.before.before.before.before.read.ensures c.before.before.before.before.before.if1.true)))
+returns c = let told = c.before.before.tell.ensures in rw (told.0, told.1, c.before.before.before.before.refusal.ensures) (Calls.called (P.OfFile.refused (read_refused _ _ c.before.before.before.before.before.before.before.read.ensures c.before.before.before.before.before.if1.true)))
 
 mul-if2 : tie.Need-overflow-mul-if2
 mul-if2 c = omega (arith, few c)
@@ -28,10 +28,10 @@ returns-2 : tie.Need-returns-2
 returns-2 c = let told = c.before.before.tell2.ensures in rw (told.0, told.1, c.before.before.before.before.refusal2.ensures) (Calls.called (P.OfFile.read (recorded c.before.before.before.before.before.before) (P.stops c.before.before.before.before.before.if2.true)))
 
 returns-3 : tie.Need-returns-3
-returns-3 c = let a = c.before.before.before.before.before.before.before.before.before.args in rows-cramped a.file.now a.starts.now a.out.now a.result.now (recorded c.before.before) c.before.if2.false c.if3.true
+returns-3 c = let a = c.before.before.before.before.before.before.before.before.before.args in rows_cramped a.file.now a.starts.now a.out.now a.result.now (recorded c.before.before) c.before.if2.false c.if3.true
 
 rows-bytes-requires : tie.Need-rows-bytes-requires
-rows-bytes-requires c κs = (accepted-valid _ _ (recorded c.before.before.before), c.before.before.if2.false)
+rows-bytes-requires c κs = (accepted_valid _ _ (recorded c.before.before.before), c.before.before.if2.false)
 
 returns-4 : tie.Need-returns-4
 returns-4 c =

@@ -1,16 +1,16 @@
 -- `calls::floe_search` meets its contract.
 use Rattle.planner.specs.Promises.{SearchOf}
 use Rattle.calls.specs.Calls.{StartsOf}
-use Rattle.calls.proofs.Crossing.{cramped-call, roomy-call}
+use Rattle.calls.proofs.Crossing.{cramped_call, roomy_call}
 use borrow.Author.Rules.{rules}
 use Rattle.calls.proofs.floe_search.Statement.{statement}
 use Rattle.calls.proofs.floe_search.Tie as tie
 
 returns : tie.Need-returns
-returns c = let s = c.before.before.before.before.before.args in cramped-call _ _ s.starts.now (StartsOf (SearchOf s.budget) s.starts.now) c.before.if1.true c.cramped.ensures
+returns c = let s = c.before.before.before.before.before.args in cramped_call _ _ s.starts.now (StartsOf (SearchOf s.budget) s.starts.now) c.before.if1.true c.cramped.ensures
 
 returns-2 : tie.Need-returns-2
-returns-2 c = let s = c.before.before.before.before.before.before.before.before.before.before.before.before.before.before.args in let told = c.before.before.tell.ensures in rw (told.0, told.1) (roomy-call _ _ s.starts.now (StartsOf (SearchOf s.budget) s.starts.now) c.before.before.before.before.before.before.before.before.before.before.if1.false c.before.before.before.before.before.before.before.search-bytes.ensures.0)
+returns-2 c = let s = c.before.before.before.before.before.before.before.before.before.before.before.before.before.before.args in let told = c.before.before.tell.ensures in rw (told.0, told.1) (roomy_call _ _ s.starts.now (StartsOf (SearchOf s.budget) s.starts.now) c.before.before.before.before.before.before.before.before.before.before.if1.false c.before.before.before.before.before.before.before.search-bytes.ensures.0)
 
 pub floe-search-spec : {M : Type 1} → statement M
 floe-search-spec =

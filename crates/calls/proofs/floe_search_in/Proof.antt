@@ -3,7 +3,7 @@ use Prim.Native.Nat.{◌<◌}
 use Rattle.planner.specs.declared.Answer.{Answer}
 use Rattle.planner.specs.Promises.{SearchOf}
 use Rattle.calls.specs.Calls.{StartsOf}
-use Rattle.calls.proofs.Crossing.{cramped-call-in, roomy-call-in}
+use Rattle.calls.proofs.Crossing.{cramped_call_in, roomy_call_in}
 use borrow.Author.Rules.{rules}
 use Rattle.calls.proofs.floe_search_in.Statement.{statement}
 use Rattle.calls.proofs.floe_search_in.Tie as tie
@@ -14,7 +14,7 @@ Many a = 256 < a.count
 returns : tie.Need-returns
 returns c =
     let s = c.before.before.before.before.before.before.args in
-    cramped-call-in Many _ _ _ s.starts.now (StartsOf (SearchOf s.budget) s.starts.now) c.before.if1.true c.cramped.ensures
+    cramped_call_in Many _ _ _ s.starts.now (StartsOf (SearchOf s.budget) s.starts.now) c.before.if1.true c.cramped.ensures
 
 returns-2 : tie.Need-returns-2
 returns-2 c =
@@ -22,7 +22,7 @@ returns-2 c =
     let s = f.before.before.before.before.before.before.before.before.args in
     let told = c.before.before.tell.ensures in
     rw (told.0, told.1)
-    (roomy-call-in Many _ _ _ s.starts.now (StartsOf (SearchOf s.budget) s.starts.now) f.before.before.before.if1.false f.search-bytes.ensures.0 f.search-bytes.ensures.1)
+    (roomy_call_in Many _ _ _ s.starts.now (StartsOf (SearchOf s.budget) s.starts.now) f.before.before.before.if1.false f.search-bytes.ensures.0 f.search-bytes.ensures.1)
 
 pub floe-search-in-spec : {M : Type 1} → statement M
 floe-search-in-spec =

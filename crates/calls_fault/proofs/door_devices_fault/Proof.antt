@@ -10,7 +10,7 @@ returns c = closed c.if1.true
 returns-2 : tie.Need-returns-2
 returns-2 c =
     let it = c.before.before.tell-counted.ensures in
-    rw (it.0, it.1) (counted c.before.before.before.before.before.if1.false c.before.before.before.before.devices-fault.ensures)
+    rw (it.0, it.1) (counted c.before.before.before.before.before.if1.false c.before.before.before.before.devices_fault.ensures)
 
 pub door-devices-fault-spec : {M : Type 1} → statement M
 door-devices-fault-spec =

@@ -9,12 +9,12 @@ use Rattle.calls_fault.proofs.floe_fault.Statement.{statement}
 use Rattle.calls_fault.proofs.floe_fault.Tie as tie
 
 -- A result buffer without room.
-cramped-call : (file result : List ℕ) {n : ℕ} → length result < 18 → Cramped file n → FaultCalled file result n result
-cramped-call file result h (Cramped.refused r) = cramped h r
-cramped-call file result h (Cramped.read r) = short h r
+cramped_call : (file result : List ℕ) {n : ℕ} → length result < 18 → Cramped file n → FaultCalled file result n result
+cramped_call file result h (Cramped.refused r) = cramped h r
+cramped_call file result h (Cramped.read r) = short h r
 
 returns : tie.Need-returns
-returns c = cramped-call _ _ c.before.if1.true c.cramped.ensures
+returns c = cramped_call _ _ c.before.if1.true c.cramped.ensures
 
 returns-2 : tie.Need-returns-2
 returns-2 c =

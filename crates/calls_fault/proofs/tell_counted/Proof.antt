@@ -2,9 +2,9 @@
 use borrow.Author.Rules.{rules}
 use mathlib.Core.Path.{refl, sym}
 use lib.Seq.{length-take-le}
-use Rattle.base.proofs.Filling.{filled-first}
+use Rattle.base.proofs.Filling.{filled_first}
 use Rattle.calls.specs.Bytes.{big}
-use Rattle.calls.proofs.Digits.{length-big}
+use Rattle.calls.proofs.Digits.{length_big}
 use Rattle.calls_fault.proofs.tell_counted.Statement.{statement}
 use Rattle.calls_fault.proofs.tell_counted.Tie as tie
 
@@ -15,7 +15,7 @@ returns : tie.Need-returns
 returns c =
     let s = c.before.before.before.before.before in
     let place = s.args.place in
-    (refl, (filled-first (λ k. big k place) (λ k. length-big k place) s.args.res.now 8 s.requires _ c.before.before.put.ensures).is)
+    (refl, (filled_first (λ k. big k place) (λ k. length_big k place) s.args.res.now 8 s.requires _ c.before.before.put.ensures).is)
 
 pub tell-counted-spec : {M : Type 1} → statement M
 tell-counted-spec =

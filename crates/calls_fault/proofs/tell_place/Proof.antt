@@ -3,7 +3,7 @@ use borrow.Author.Rules.{rules}
 use mathlib.Core.Path.{refl, sym}
 use native.Mathlib.Omega.{arith}
 use lib.Seq.{length-take-le}
-use Rattle.calls_fault.proofs.Telling.{place-told}
+use Rattle.calls_fault.proofs.Telling.{place_told}
 use Rattle.calls_fault.proofs.tell_place.Statement.{statement}
 use Rattle.calls_fault.proofs.tell_place.Tie as tie
 
@@ -14,7 +14,7 @@ returns : tie.Need-returns
 returns c =
     let s = c.before.before.before.before.before.before.before.before.before.before.before.before.before.before.before.before.before.before.before in (
       refl,
-      place-told s.args.fault s.args.res.now _ _ _ _ _ _ s.requires c.before.before.before.before.before.before.before.before.before.before.before.before.before.before.before.before.before.code_of_lem.ensures c.before.before.before.before.before.before.before.before.before.before.before.before.before.before.before.before.record_of.ensures
+      place_told s.args.fault s.args.res.now _ _ _ _ _ _ s.requires c.before.before.before.before.before.before.before.before.before.before.before.before.before.before.before.before.before.code_of_lem.ensures c.before.before.before.before.before.before.before.before.before.before.before.before.before.before.before.before.record_of.ensures
           c.before.before.before.before.before.before.before.before.before.before.before.before.before.before.put.ensures c.before.before.before.before.before.before.before.before.before.before.put2.ensures c.before.before.before.before.before.before.put3.ensures c.before.before.put4.ensures,
     )
 

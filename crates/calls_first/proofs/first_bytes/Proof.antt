@@ -5,10 +5,10 @@ use Prim.Native.Nat.{◌≤◌}
 use lib.ListN.{length}
 use lib.Seq.{length-take-le}
 use Rattle.schedule.specs.Quantities.{jobs}
-use Rattle.request.proofs.Accepted.{read-accepted, read-refused, accepted-valid}
+use Rattle.request.proofs.Accepted.{read_accepted, read_refused, accepted_valid}
 use Rattle.planner.specs.Promises as P
 use Rattle.planner.specs.Promises.{Reads}
-use Rattle.calls.proofs.Crossing.{starts-short, starts-kept, starts-given}
+use Rattle.calls.proofs.Crossing.{starts_short, starts_kept, starts_given}
 use Rattle.calls_first.proofs.Crossing.{first_alike}
 use borrow.Author.Rules.{rules}
 use Rattle.calls_first.proofs.first_bytes.Statement.{statement}
@@ -16,22 +16,22 @@ use Rattle.calls_first.proofs.first_bytes.Tie as tie
 
 -- The file is read as the recorder, which has at most 16 jobs.
 recorded : (c : tie.Else1) → Reads c.before.before.before.before.before.args.file.now c.before.before.read.result.recorder
-recorded c = read-accepted _ _ c.before.before.read.ensures c.if1.false
+recorded c = read_accepted _ _ c.before.before.read.ensures c.if1.false
 
 few : (c : tie.Else1) → jobs c.before.before.read.result.recorder ≤ 16
-few c = (accepted-valid _ _ (recorded c)).few-jobs
+few c = (accepted_valid _ _ (recorded c)).few_jobs
 
 returns : tie.Need-returns
-returns c = rw c.refusal.ensures (P.OfFile.refused (read-refused _ _ c.before.before.before.read.ensures c.before.if1.true))
+returns c = rw c.refusal.ensures (P.OfFile.refused (read_refused _ _ c.before.before.before.read.ensures c.before.if1.true))
 
 mul-if2 : tie.Need-overflow-mul-if2
 mul-if2 c = omega (arith, few c)
 
 returns-2 : tie.Need-returns-2
-returns-2 c = rw c.refusal2.ensures (P.OfFile.read (recorded c.before.before) (starts-short _ _ _ c.before.if2.true (λ h. P.stops h)))
+returns-2 c = rw c.refusal2.ensures (P.OfFile.read (recorded c.before.before) (starts_short _ _ _ c.before.if2.true (λ h. P.stops h)))
 
 first-of-requires : tie.Need-first-of-requires
-first-of-requires c κs = accepted-valid _ _ (recorded c.before.before)
+first-of-requires c κs = accepted_valid _ _ (recorded c.before.before)
 
 array-share-prefix-own : tie.Need-array-share-prefix-own
 array-share-prefix-own c = omega (arith, few c.before.before.before.before.before.before, c.before.before.before.first_of.auto)
@@ -46,10 +46,10 @@ returns-3 : tie.Need-returns-3
 returns-3 c =
     let room : jobs c.before.before.before.before.before.before.before.before.before.before.before.before.before.read.result.recorder ≤ length c.before.before.before.before.before.before.before.before.first_of.new.1.0 = omega (arith, few c.before.before.before.before.before.before.before.before.before.before.before, c.before.before.before.before.before.before.before.before.first_of.auto) in
     rw (c.before.before.put-starts.ensures, length-take-le _ _ room)
-    (P.OfFile.read (recorded c.before.before.before.before.before.before.before.before.before.before.before) (starts-given _ _ _ (first_alike _) c.before.before.before.before.before.before.before.before.before.before.if2.false _ (omega (arith, few c.before.before.before.before.before.before.before.before.before.before.before)) c.before.before.before.before.before.if3.true c.before.before.before.before.before.before.before.before.first_of.ensures))
+    (P.OfFile.read (recorded c.before.before.before.before.before.before.before.before.before.before.before) (starts_given _ _ _ (first_alike _) c.before.before.before.before.before.before.before.before.before.before.if2.false _ (omega (arith, few c.before.before.before.before.before.before.before.before.before.before.before)) c.before.before.before.before.before.if3.true c.before.before.before.before.before.before.before.before.first_of.ensures))
 
 returns-4 : tie.Need-returns-4
-returns-4 c = P.OfFile.read (recorded c.before.before.before.before.before.before) (starts-kept _ _ _ (first_alike _) c.before.before.before.before.before.if2.false _ (omega (arith, few c.before.before.before.before.before.before)) c.if3.false c.before.before.before.first_of.ensures)
+returns-4 c = P.OfFile.read (recorded c.before.before.before.before.before.before) (starts_kept _ _ _ (first_alike _) c.before.before.before.before.before.if2.false _ (omega (arith, few c.before.before.before.before.before.before)) c.if3.false c.before.before.before.first_of.ensures)
 
 pub first-bytes-spec : {M : Type 1} → statement M
 first-bytes-spec =

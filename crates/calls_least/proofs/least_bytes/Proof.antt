@@ -5,37 +5,37 @@ use Prim.Native.Nat.{◌≤◌}
 use lib.ListN.{length}
 use lib.Seq.{length-take-le}
 use Rattle.schedule.specs.Quantities.{jobs}
-use Rattle.request.proofs.Accepted.{read-accepted, read-refused, accepted-valid}
+use Rattle.request.proofs.Accepted.{read_accepted, read_refused, accepted_valid}
 use Rattle.planner.specs.Promises as P
 use Rattle.planner.specs.Promises.{Reads}
-use Rattle.calls.proofs.Crossing.{starts-short, starts-kept, starts-given}
-use Rattle.calls_least.proofs.Crossing.{least-alike}
+use Rattle.calls.proofs.Crossing.{starts_short, starts_kept, starts_given}
+use Rattle.calls_least.proofs.Crossing.{least_alike}
 use borrow.Author.Rules.{rules}
 use Rattle.calls_least.proofs.least_bytes.Statement.{statement}
 use Rattle.calls_least.proofs.least_bytes.Tie as tie
 
 -- The file is read as the recorder, which has at most 16 jobs.
 recorded : (c : tie.Else1) → Reads c.before.before.before.before.before.before.args.file.now c.before.before.read.result.recorder
-recorded c = read-accepted _ _ c.before.before.read.ensures c.if1.false
+recorded c = read_accepted _ _ c.before.before.read.ensures c.if1.false
 
 few : (c : tie.Else1) → jobs c.before.before.read.result.recorder ≤ 16
-few c = (accepted-valid _ _ (recorded c)).few-jobs
+few c = (accepted_valid _ _ (recorded c)).few_jobs
 
 -- The list of its own has room for its starts after the call too.
 room : (c : tie.After-least-of) → jobs c.before.before.before.before.before.before.read.result.recorder ≤ length c.least-of.new.1.1.1.0
 room c = omega (arith, few c.before.before.before.before, c.least-of.auto)
 
 returns : tie.Need-returns
-returns c = rw c.refusal.ensures (P.OfFile.refused (read-refused _ _ c.before.before.before.read.ensures c.before.if1.true), λ unsought. refl)
+returns c = rw c.refusal.ensures (P.OfFile.refused (read_refused _ _ c.before.before.before.read.ensures c.before.if1.true), λ unsought. refl)
 
 mul-if2 : tie.Need-overflow-mul-if2
 mul-if2 c = omega (arith, few c)
 
 returns-2 : tie.Need-returns-2
-returns-2 c = rw c.refusal2.ensures (P.OfFile.read (recorded c.before.before) (starts-short _ _ _ c.before.if2.true (λ h. P.stops h)), λ unsought. refl)
+returns-2 c = rw c.refusal2.ensures (P.OfFile.read (recorded c.before.before) (starts_short _ _ _ c.before.if2.true (λ h. P.stops h)), λ unsought. refl)
 
 least-of-requires : tie.Need-least-of-requires
-least-of-requires c κs = accepted-valid _ _ (recorded c.before.before.before)
+least-of-requires c κs = accepted_valid _ _ (recorded c.before.before.before)
 
 array-share-prefix-own : tie.Need-array-share-prefix-own
 array-share-prefix-own c = room c.before.before.before.before.before
@@ -53,12 +53,12 @@ returns-3 c =
     let f = c.before.before.before.before.before.before.before.before.before.before in
     let r = recorded c.before.before.before.before.before.before.before.before.before.before.before.before.before.before in
     rw (c.before.before.put-starts.ensures, length-take-le _ _ (room f))
-    (P.OfFile.read r (starts-given _ _ _ (least-alike _ _) c.before.before.before.before.before.before.before.before.before.before.before.before.before.if2.false _ (omega (arith, few c.before.before.before.before.before.before.before.before.before.before.before.before.before.before)) c.before.before.before.before.before.if3.true f.least-of.ensures.0), f.least-of.ensures.1)
+    (P.OfFile.read r (starts_given _ _ _ (least_alike _ _) c.before.before.before.before.before.before.before.before.before.before.before.before.before.if2.false _ (omega (arith, few c.before.before.before.before.before.before.before.before.before.before.before.before.before.before)) c.before.before.before.before.before.if3.true f.least-of.ensures.0), f.least-of.ensures.1)
 
 returns-4 : tie.Need-returns-4
 returns-4 c =
     let r = recorded c.before.before.before.before.before.before.before.before.before in
-    (P.OfFile.read r (starts-kept _ _ _ (least-alike _ _) c.before.before.before.before.before.before.before.before.if2.false _ (omega (arith, few c.before.before.before.before.before.before.before.before.before)) c.if3.false c.before.before.before.before.before.least-of.ensures.0), c.before.before.before.before.before.least-of.ensures.1)
+    (P.OfFile.read r (starts_kept _ _ _ (least_alike _ _) c.before.before.before.before.before.before.before.before.if2.false _ (omega (arith, few c.before.before.before.before.before.before.before.before.before)) c.if3.false c.before.before.before.before.before.least-of.ensures.0), c.before.before.before.before.before.least-of.ensures.1)
 
 pub least-bytes-spec : {M : Type 1} → statement M
 least-bytes-spec =

@@ -7,8 +7,8 @@ abbrev pub number_at : List ℕ → ℕ → List ℕ
 number_at s k = take 8 (drop (15 * k) s)
 
 -- The wanted number k.
-abbrev pub wantedAt : List ℕ → ℕ → List ℕ
-wantedAt s k = take 8 (drop (8 * k) s)
+abbrev pub wanted_at : List ℕ → ℕ → List ℕ
+wanted_at s k = take 8 (drop (8 * k) s)
 
 -- k is the first part from a place on that has the number n; the number of parts where there is none.
 pub record Sought (s : List ℕ) (from : ℕ) (n : List ℕ) (k : ℕ) : Type 0 where

@@ -3,12 +3,12 @@ use Prim.Native.Nat.{ℕ}
 use native.Mathlib.Omega.{arith}
 use lib.ListN.{length-replicate}
 use borrow.Author.Rules.{rules}
-use Rattle.flat.specs.inside.Flat.{recorderOf}
+use Rattle.flat.specs.inside.Flat.{recorder_of}
 use Rattle.extras.specs.inside.Tabled.{cap_at}
 use Rattle.least.specs.inside.Outcome.{Recalls}
-use Rattle.stored.specs.inside.Cleared.{noKey}
-use Rattle.least.proofs.Kept.{right-clear}
-use Rattle.least.proofs.Keyed.{recalls-none}
+use Rattle.stored.specs.inside.Cleared.{no_key}
+use Rattle.least.proofs.Kept.{right_clear}
+use Rattle.least.proofs.Keyed.{recalls_none}
 use Rattle.cheapest.proofs.find.Statement.{statement}
 use Rattle.cheapest.proofs.find.Tie as tie
 
@@ -16,12 +16,12 @@ lay-extras-requires : tie.Need-lay-extras-requires
 lay-extras-requires c κs =
     let s = c.before.before in
     let is = length-replicate {A = ℕ} 32976 0 in
-    (s.requires.0, record { long = omega (arith, is); reach = λ q. omega (arith, is, s.requires.0.few-ticks) })
+    (s.requires.0, record { long = omega (arith, is); reach = λ q. omega (arith, is, s.requires.0.few_ticks) })
 
 least-starts-requires : tie.Need-least-starts-requires
 least-starts-requires c κs =
     let s = c.before.before.before.before.before.before.before.before.before.before.before in
-    let R = recorderOf s.args.r.now in
+    let R = recorder_of s.args.r.now in
     let l = c.before.before.before.before.before.before.before.before.lay-extras in
     let cap = cap_at l.new.1.0 in
     let tabled = l.ensures in (
@@ -29,7 +29,7 @@ least-starts-requires c κs =
         tabled = tabled;
         laid = s.requires.1.0;
         right =
-            right-clear (Recalls R cap) c.before.before.before.before.before.clear.new.0 (recalls-none R s.requires.0 cap tabled.caps tabled.cap-most noKey) c.before.before.before.before.before.clear.ensures;
+            right_clear (Recalls R cap) c.before.before.before.before.before.clear.new.0 (recalls_none R s.requires.0 cap tabled.caps tabled.cap_most no_key) c.before.before.before.before.before.clear.ensures;
       },
       s.requires.1.1,
     )

@@ -6,7 +6,7 @@ use Rattle.schedule.specs.declared.Recorder.{Recorder}
 use Rattle.schedule.specs.Quantities.{Valid}
 use Rattle.latest.specs.inside.Latest.{Laid}
 use Rattle.planner.specs.Promises.{stops}
-use Rattle.cheapest.proofs.Ending.{is-possible, is_none}
+use Rattle.cheapest.proofs.Ending.{is_possible, is_none}
 use Rattle.cheapest.proofs.least_of.Statement.{statement}
 use Rattle.cheapest.proofs.least_of.Tie as tie
 
@@ -24,7 +24,7 @@ returns-2 : tie.Need-returns-2
 returns-2 c =
     let s = c.before.before.before.before.before.before.before.before.before.before.before in
     let t = c.before.before.before.before in
-    let p = c.before.before.is-possible in
+    let p = c.before.before.is_possible in
     rw c.refusal2.ensures (
       is_none s.args.r s.requires t.lay-latest.new.1.0 (tabled t) s.args.budget s.args.starts.now c.before.before.before.before.before.before.before.before.if1.false
           (sym p.ensures ∙ not-true p.result c.before.if2.true),
@@ -35,7 +35,7 @@ least-with-requires : tie.Need-least-with-requires
 least-with-requires c κs =
     let s = c.before.before.before.before.before.before.before.before.before.before.before.before.before.before in
     let t = c.before.before.before.before.before.before.before in
-    let p = c.before.before.before.before.before.is-possible in (
+    let p = c.before.before.before.before.before.is_possible in (
       s.requires,
       (
         c.before.before.before.before.before.before.before.before.before.before.flat-of.ensures,
@@ -43,7 +43,7 @@ least-with-requires c κs =
           tabled t,
           (
             c.before.before.before.before.before.before.before.before.before.before.before.if1.false,
-            is-possible s.args.r s.requires t.lay-latest.new.1.0 (tabled t) (sym p.ensures ∙ not-false p.result c.before.before.before.before.if2.false),
+            is_possible s.args.r s.requires t.lay-latest.new.1.0 (tabled t) (sym p.ensures ∙ not-false p.result c.before.before.before.before.if2.false),
           ),
         ),
       ),

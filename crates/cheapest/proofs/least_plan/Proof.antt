@@ -1,6 +1,6 @@
 -- `cheapest::least_plan` meets its contract.
 use mathlib.Core.Path.{refl}
-use Rattle.request.proofs.Accepted.{read-accepted, read-refused, accepted-valid}
+use Rattle.request.proofs.Accepted.{read_accepted, read_refused, accepted_valid}
 use Rattle.planner.specs.Promises as Frame
 use Rattle.planner.specs.Promises.{Reads}
 use borrow.Author.Rules.{rules}
@@ -8,14 +8,14 @@ use Rattle.cheapest.proofs.least_plan.Statement.{statement}
 use Rattle.cheapest.proofs.least_plan.Tie as tie
 
 returns : tie.Need-returns
-returns c = rw c.refusal.ensures (Frame.OfFile.refused (read-refused _ _ c.before.before.before.read.ensures c.before.if1.true), λ unsought. refl)
+returns c = rw c.refusal.ensures (Frame.OfFile.refused (read_refused _ _ c.before.before.before.read.ensures c.before.if1.true), λ unsought. refl)
 
 -- The file is read as the recorder.
 recorded : (c : tie.Else1) → Reads c.before.before.before.before.before.before.args.file.now c.before.before.read.result.recorder
-recorded c = read-accepted _ _ c.before.before.read.ensures c.if1.false
+recorded c = read_accepted _ _ c.before.before.read.ensures c.if1.false
 
 least-of-requires : tie.Need-least-of-requires
-least-of-requires c κs = accepted-valid _ _ (recorded c.before.before)
+least-of-requires c κs = accepted_valid _ _ (recorded c.before.before)
 
 returns-2 : tie.Need-returns-2
 returns-2 c =

@@ -8,10 +8,10 @@ use borrow.Author.Rules.{rules}
 use borrow.Author.Tests.{not-true, not-false}
 use Rattle.schedule.specs.declared.Recorder.{Recorder}
 use Rattle.schedule.specs.Quantities.{jobs, Valid}
-use Rattle.latest.specs.inside.Latest.{latestOf, Laid}
+use Rattle.latest.specs.inside.Latest.{latest_of, Laid}
 use Rattle.least.specs.inside.Outcome.{ReadOff}
 use Rattle.planner.specs.declared.Answer.{Answer}
-use Rattle.cheapest.proofs.Ending.{over-some, read-least, read-room, is_found}
+use Rattle.cheapest.proofs.Ending.{over_some, read_least, read_room, is_found}
 use Rattle.cheapest.proofs.least_with.Statement.{statement}
 use Rattle.cheapest.proofs.least_with.Tie as tie
 
@@ -30,7 +30,7 @@ find-requires c κs =
       subst Valid same s.requires.0,
       (
         subst (λ (X : Recorder). Laid X s.args.latest.now) same s.requires.1.1.0,
-        (refl, subst (λ (X : Recorder). 0 < latestOf X (2 ^ jobs X - 1)) same s.requires.1.1.1.1),
+        (refl, subst (λ (X : Recorder). 0 < latest_of X (2 ^ jobs X - 1)) same s.requires.1.1.1.1),
       ),
     )
 
@@ -38,7 +38,7 @@ counted-requires : tie.Need-counted-requires
 counted-requires c κs =
     let f = c.before.before.before.before.before in
     let s = f.before.before.before.before.before in
-    let some = over-some s.args.r s.requires.0 s.args.budget s.args.starts.now f.find.new.1.1.1.1.0 s.requires.1.1.1.0 (came f) (not-true f.find.result c.before.before.if1.true) in
+    let some = over_some s.args.r s.requires.0 s.args.budget s.args.starts.now f.find.new.1.1.1.1.0 s.requires.1.1.1.0 (came f) (not-true f.find.result c.before.before.if1.true) in
     (s.requires.0, (some, (s.requires.1.1.1.0, s.requires.1.1.1.1)))
 
 returns : tie.Need-returns
@@ -48,7 +48,7 @@ array-share-prefix-found : tie.Need-array-share-prefix-found
 array-share-prefix-found c =
     let s = c.before.before.before.before.before.before.before.before in
     let f = c.before.before.before in
-    read-room s.args.r s.requires.0 s.args.budget s.args.starts.now f.find.new.1.1.1.1.0 s.requires.1.1.1.0 (came f)
+    read_room s.args.r s.requires.0 s.args.budget s.args.starts.now f.find.new.1.1.1.1.0 s.requires.1.1.1.0 (came f)
     (not-false f.find.result c.if1.false)
 
 slice-aggregate-give : tie.Need-slice-aggregate-give
@@ -58,7 +58,7 @@ give-requires : tie.Need-give-requires
 give-requires c κs =
     let s = c.before.before.before.before.before.before.before.before.before.before in
     let f = c.before.before.before.before.before in
-    let e = (read-least s.args.r s.requires.0 s.args.budget s.args.starts.now f.find.new.1.1.1.1.0 s.requires.1.1.1.0 (came f)
+    let e = (read_least s.args.r s.requires.0 s.args.budget s.args.starts.now f.find.new.1.1.1.1.0 s.requires.1.1.1.0 (came f)
     (not-false f.find.result c.before.before.if1.false)).feasible in
     (s.requires.0, (e, omega (arith, e.one_each, s.requires.1.1.1.0)))
 

@@ -9,12 +9,12 @@ abbrev pub end : Uses → ℕ → ℕ
 end u i = get_or u.ends i 0
 
 -- Tick t lies in one of the first i uses.
-unfoldable pub usedBefore : Uses → ℕ → ℕ → Bool
-usedBefore u zero t = false
-usedBefore u (suc i) t = usedBefore u i t || (leb (begin u i) t && ltb t (end u i))
+unfoldable pub used_before : Uses → ℕ → ℕ → Bool
+used_before u zero t = false
+used_before u (suc i) t = used_before u i t || (leb (begin u i) t && ltb t (end u i))
 
-abbrev pub usedIn : Uses → ℕ → Bool
-usedIn u t = usedBefore u u.count t
+abbrev pub used_in : Uses → ℕ → Bool
+used_in u t = used_before u u.count t
 
 -- Where the i-th use may begin: at the end of the one before it.
 abbrev pub after : Uses → ℕ → ℕ
@@ -22,9 +22,9 @@ after u zero = 0
 after u (suc i) = end u i
 
 -- The same where the ticks before b are left out.
-abbrev pub afterFrom : ℕ → Uses → ℕ → ℕ
-afterFrom b u zero = b
-afterFrom b u (suc i) = end u i
+abbrev pub after_from : ℕ → Uses → ℕ → ℕ
+after_from b u zero = b
+after_from b u (suc i) = end u i
 
 -- In a round the ticks before the first use lie in the gap after the last (rule 87); in a list they are a gap of their own.
 abbrev pub front : Bool → Uses → ℕ

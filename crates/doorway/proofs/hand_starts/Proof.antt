@@ -2,7 +2,7 @@
 use mathlib.Core.Path.{sym}
 use native.Mathlib.Omega.{arith}
 use lib.Seq.{length-take-le}
-use Rattle.doorway.proofs.Opening.{handed-own}
+use Rattle.doorway.proofs.Opening.{handed_own}
 use borrow.Author.Rules.{rules}
 use Rattle.doorway.proofs.hand_starts.Statement.{statement}
 use Rattle.doorway.proofs.hand_starts.Tie as tie
@@ -19,7 +19,7 @@ returns : tie.Need-returns
 returns c =
     let s = c.before.before.before.before.before.before.before in
     let n = c.before.before.before.before.fewer in
-    (omega (arith, n.ensures), handed-own s.args.bytes.now s.args.own.now _ n.result (omega (arith, n.ensures, s.requires)) n.ensures c.before.before.get-starts.ensures)
+    (omega (arith, n.ensures), handed_own s.args.bytes.now s.args.own.now _ n.result (omega (arith, n.ensures, s.requires)) n.ensures c.before.before.get-starts.ensures)
 
 pub hand-starts-spec : {M : Type 1} → statement M
 hand-starts-spec =

@@ -1,11 +1,11 @@
 -- `extras::used_at` meets its contract.
 use borrow.Author.Rules.{rules}
-use Rattle.extras.specs.inside.Jobs.{usedAt}
+use Rattle.extras.specs.inside.Jobs.{used_at}
 use Rattle.extras.proofs.used_at.Statement.{statement}
 use Rattle.extras.proofs.used_at.Tie as tie
 
 returns : tie.Need-returns
-unfolding usedAt
+unfolding used_at
 returns c = search rules
 
 pub used-at-spec : {M : Type 1} → statement M

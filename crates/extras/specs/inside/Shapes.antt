@@ -20,26 +20,26 @@ Stays d n x = (g : ℕ) → n ≤ g → extra d g ≡ x
 -- What a shape says of the gaps of up to h ticks, none of which has more than `most`.
 pub record Shaped (d : Device) (most h : ℕ) (s : Shape) : Type 0 where
   pub cap : Capped d h s.cap
-  pub cap-most : s.cap ≤ h
+  pub cap_most : s.cap ≤ h
   pub rise : Rises d h 0 s.rise
-  pub rise-most : s.rise ≤ most
+  pub rise_most : s.rise ≤ most
   pub fall : Falls d h s.fall
-  pub fall-most : s.fall ≤ most
+  pub fall_most : s.fall ≤ most
   pub foot : Climbs d h s.foot
   pub low : Lands d h s.low
 
 -- The gap of g ticks has the extra y, and the one before it x.
-unfoldable pub shapeWith : Shape → ℕ → ℕ → ℕ → Shape
-shapeWith s g x y =
+unfoldable pub shape_with : Shape → ℕ → ℕ → ℕ → Shape
+shape_with s g x y =
     cond (ltb x y) (record { cap = g; rise = max s.rise (y - x); fall = s.fall; foot = s.foot; low = s.low })
     (cond (ltb y x) (record { cap = g; rise = s.rise; fall = max s.fall (x - y); foot = g; low = min s.low y }) s)
 
 -- The extra of the gap before that of n ticks.
-unfoldable pub extraBefore : Device → ℕ → ℕ
-extraBefore d zero = 0
-extraBefore d (suc n) = extra d n
+unfoldable pub extra_before : Device → ℕ → ℕ
+extra_before d zero = 0
+extra_before d (suc n) = extra d n
 
 -- The shape of the gaps of fewer than n ticks. While none has fallen, low is more than any extra.
 unfoldable pub shape_of : Device → ℕ → Shape
 shape_of d zero = record { cap = 0; rise = 0; fall = 0; foot = 0; low = 4294967295 }
-shape_of d (suc n) = shapeWith (shape_of d n) n (extraBefore d n) (extra d n)
+shape_of d (suc n) = shape_with (shape_of d n) n (extra_before d n) (extra d n)

@@ -6,7 +6,7 @@ use Prim.Native.Nat.{ℕ}
 use lib.ListN.{length, drop}
 use Rattle.tables.specs.declared.Kind.{Kind}
 use Rattle.tables.specs.Layout.{marker, kind_of}
-use Rattle.tables.proofs.Back.{mark-fits}
+use Rattle.tables.proofs.Back.{mark_fits}
 use Rattle.faults.specs.declared.PlaceFault.{PlaceFault}
 use Rattle.faults.specs.Places.{FaultAs, FaultOf}
 use Rattle.faults.proofs.fault_of.Statement.{statement}
@@ -16,7 +16,7 @@ by-its-own : (s : List ℕ) (k : Kind) (f : PlaceFault) → k ≡ kind_of s → 
 by-its-own s k f e h = rw e at h
 
 fault-by-requires : tie.Need-fault-by-requires
-fault-by-requires c κs = rw c.kind-of.ensures (mark-fits _)
+fault-by-requires c κs = rw c.kind-of.ensures (mark_fits _)
 
 returns : tie.Need-returns
 returns c = by-its-own _ _ _ c.before.kind-of.ensures c.fault-by.ensures

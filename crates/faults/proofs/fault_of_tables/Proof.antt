@@ -9,23 +9,23 @@ use lib.Seq.{length-take-le}
 use Rattle.tables.specs.declared.Tables.{Tables}
 use Rattle.tables.specs.Layout.{marker, layout_of, bytes_of}
 use Rattle.tables.specs.inside.Held.{limited}
-use Rattle.tables.proofs.Appending.{held-front, held-long}
+use Rattle.tables.proofs.Appending.{held_front, held_long}
 use Rattle.tables.proofs.Back.{unmarked}
-use Rattle.tables.proofs.Joining.{limited-fits}
+use Rattle.tables.proofs.Joining.{limited_fits}
 use Rattle.faults.specs.declared.PlaceFault.{PlaceFault}
 use Rattle.faults.specs.Places.{FaultAs, TablesFault}
 use Rattle.faults.specs.inside.Walk.{walk}
-use Rattle.faults.proofs.Promised.{walk-promised}
-use Rattle.faults.proofs.Limiting.{walk-limited}
-use Rattle.faults.proofs.Only.{only-fault-as}
+use Rattle.faults.proofs.Promised.{walk_promised}
+use Rattle.faults.proofs.Limiting.{walk_limited}
+use Rattle.faults.proofs.Only.{only_fault_as}
 use Rattle.faults.proofs.fault_of_tables.Statement.{statement}
 use Rattle.faults.proofs.fault_of_tables.Tie as tie
 
 laid : (c : tie.After-file-of) → take c.file-of.result.count c.file-of.result.bytes ≡ bytes_of (limited c.before.args.given)
-laid c = rw c.file-of.ensures (held-front (bytes_of (limited c.before.args.given)))
+laid c = rw c.file-of.ensures (held_front (bytes_of (limited c.before.args.given)))
 
 fits : (c : tie.After-file-of) → c.file-of.result.count ≤ length c.file-of.result.bytes
-fits c = rw c.file-of.ensures (held-long (bytes_of (limited c.before.args.given)) (limited-fits c.before.args.given))
+fits c = rw c.file-of.ensures (held_long (bytes_of (limited c.before.args.given)) (limited_fits c.before.args.given))
 
 -- The mark is that of the tables' kind, and what follows it is the layout.
 limited-mark : (T : Tables) → (length (marker T.kind) ≤ length (bytes_of (limited T))) × (drop (length (marker T.kind)) (bytes_of (limited T)) ≡ layout_of (limited T))
@@ -34,14 +34,14 @@ limited-mark T = (omega (arith, length-append (marker T.kind) (layout_of (limite
 
 walk-unlimited : (T : Tables) (mark : ℕ) → walk mark T.kind (layout_of (limited T)) ≡ walk mark T.kind (layout_of T)
 unfolding limited
-walk-unlimited T mark = walk-limited mark T
+walk-unlimited T mark = walk_limited mark T
 
 uncut : (T : Tables) (s : List ℕ) (f : PlaceFault) → s ≡ bytes_of (limited T) → FaultAs T.kind (drop (length (marker T.kind)) s) f → TablesFault T f
 uncut T s f e p =
     let mark = length (marker T.kind) in
     let q : FaultAs T.kind (layout_of (limited T)) f = rw (e, (limited-mark T).1) at p in
-    let same = only-fault-as T.kind (layout_of (limited T)) q (walk-promised T.kind (layout_of (limited T))) ∙ walk-unlimited T mark in
-    subst (FaultAs T.kind (layout_of T)) (sym same) (walk-promised T.kind (layout_of T))
+    let same = only_fault_as T.kind (layout_of (limited T)) q (walk_promised T.kind (layout_of (limited T))) ∙ walk-unlimited T mark in
+    subst (FaultAs T.kind (layout_of T)) (sym same) (walk_promised T.kind (layout_of T))
 
 array-share-prefix-bytes : tie.Need-array-share-prefix-bytes
 array-share-prefix-bytes c = fits c.before

@@ -1,12 +1,12 @@
 -- `flat::job_count` meets its contract.
 use mathlib.Core.Path.{refl}
 use borrow.Author.Rules.{rules}
-use Rattle.flat.specs.inside.Flat.{recorderOf}
+use Rattle.flat.specs.inside.Flat.{recorder_of}
 use Rattle.flat.proofs.job_count.Statement.{statement}
 use Rattle.flat.proofs.job_count.Tie as tie
 
 returns : tie.Need-returns
-unfolding recorderOf
+unfolding recorder_of
 returns c = refl
 
 pub job-count-spec : {M : Type 1} → statement M

@@ -7,7 +7,7 @@ use Rattle.flat.proofs.number_of.Tie as tie
 
 returns : tie.Need-returns
 unfolding number_of
-returns c = simp (lt-ltb _ _ c.before.before.before.if1.true) c.job-number.ensures
+returns c = simp (lt-ltb _ _ c.before.before.before.if1.true) c.job_number.ensures
 
 returns-2 : tie.Need-returns-2
 unfolding number_of

@@ -6,7 +6,7 @@ use Rattle.latest.proofs.all_jobs.Statement.{statement}
 use Rattle.latest.proofs.all_jobs.Tie as tie
 
 power-requires : tie.Need-power-requires
-power-requires c κs = omega (arith, c.job-count.ensures, c.before.requires.few-jobs)
+power-requires c κs = omega (arith, c.job-count.ensures, c.before.requires.few_jobs)
 
 sub-result : tie.Need-overflow-sub-result
 sub-result c = omega (arith, c.power.ensures, pow_pos c.before.job-count.result)

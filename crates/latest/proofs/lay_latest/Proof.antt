@@ -3,13 +3,13 @@ use Prim.Native.Nat.{suc, ◌≤◌, ◌<◌, ◌-◌}
 use native.Mathlib.Omega.{arith}
 use borrow.Author.Rules.{rules}
 use Rattle.schedule.specs.Quantities.{jobs}
-use Rattle.flat.specs.inside.Flat.{recorderOf}
-use Rattle.latest.proofs.Tabled.{power-few, Upto, upto-none, upto_next, upto_all}
+use Rattle.flat.specs.inside.Flat.{recorder_of}
+use Rattle.latest.proofs.Tabled.{power_few, Upto, upto_none, upto_next, upto_all}
 use Rattle.latest.proofs.lay_latest.Statement.{statement}
 use Rattle.latest.proofs.lay_latest.Tie as tie
 
 abbrev invariant-loop : tie.invariant-loop
-invariant-loop r table₀ all m₀ table m = (m ≤ suc all) × (all < 65536) × Upto (recorderOf r) m table
+invariant-loop r table₀ all m₀ table m = (m ≤ suc all) × (all < 65536) × Upto (recorder_of r) m table
 
 abbrev decreases-loop : tie.decreases-loop
 decreases-loop r table₀ all m₀ table m = suc all - m
@@ -20,7 +20,7 @@ all-jobs-requires c κs = c.requires.0
 loop-holds : tie.Need-loop-init invariant-loop decreases-loop
 loop-holds c =
     let s = c.before in
-    (omega arith, omega (arith, c.all-jobs.ensures, power-few (jobs (recorderOf s.args.r.now)) s.requires.0.few-jobs), upto-none s.requires.1)
+    (omega arith, omega (arith, c.all_jobs.ensures, power_few (jobs (recorder_of s.args.r.now)) s.requires.0.few_jobs), upto_none s.requires.1)
 
 latest-of-requires : tie.Need-latest-of-requires invariant-loop decreases-loop
 latest-of-requires c κs = (c.before.before.before.before.requires.0, omega (arith, c.before.before.loop.invariant.1, c.before.loop-test.true))
@@ -35,7 +35,7 @@ loop-again c =
 
 returns : tie.Need-returns invariant-loop decreases-loop
 returns c =
-    upto_all c.before.loop.invariant.2 (omega (arith, c.before.before.all-jobs.ensures))
+    upto_all c.before.loop.invariant.2 (omega (arith, c.before.before.all_jobs.ensures))
 
 pub lay-latest-spec : {M : Type 1} → statement M
 lay-latest-spec =

@@ -9,8 +9,8 @@ use Rattle.schedule.specs.Visiting.{earliest, written}
 use Rattle.latest.specs.inside.Sets.{has, members}
 
 -- The jobs of the set m, rising.
-abbrev pub jobsOf : Recorder → ℕ → List ℕ
-jobsOf R m = members 0 (jobs R) m
+abbrev pub jobs_of : Recorder → ℕ → List ℕ
+jobs_of R m = members 0 (jobs R) m
 
 -- Every time is held as one more than it is, and 0 stands for never. The latest start of a job with release a, deadline d and running time c that is over by
 -- the time x and by its deadline.
@@ -22,21 +22,21 @@ unfoldable pub offer : Recorder → (ℕ → ℕ) → ℕ → ℕ → ℕ → �
 offer R f m j b = under (has m j) (max (slot (release R j) (deadline R j) (run R j) (f (m - 2 ^ j)))) b
 
 -- The empty set can be run up to the horizon; of any other some job goes first.
-unfoldable pub latestBy : Recorder → (ℕ → ℕ) → ℕ → ℕ
-latestBy R f m = cond (eqb m 0) (suc R.horizon) (each (offer R f m) (jobs R) 0)
+unfoldable pub latest_by : Recorder → (ℕ → ℕ) → ℕ → ℕ
+latest_by R f m = cond (eqb m 0) (suc R.horizon) (each (offer R f m) (jobs R) 0)
 
 -- The first m of them; and that of the set m.
 unfoldable pub latests : Recorder → ℕ → List ℕ
 latests R zero = []
-latests R (suc m) = latests R m ++ (latestBy R (λ i. get_or (latests R m) i 0) m ∷ [])
+latests R (suc m) = latests R m ++ (latest_by R (λ i. get_or (latests R m) i 0) m ∷ [])
 
-unfoldable pub latestOf : Recorder → ℕ → ℕ
-latestOf R m = latestBy R (λ i. get_or (latests R m) i 0) m
+unfoldable pub latest_of : Recorder → ℕ → ℕ
+latest_of R m = latest_by R (λ i. get_or (latests R m) i 0) m
 
 -- The table l holds that of each set of the recorder's jobs.
 pub record Laid (R : Recorder) (l : List ℕ) : Type 0 where
   pub long : length l ≡ 65536
-  pub laid : (m : ℕ) → m < 2 ^ jobs R → get_or l m 0 ≡ latestOf R m
+  pub laid : (m : ℕ) → m < 2 ^ jobs R → get_or l m 0 ≡ latest_of R m
 
 -- ---- the first run
 
@@ -44,7 +44,7 @@ pub record Laid (R : Recorder) (l : List ℕ) : Type 0 where
 pub record Opens (R : Recorder) (t m j : ℕ) : Type 0 where
   pub known : j < jobs R
   pub one_of : has m j ≡ true
-  pub fits : earliest R t j + run R j < min (latestOf R (m - 2 ^ j)) (suc (deadline R j))
+  pub fits : earliest R t j + run R j < min (latest_of R (m - 2 ^ j)) (suc (deadline R j))
 
 -- It is the smallest of those.
 pub record Leads (R : Recorder) (t m j : ℕ) : Type 0 where

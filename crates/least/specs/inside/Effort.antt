@@ -9,5 +9,5 @@ most_of R zero t = 0
 most_of R (suc m) t = suc ((R.horizon - t) * suc (jobs R * most_of R m 0))
 
 -- No more vertices than this are entered in all: below the root, and again below it for each job that is read off.
-unfoldable pub mostVertices : Recorder → ℕ
-mostVertices R = suc (jobs R) * most_of R (jobs R) 0
+unfoldable pub most_vertices : Recorder → ℕ
+most_vertices R = suc (jobs R) * most_of R (jobs R) 0

@@ -5,24 +5,24 @@ use Rattle.schedule.specs.declared.Recorder.{Recorder}
 use Rattle.base.specs.Lists.{In}
 use Rattle.schedule.specs.Quantities.{jobs, run, deadline}
 use Rattle.schedule.specs.Listing.{FirstLeast}
-use Rattle.schedule.specs.Visiting.{Vertex, earliest, planEnergy}
+use Rattle.schedule.specs.Visiting.{Vertex, earliest, plan_energy}
 use Rattle.schedule.proofs.Tree.{Reached}
 use Rattle.latest.specs.inside.Latest.{Laid}
 use Rattle.value.specs.inside.Options.{Answers, Holds}
-use Rattle.value.specs.inside.Leasts.{leastOf}
+use Rattle.value.specs.inside.Leasts.{least_of}
 use Rattle.extras.specs.inside.Tabled.{Tabled, cap_at}
 use Rattle.stored.specs.declared.Key.{Key}
-pub use Rattle.stored.specs.inside.Naming.{ofDevices, Named}
+pub use Rattle.stored.specs.inside.Naming.{of_devices, Named}
 use Rattle.least.specs.inside.Shown.{Shows}
 use Rattle.least.specs.inside.Entries.{Right}
-use Rattle.least.specs.inside.Effort.{mostVertices}
+use Rattle.least.specs.inside.Effort.{most_vertices}
 
 -- ---- what is remembered
 
 -- What is known is right for every vertex with the key q: half of it is a bound of the least, and the least itself where it is odd.
 unfoldable pub Recalls : Recorder → (ℕ → ℕ) → Key → ℕ → Type 0
 Recalls R cap q known =
-    (m : ℕ) (v : Vertex) → Reached R (suc m) v → Named R cap q v → Holds (leastOf R (suc m) v) (known / 2) (eqb (known % 2) 1)
+    (m : ℕ) (v : Vertex) → Reached R (suc m) v → Named R cap q v → Holds (least_of R (suc m) v) (known / 2) (eqb (known % 2) 1)
 
 -- What the search is lent: the table of extras, that of the latest times, and a memory in which every entry is right.
 pub record Lent (R : Recorder) (extras latest memory : List ℕ) : Type 0 where
@@ -56,7 +56,7 @@ pub data Tried (most lead ahead : ℕ) (o : Option ℕ) : ℕ → Type 0 where
 
 -- ---- all of it
 
--- The starts of the first of the least-energy schedules stand in l, by job number; or the budget was used up.
+-- The starts of the first of the least_energy schedules stand in l, by job number; or the budget was used up.
 pub data ReadOff (R : Recorder) (budget : ℕ) (l : List ℕ) : Bool → Type 0 where
-  read : FirstLeast R (take (jobs R) l) (planEnergy R (take (jobs R) l)) → ReadOff R budget l true
-  over : budget < mostVertices R → ReadOff R budget l false
+  read : FirstLeast R (take (jobs R) l) (plan_energy R (take (jobs R) l)) → ReadOff R budget l true
+  over : budget < most_vertices R → ReadOff R budget l false

@@ -5,10 +5,10 @@ use Rattle.base.specs.Lists.{In}
 use Rattle.schedule.specs.declared.Recorder.{Recorder}
 use Rattle.schedule.specs.Quantities.{jobs, Valid}
 use Rattle.schedule.specs.Visiting.{Vertex, starts, written}
-use Rattle.value.specs.inside.Leasts.{leastOf, viaChild}
+use Rattle.value.specs.inside.Leasts.{least_of, via_child}
 use Rattle.value.proofs.Reading.{Settles}
 use Rattle.least.specs.inside.Shown.{Shows}
-use Rattle.least.specs.inside.Effort.{most_of, mostVertices}
+use Rattle.least.specs.inside.Effort.{most_of, most_vertices}
 
 -- Whether o is the goal: 1 or 0.
 pub data Hit (goal : ℕ) (o : Option ℕ) : ℕ → Type 0 where
@@ -17,9 +17,9 @@ pub data Hit (goal : ℕ) (o : Option ℕ) : ℕ → Type 0 where
 
 -- The first start of job j with which v has the goal; or none has.
 pub data FirstStart (R : Recorder) (m : ℕ) (v : Vertex) (j goal : ℕ) : ℕ → Type 0 where
-  first : {x : ℕ} → In x (starts R v.time j) → viaChild R m v j x ≡ some goal
-      → ((y : ℕ) → y < x → In y (starts R v.time j) → viaChild R m v j y ≡ some goal → ⊥) → FirstStart R m v j goal x
-  nowhere : ((y : ℕ) → In y (starts R v.time j) → viaChild R m v j y ≡ some goal → ⊥) → FirstStart R m v j goal 2147483647
+  first : {x : ℕ} → In x (starts R v.time j) → via_child R m v j x ≡ some goal
+      → ((y : ℕ) → y < x → In y (starts R v.time j) → via_child R m v j y ≡ some goal → ⊥) → FirstStart R m v j goal x
+  nowhere : ((y : ℕ) → In y (starts R v.time j) → via_child R m v j y ≡ some goal → ⊥) → FirstStart R m v j goal 2147483647
 
 -- Part of the schedule is read off: the numbers l show the vertex that it has come to, whose least is the goal, and whose starts stand in s; what it settles is the
 -- first of the least. And so many vertices were entered that those for each job that is left fit in.
@@ -27,11 +27,11 @@ pub record Reads (R : Recorder) (l s : List ℕ) (set time goal entered : ℕ) :
   pub left : ℕ
   pub vertex : Vertex
   pub shows : Shows R l set left vertex
-  pub time-is : vertex.time ≡ time
-  pub goal-is : leastOf R left vertex ≡ some goal
+  pub time_is : vertex.time ≡ time
+  pub goal_is : least_of R left vertex ≡ some goal
   pub few : left ≤ jobs R
   pub valid : Valid R
   pub settles : Settles R valid vertex
   pub long : length s ≡ 16
-  pub starts-are : s ≡ written vertex.placed (replicate 16 0)
-  pub room : entered + left * most_of R (jobs R) 0 ≤ mostVertices R
+  pub starts_are : s ≡ written vertex.placed (replicate 16 0)
+  pub room : entered + left * most_of R (jobs R) 0 ≤ most_vertices R

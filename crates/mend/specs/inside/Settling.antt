@@ -21,20 +21,20 @@ module _ (R : Recorder) (given : List ℕ) where
   settle (suc m) t (i ∷ u) s = let j = soonest given i u in let x = latest t j in settle m (x + run R j) (remove j (i ∷ u)) (set s j x)
 
   -- The first of them that ends after its deadline.
-  unfoldable pub lateOf : (m t : ℕ) → List ℕ → Option ℕ
-  lateOf zero t u = none
-  lateOf (suc m) t [] = none
-  lateOf (suc m) t (i ∷ u) =
+  unfoldable pub late_of : (m t : ℕ) → List ℕ → Option ℕ
+  late_of zero t u = none
+  late_of (suc m) t [] = none
+  late_of (suc m) t (i ∷ u) =
       let j = soonest given i u in
       let e = latest t j + run R j in
-      cond (ltb (deadline R j) e) (some j) (lateOf m e (remove j (i ∷ u)))
+      cond (ltb (deadline R j) e) (some j) (late_of m e (remove j (i ∷ u)))
 
   -- All jobs, from tick 0 on.
   unfoldable pub mended : List ℕ
   mended = settle (jobs R) 0 (up_from 0 (jobs R)) (replicate (jobs R) 0)
 
-  abbrev pub firstLate : Option ℕ
-  firstLate = lateOf (jobs R) 0 (up_from 0 (jobs R))
+  abbrev pub first_late : Option ℕ
+  first_late = late_of (jobs R) 0 (up_from 0 (jobs R))
 
 -- What `settle` of the code gives: the mended schedule, in an array, or the first late job.
 pub data Settles (R : Recorder) (given : List ℕ) : Settled → Type 0 where

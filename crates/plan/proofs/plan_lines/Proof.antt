@@ -8,7 +8,7 @@ use Rattle.plan.proofs.plan_lines.Tie as tie
 device-lines-requires : tie.Need-device-lines-requires
 device-lines-requires c κs =
     let v = c.before.before.before.before.before.before.before.before.before.before.before.before.requires.0 in
-    omega (arith, mul-le-mul v.few-devices v.few-ticks, c.before.before.before.before.before.before.rows_of_lem.auto)
+    omega (arith, mul-le-mul v.few_devices v.few_ticks, c.before.before.before.before.before.before.rows_of_lem.auto)
 
 pub plan-lines-spec : {M : Type 1} → statement M
 plan-lines-spec =

@@ -8,12 +8,12 @@ use Rattle.plan.proofs.print_plan.Tie as tie
 slice-aggregate-plan-lines : tie.Need-slice-aggregate-plan-lines
 slice-aggregate-plan-lines c =
     let v = c.before.before.before.before.before.before.before.before.before.before.requires in
-    simp length-take (omega (arith, v.few-jobs, c.before.before.before.before.before.before.before.before.search-of.auto))
+    simp length-take (omega (arith, v.few_jobs, c.before.before.before.before.before.before.before.before.search-of.auto))
 
 plan-lines-requires : tie.Need-plan-lines-requires
 plan-lines-requires c κs =
     let v = c.before.before.before.before.before.before.before.before.before.before.requires in
-    (v, simp length-take (omega (arith, v.few-jobs)))
+    (v, simp length-take (omega (arith, v.few_jobs)))
 
 pub print-plan-spec : {M : Type 1} → statement M
 print-plan-spec =

@@ -1,5 +1,5 @@
 -- `planner::verdict` meets its contract.
-use Rattle.request.proofs.Accepted.{read-accepted, read-refused, accepted-valid}
+use Rattle.request.proofs.Accepted.{read_accepted, read_refused, accepted_valid}
 use Rattle.planner.specs.Promises as P
 use Rattle.planner.specs.Promises.{Reads}
 use borrow.Author.Rules.{rules}
@@ -8,13 +8,13 @@ use Rattle.planner.proofs.verdict.Tie as tie
 
 -- The file is read as the recorder.
 recorded : (c : tie.Else1) → Reads c.before.before.before.before.before.args.file.now c.before.before.read.result.recorder
-recorded c = read-accepted _ _ c.before.before.read.ensures c.if1.false
+recorded c = read_accepted _ _ c.before.before.read.ensures c.if1.false
 
 returns : tie.Need-returns
-returns c = rw c.refusal.ensures (P.OfFile.refused (read-refused _ _ c.before.before.before.read.ensures c.before.if1.true))
+returns c = rw c.refusal.ensures (P.OfFile.refused (read_refused _ _ c.before.before.before.read.ensures c.before.if1.true))
 
 verdict-of-requires : tie.Need-verdict-of-requires
-verdict-of-requires c κs = accepted-valid _ _ (recorded c)
+verdict-of-requires c κs = accepted_valid _ _ (recorded c)
 
 returns-2 : tie.Need-returns-2
 returns-2 c = P.OfFile.read (recorded c.before) c.verdict-of.ensures

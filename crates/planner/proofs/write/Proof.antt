@@ -11,27 +11,27 @@ use Rattle.tables.specs.declared.Tables.{Tables}
 use Rattle.tables.specs.declared.File.{File}
 use Rattle.tables.specs.Layout.{marker, layout_of, bytes_of}
 use Rattle.tables.specs.inside.Held.{limited, held}
-use Rattle.tables.proofs.Appending.{held-front, held-long}
+use Rattle.tables.proofs.Appending.{held_front, held_long}
 use Rattle.tables.proofs.Back.{unmarked}
-use Rattle.tables.proofs.Joining.{limited-fits}
-use Rattle.request.specs.Format.{readAs, accepted, handedOn}
-use Rattle.request.proofs.Accepted.{accepted-by, refused-by}
-use Rattle.request.proofs.Limiting.{read-limited, accepted-limited}
+use Rattle.tables.proofs.Joining.{limited_fits}
+use Rattle.request.specs.Format.{read_as, accepted, handed_on}
+use Rattle.request.proofs.Accepted.{accepted_by, refused_by}
+use Rattle.request.proofs.Limiting.{read_limited, accepted_limited}
 use Rattle.planner.specs.Promises as P
-use Rattle.planner.proofs.Refusing.{unless-enough}
+use Rattle.planner.proofs.Refusing.{unless_enough}
 use Rattle.planner.proofs.write.Statement.{statement}
 use Rattle.planner.proofs.write.Tie as tie
 
 -- the file that is laid out
 laid : (c : tie.After-file-of) → take c.file-of.result.count c.file-of.result.bytes ≡ bytes_of (limited c.before.before.args.given)
-laid c = rw c.file-of.ensures (held-front (bytes_of (limited c.before.before.args.given)))
+laid c = rw c.file-of.ensures (held_front (bytes_of (limited c.before.before.args.given)))
 
 small : (c : tie.After-file-of) → c.file-of.result.count ≤ 297
 unfolding held
-small c = rw c.file-of.ensures (limited-fits c.before.before.args.given)
+small c = rw c.file-of.ensures (limited_fits c.before.before.args.given)
 
 fits : (c : tie.After-file-of) → c.file-of.result.count ≤ length c.file-of.result.bytes
-fits c = rw c.file-of.ensures (held-long (bytes_of (limited c.before.before.args.given)) (limited-fits c.before.before.args.given))
+fits c = rw c.file-of.ensures (held_long (bytes_of (limited c.before.before.args.given)) (limited_fits c.before.before.args.given))
 
 long : (c : tie.After-file-of) → c.file-of.result.count ≡ length (take c.file-of.result.count c.file-of.result.bytes)
 long c = sym (length-take-le c.file-of.result.count c.file-of.result.bytes (fits c))
@@ -41,22 +41,22 @@ limited-mark : (T : Tables) → (length (marker T.kind) ≤ length (bytes_of (li
 unfolding bytes_of limited
 limited-mark T = (omega (arith, length-append (marker T.kind) (layout_of (limited T))), unmarked T.kind (layout_of (limited T)))
 
-read-as-limited : (T : Tables) → readAs T.kind (layout_of (limited T)) ≡ readAs T.kind (layout_of T)
+read-as-limited : (T : Tables) → read_as T.kind (layout_of (limited T)) ≡ read_as T.kind (layout_of T)
 unfolding limited
-read-as-limited T = read-limited T
+read-as-limited T = read_limited T
 
-reads : (c : tie.After-read-by) → (let T = c.before.before.before.before.before.args.given in c.read_by_lem.result ≡ handedOn (readAs T.kind (layout_of T)))
+reads : (c : tie.After-read-by) → (let T = c.before.before.before.before.before.args.given in c.read_by_lem.result ≡ handed_on (read_as T.kind (layout_of T)))
 reads c =
     let T = c.before.before.before.before.before.args.given in
-    c.read_by_lem.ensures ∙ ap (λ (s : List ℕ). handedOn (readAs T.kind (drop (length (marker T.kind)) s))) (laid c.before.before.before)
-    ∙ ap (λ (s : List ℕ). handedOn (readAs T.kind s)) (limited-mark T).1 ∙ ap handedOn (read-as-limited T)
+    c.read_by_lem.ensures ∙ ap (λ (s : List ℕ). handed_on (read_as T.kind (drop (length (marker T.kind)) s))) (laid c.before.before.before)
+    ∙ ap (λ (s : List ℕ). handed_on (read_as T.kind s)) (limited-mark T).1 ∙ ap handed_on (read-as-limited T)
 
-recorded : (c : tie.Else1) → (let T = c.before.before.before.before.before.before.args.given in readAs T.kind (layout_of T) ≡ accepted c.before.read_by_lem.result.recorder)
-recorded c = accepted-by _ _ _ (reads c.before) c.if1.false
+recorded : (c : tie.Else1) → (let T = c.before.before.before.before.before.before.args.given in read_as T.kind (layout_of T) ≡ accepted c.before.read_by_lem.result.recorder)
+recorded c = accepted_by _ _ _ (reads c.before) c.if1.false
 
 -- and it is that file where it is accepted.
 whole : (c : tie.Else1) → bytes_of (limited c.before.before.before.before.before.before.args.given) ≡ bytes_of c.before.before.before.before.before.before.args.given
-whole c = ap bytes_of (accepted-limited _ _ (recorded c))
+whole c = ap bytes_of (accepted_limited _ _ (recorded c))
 
 size : (c : tie.Else1) → c.before.before.before.before.file-of.result.count ≡ length (bytes_of c.before.before.before.before.before.before.args.given)
 unfolding held
@@ -64,9 +64,9 @@ size c = ap (λ (f : File). f.count) c.before.before.before.before.file-of.ensur
 
 -- What is written, by other names.
 written_as :
-    (T : Tables) (lent : List ℕ) (R : Recorder) (s : List ℕ) (n : ℕ) → readAs T.kind (layout_of T) ≡ accepted R → s ≡ bytes_of T → n ≡ length (bytes_of T) → n ≤ length lent
+    (T : Tables) (lent : List ℕ) (R : Recorder) (s : List ℕ) (n : ℕ) → read_as T.kind (layout_of T) ≡ accepted R → s ≡ bytes_of T → n ≡ length (bytes_of T) → n ≤ length lent
     → P.Written T lent (P.success R.horizon 0 n) (s ++ drop (length s) lent)
-written_as T lent R s n r e f h = rw (e, f) (P.Written.read r (unless-enough (omega arith) P.gives))
+written_as T lent R s n r e f h = rw (e, f) (P.Written.read r (unless_enough (omega arith) P.gives))
 
 array-share-prefix-bytes : tie.Need-array-share-prefix-bytes
 array-share-prefix-bytes c = fits c.before
@@ -78,7 +78,7 @@ read-by-requires : tie.Need-read-by-requires
 read-by-requires c κs = rw (laid c.before.before) (limited-mark c.before.before.before.before.args.given).0
 
 returns : tie.Need-returns
-returns c = rw c.refusal.ensures (P.Written.refused (refused-by _ _ _ (reads c.before.before) c.before.if1.true))
+returns c = rw c.refusal.ensures (P.Written.refused (refused_by _ _ _ (reads c.before.before) c.before.if1.true))
 
 returns-2 : tie.Need-returns-2
 returns-2 c = rw c.refusal2.ensures (P.Written.read (recorded c.before.before) (P.stops (rw (size c.before.before) at c.before.if2.true)))

@@ -1,7 +1,7 @@
 -- `possible::first_schedule` meets its contract.
 use borrow.Author.Rules.{rules}
-use Rattle.possible.proofs.Stopping.{first-is}
-use Rattle.possible.proofs.Without.{bare-valid}
+use Rattle.possible.proofs.Stopping.{first_is}
+use Rattle.possible.proofs.Without.{bare_valid}
 use Rattle.possible.proofs.first_schedule.Statement.{statement}
 use Rattle.possible.proofs.first_schedule.Tie as tie
 
@@ -9,13 +9,13 @@ first-requires : tie.Need-first-requires
 first-requires c κs =
     let w = c.before in
     let bare = w.without-devices.ensures in
-    (bare-valid _ _ bare w.before.before.requires, bare.none)
+    (bare_valid _ _ bare w.before.before.requires, bare.none)
 
 returns : tie.Need-returns
 returns c =
     let v = c.before.before.before in
     let w = v.before.before in
-    first-is _ w.before.before.requires _ w.without-devices.ensures _ _ v.first.result _ _ v.first.ensures c.answer-of.ensures
+    first_is _ w.before.before.requires _ w.without-devices.ensures _ _ v.first.result _ _ v.first.ensures c.answer-of.ensures
 
 pub first-schedule-spec : {M : Type 1} → statement M
 first-schedule-spec =

@@ -5,8 +5,8 @@ use Rattle.schedule.specs.declared.Recorder.{Recorder}
 use Rattle.schedule.specs.Quantities.{jobs, release, deadline, run, uses}
 
 -- The same job, which uses no device.
-abbrev pub idleJob : Job → Job
-idleJob j = record { release = j.release; deadline = j.deadline; run = j.run; uses = replicate 8 false }
+abbrev pub idle_job : Job → Job
+idle_job j = record { release = j.release; deadline = j.deadline; run = j.run; uses = replicate 8 false }
 
 -- Q has the horizon of R and its jobs, and no device.
 pub record Bare (R Q : Recorder) : Type 0 where

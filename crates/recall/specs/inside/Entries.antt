@@ -4,8 +4,8 @@ use Rattle.stored.specs.declared.Key.{Key}
 use Rattle.recall.specs.declared.memory.Spot.{Spot}
 
 -- The key q with the slack x.
-unfoldable pub slackedBy : Key → ℕ → Key
-slackedBy q x = record { head = q.head + 536870912 * x; idle = q.idle; idle4 = q.idle4; first = q.first; first4 = q.first4 }
+unfoldable pub slacked_by : Key → ℕ → Key
+slacked_by q x = record { head = q.head + 536870912 * x; idle = q.idle; idle4 = q.idle4; first = q.first; first4 = q.first4 }
 
 abbrev pub word : List ℕ → ℕ → ℕ → ℕ
 word l i n = get_or l (6 * i + n) 0
@@ -14,16 +14,16 @@ word l i n = get_or l (6 * i + n) 0
 unfoldable pub key_at : List ℕ → ℕ → Key
 key_at l i = record { head = word l i 0; idle = word l i 1; idle4 = word l i 2; first = word l i 3; first4 = word l i 4 }
 
-unfoldable pub countAt : List ℕ → ℕ → ℕ
-countAt l i = word l i 5 % 4294967296
+unfoldable pub count_at : List ℕ → ℕ → ℕ
+count_at l i = word l i 5 % 4294967296
 
 -- Every entry has P.
 unfoldable pub Right : (Key → ℕ → Type 0) → List ℕ → Type 0
-Right P l = (i : ℕ) → 6 * i + 6 ≤ length l → P (key_at l i) (countAt l i)
+Right P l = (i : ℕ) → 6 * i + 6 ≤ length l → P (key_at l i) (count_at l i)
 
 -- A place for the key q, and its count there: 0 where it is in none.
 pub record Looked (l : List ℕ) (q : Key) (r : Spot) : Type 0 where
-  pub known : (r.count ≡ 0) ⊎ ((6 * r.slot + 6 ≤ length l) × (key_at l r.slot ≡ q) × (countAt l r.slot ≡ r.count))
+  pub known : (r.count ≡ 0) ⊎ ((6 * r.slot + 6 ≤ length l) × (key_at l r.slot ≡ q) × (count_at l r.slot ≡ r.count))
 
 -- Entry i written, where there is room for it.
 unfoldable pub wrote : List ℕ → ℕ → Key → ℕ → List ℕ

@@ -6,18 +6,18 @@ use mathlib.Core.List.{List}
 use lib.ListN.{length, drop}
 use Rattle.tables.specs.declared.Kind.{Kind}
 use Rattle.tables.specs.Layout.{marker, kind_of}
-use Rattle.tables.proofs.Back.{mark-fits}
+use Rattle.tables.proofs.Back.{mark_fits}
 use Rattle.request.specs.declared.Request.{Request}
-use Rattle.request.specs.Format.{handedOn, readAs, read_of}
+use Rattle.request.specs.Format.{handed_on, read_as, read_of}
 use Rattle.request.proofs.read.Statement.{statement}
 use Rattle.request.proofs.read.Tie as tie
 
-by-its-own : (s : List ℕ) (k : Kind) (r : Request) → k ≡ kind_of s → r ≡ handedOn (readAs k (drop (length (marker k)) s)) → r ≡ handedOn (read_of s)
+by-its-own : (s : List ℕ) (k : Kind) (r : Request) → k ≡ kind_of s → r ≡ handed_on (read_as k (drop (length (marker k)) s)) → r ≡ handed_on (read_of s)
 unfolding read_of
 by-its-own s k r e h = rw e at h
 
 read-by-requires : tie.Need-read-by-requires
-read-by-requires c κs = rw c.kind-of.ensures (mark-fits _)
+read-by-requires c κs = rw c.kind-of.ensures (mark_fits _)
 
 returns : tie.Need-returns
 returns c = by-its-own _ _ _ c.before.kind-of.ensures c.read_by_lem.ensures

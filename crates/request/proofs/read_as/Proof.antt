@@ -1,20 +1,20 @@
 -- `request::read_as` meets its contract.
 use borrow.Author.Rules.{rules}
 use mathlib.Core.Path.{sym, ◌∙◌}
-use Rattle.request.specs.Format.{handedOn}
-use Rattle.request.proofs.Faultless.{read-faultless, read-fault}
+use Rattle.request.specs.Format.{handed_on}
+use Rattle.request.proofs.Faultless.{read_faultless, read_fault}
 use Rattle.request.proofs.read_as.Statement.{statement}
 use Rattle.request.proofs.read_as.Tie as tie
 
 returns : tie.Need-returns
-unfolding handedOn
-returns c = rw (read-faultless _ _ (sym c.before.if1.true ∙ c.before.before.fault-of.ensures), c.recorder-in.ensures)
+unfolding handed_on
+returns c = rw (read_faultless _ _ (sym c.before.if1.true ∙ c.before.before.fault-of.ensures), c.recorder-in.ensures)
 
 returns-2 : tie.Need-returns-2
-unfolding handedOn
+unfolding handed_on
 returns-2 c =
     let f = c.before.before.fault-of.ensures in
-    rw (read-fault _ _ (λ e. c.before.if1.false (f ∙ e)), c.no-recorder.ensures, f)
+    rw (read_fault _ _ (λ e. c.before.if1.false (f ∙ e)), c.no-recorder.ensures, f)
 
 pub read-as-spec : {M : Type 1} → statement M
 read-as-spec =

@@ -5,8 +5,8 @@ use mathlib.Core.Path.{ap, ◌∙◌}
 use mathlib.Core.List.{List}
 use Prim.Native.Nat.{◌≤◌}
 use lib.ListN.{length}
-use Rattle.base.proofs.Pieces.{part-rest}
-use Rattle.request.specs.Format.{handedOn, readAs}
+use Rattle.base.proofs.Pieces.{part_rest}
+use Rattle.request.specs.Format.{handed_on, read_as}
 use Rattle.request.proofs.read_by.Statement.{statement}
 use Rattle.request.proofs.read_by.Tie as tie
 
@@ -25,7 +25,7 @@ part-read-as-end c = omega (arith, fits c)
 returns : tie.Need-returns
 returns c =
     let a = c.before.before.before.before.args in
-    rw c.before.before.marker-size.ensures at (c.read_as.ensures ∙ ap (λ (l : List _). handedOn (readAs a.kind l)) (part-rest a.s.now c.before.before.marker-size.result))
+    rw c.before.before.marker-size.ensures at (c.read_as.ensures ∙ ap (λ (l : List _). handed_on (read_as a.kind l)) (part_rest a.s.now c.before.before.marker-size.result))
 
 pub read-by-spec : {M : Type 1} → statement M
 read-by-spec =

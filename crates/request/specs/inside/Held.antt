@@ -5,7 +5,7 @@ use Rattle.base.specs.Lists.{padded}
 use Rattle.schedule.specs.declared.Job.{Job}
 use Rattle.schedule.specs.declared.Jobs.{Jobs}
 use Rattle.tables.specs.declared.TaskRecord.{TaskRecord}
-use Rattle.request.specs.Format.{vacantJob, job_of}
+use Rattle.request.specs.Format.{vacant_job, job_of}
 
 -- n tasks whose records begin at a place: they are there, and each period is from 1 to 4,096.
 pub record SoundTasks (s : List ℕ) (n from : ℕ) : Type 0 where
@@ -15,7 +15,7 @@ pub record SoundTasks (s : List ℕ) (n from : ℕ) : Type 0 where
 -- A list of jobs in an array of 16: as many as fit, with its count capped. A file that is accepted has at most 16 jobs, and there it is that list in its array
 -- (proofs/Packed).
 unfoldable pub packed : List Job → Jobs
-packed l = record { count = min (length l) 17; list = padded 16 vacantJob (take 16 l) }
+packed l = record { count = min (length l) 17; list = padded 16 vacant_job (take 16 l) }
 
 -- One job more.
 unfoldable pub pushed : Jobs → Job → Jobs
@@ -25,5 +25,5 @@ pushed js j =
     (record { count = 17; list = js.list })
 
 -- With what a task releases at t.
-unfoldable pub releasedTo : Jobs → TaskRecord → ℕ → Jobs
-releasedTo js k t = cond (eqb (t % k.period) 0) (pushed js (job_of k t)) js
+unfoldable pub released_to : Jobs → TaskRecord → ℕ → Jobs
+released_to js k t = cond (eqb (t % k.period) 0) (pushed js (job_of k t)) js

@@ -19,8 +19,8 @@ pub data Windows (R : Recorder) (s : List ℕ) : Verdict → Type 0 where
   met : Met R s (jobs R) → Windows R s (verdict 0 0)
 
 -- One job by itself.
-unfoldable pub windowFault : (a d c s : ℕ) → ℕ
-windowFault a d c s = cond (ltb s a) 16 (cond (ltb d (s + c)) 17 0)
+unfoldable pub window_fault : (a d c s : ℕ) → ℕ
+window_fault a d c s = cond (ltb s a) 16 (cond (ltb d (s + c)) 17 0)
 
 -- Job i, of c ticks from s on, and job j, of e ticks from t on, are two that share a tick.
 unfoldable pub clashes : (i s c j t e : ℕ) → Bool

@@ -2,9 +2,9 @@
 use mathlib.Core.Path.{refl, sym, ◌∙◌}
 use native.Mathlib.Omega.{arith}
 use lib.Seq.{length-take-le}
-use Rattle.text.proofs.Puts.{put-size, put_front}
+use Rattle.text.proofs.Puts.{put_size, put_front}
 use Rattle.sheet.specs.Promises as P
-use Rattle.sheet.proofs.Answers.{filled-as}
+use Rattle.sheet.proofs.Answers.{filled_as}
 use borrow.Author.Rules.{rules}
 use Rattle.sheet_export.proofs.export_devices.Statement.{statement}
 use Rattle.sheet_export.proofs.export_devices.Tie as tie
@@ -37,7 +37,7 @@ returns-3 c =
     let put = c.before.before.before.before.before.before.put-part-lines.ensures.1 in
     let u = sym c.before.before.before.before.before.before.before.before.before.before.before.is-unfit.ensures ∙ c.before.before.before.before.before.before.before.before.before.before.if1.false in
     let w = sym c.before.before.before.before.before.before.before.before.before.is-repeated.ensures ∙ c.before.before.before.before.before.before.before.before.if2.false in
-    filled-as (rw (u, w)) (put-size put) (put_front put) c.before.before.give.ensures
+    filled_as (rw (u, w)) (put_size put) (put_front put) c.before.before.give.ensures
 
 pub export-devices-spec : {M : Type 1} → statement M
 export-devices-spec =

@@ -1,15 +1,15 @@
 -- A row's line with its CR LF, as the code puts it. Nobody need believe these: no promise speaks of them.
 use Rattle.std.specs.Prelude.{List, [], ◌∷◌, ◌++◌, ℕ}
-use Rattle.tables.specs.Records.{jobAt}
+use Rattle.tables.specs.Records.{job_at}
 use Rattle.catalogue.specs.Parts.{Part}
 use Rattle.text.specs.Grammar.{cr, lf}
-use Rattle.sheet.specs.Sheets.{partLine, jobLine}
+use Rattle.sheet.specs.Sheets.{part_line, job_line}
 
 abbrev pub ended : List ℕ → List ℕ
 ended l = l ++ cr ∷ lf ∷ []
 
-abbrev pub partText : Part → List ℕ
-partText p = ended (partLine p)
+abbrev pub part_text : Part → List ℕ
+part_text p = ended (part_line p)
 
-abbrev pub recordText : List ℕ → List ℕ
-recordText r = ended (jobLine (jobAt r 0))
+abbrev pub record_text : List ℕ → List ℕ
+record_text r = ended (job_line (job_at r 0))

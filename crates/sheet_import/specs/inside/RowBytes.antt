@@ -1,18 +1,18 @@
 -- The rows of a text as the code puts them, by what its lines hold. Nobody need believe these: no promise speaks of them.
 use Rattle.std.specs.Prelude.{List, ℕ}
-use Rattle.tables.specs.Records.{jobBytes}
+use Rattle.tables.specs.Records.{job_bytes}
 use Rattle.sheet.specs.declared.SheetKind.{SheetKind}
 use Rattle.sheet.specs.declared.SheetKind.TheVariants.{Devices, Jobs}
-use Rattle.sheet.specs.Sheets.{partBytes}
-use Rattle.sheet_import.specs.inside.Reading.{partRaw, jobRaw, Sound, Formed}
+use Rattle.sheet.specs.Sheets.{part_bytes}
+use Rattle.sheet_import.specs.inside.Reading.{part_raw, job_raw, Sound, Formed}
 
-abbrev pub rowBytes : SheetKind → List ℕ → List ℕ
-rowBytes Devices l = partBytes (partRaw l)
-rowBytes Jobs l = jobBytes (jobRaw l)
+abbrev pub row_bytes : SheetKind → List ℕ → List ℕ
+row_bytes Devices l = part_bytes (part_raw l)
+row_bytes Jobs l = job_bytes (job_raw l)
 
-abbrev pub rowSize : SheetKind → ℕ
-rowSize Devices = 15
-rowSize Jobs = 7
+abbrev pub row_size : SheetKind → ℕ
+row_size Devices = 15
+row_size Jobs = 7
 
 -- A line that can be put.
 abbrev pub Ready : SheetKind → List ℕ → Type 0

@@ -3,7 +3,7 @@ use borrow.Author.Rules.{rules}
 use Rattle.schedule.specs.Listing.{Feasible}
 use Rattle.planner.specs.Promises.{stops, passes, feasible, gives}
 use Rattle.stepper.specs.Promises.{Unfit, Brief}
-use Rattle.stepper.proofs.Fitting.{past, first-refused, first-fit}
+use Rattle.stepper.proofs.Fitting.{past, first_refused, first_fit}
 use Rattle.stepper.proofs.steps_of.Statement.{statement}
 use Rattle.stepper.proofs.steps_of.Tie as tie
 
@@ -13,8 +13,8 @@ faultless : (c : tie.Else3) → let a = c.before.before.before.before.before.bef
 faultless c =
     let e = c.before.before.before.before.before in
     let a = e.before.before.before.before.before.before.before.args in
-    first-fit _ _ _ a.energies.now e.before.before.if1.false e.if2.false _ c.before.before.first-fault.result _
-    c.before.before.before.before.judge.ensures c.before.before.before.unfit.ensures c.before.before.first-fault.ensures c.if3.false
+    first_fit _ _ _ a.energies.now e.before.before.if1.false e.if2.false _ c.before.before.first_fault.result _
+    c.before.before.before.before.judge.ensures c.before.before.before.unfit.ensures c.before.before.first_fault.ensures c.if3.false
 
 returns : tie.Need-returns
 returns c = rw c.refusal.ensures (stops c.before.if1.true)
@@ -26,8 +26,8 @@ returns-3 : tie.Need-returns-3
 returns-3 c =
     let e = c.before.before.before.before.before.before in
     rw c.refusal-at.ensures
-    (first-refused _ _ _ _ e.before.before.if1.false e.if2.false _ c.before.before.before.first-fault.result _
-    c.before.before.before.before.before.judge.ensures c.before.before.before.before.unfit.ensures c.before.before.before.first-fault.ensures c.before.if3.true)
+    (first_refused _ _ _ _ e.before.before.if1.false e.if2.false _ c.before.before.before.first_fault.result _
+    c.before.before.before.before.before.judge.ensures c.before.before.before.before.unfit.ensures c.before.before.before.first_fault.ensures c.before.if3.true)
 
 run-devices-requires : tie.Need-run-devices-requires
 run-devices-requires c κs =

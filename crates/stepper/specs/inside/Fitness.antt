@@ -1,10 +1,10 @@
 -- What the code hands on of 25 and 24: the number that refuses, or 0. Contracts inside the crate cite this.
 use Rattle.std.specs.Prelude.{List, ℕ, ◌<◌, get_or}
-use Rattle.device.specs.Row.{noDevice}
+use Rattle.device.specs.Row.{no_device}
 use Rattle.schedule.specs.declared.Recorder.{Recorder}
 use Rattle.schedule.specs.declared.Devices.{Devices}
 use Rattle.schedule.specs.Quantities.{device}
-use Rattle.steps.specs.Stepping.{moveTime}
+use Rattle.steps.specs.Stepping.{move_time}
 use Rattle.stepper.specs.Promises.{Between, Unfit, Brief}
 
 pub data Fitness (file : List ℕ) (R : Recorder) : ℕ → Type 0 where
@@ -22,4 +22,4 @@ pub record Unlike (R : Recorder) : Type 0 where
 pub record Outrun (ds : Devices) (run : ℕ) : Type 0 where
   pub which : ℕ
   pub known : which < ds.count
-  pub outrun : run < moveTime (get_or ds.list which noDevice)
+  pub outrun : run < move_time (get_or ds.list which no_device)

@@ -9,13 +9,13 @@ use Rattle.schedule.specs.Listing.{Place}
 use Rattle.steps.specs.declared.State.TheVariants.{Working}
 use Rattle.steps.specs.declared.Stepped.{Stepped}
 use Rattle.steps.specs.declared.Order.{Order}
-use Rattle.steps.specs.Stepping.{at_start, atEnd, end_of, spent, finally}
+use Rattle.steps.specs.Stepping.{at_start, at_end, end_of, spent, finally}
 unfoldable pub use Rattle.steps.specs.Stepping.{alone, later}
-pub use Rattle.steps.specs.Stepping.{passOver, ruledTo}
+pub use Rattle.steps.specs.Stepping.{pass_over, ruled_to}
 
 -- The device's record over a whole job.
-abbrev pub jobOver : Device → (gap run : ℕ) (this next : Bool) (pause : ℕ) → Stepped → Stepped
-jobOver d gap run this next pause x = ruledTo atEnd d this next pause (passOver d run (ruledTo at_start d this next pause (passOver d gap x)))
+abbrev pub job_over : Device → (gap run : ℕ) (this next : Bool) (pause : ℕ) → Stepped → Stepped
+job_over d gap run this next pause x = ruled_to at_end d this next pause (pass_over d run (ruled_to at_start d this next pause (pass_over d gap x)))
 
 -- ---- the jobs in running order
 
@@ -25,19 +25,19 @@ begin o i = get_or o.begins i 0
 abbrev pub end : Order → ℕ → ℕ
 end o i = get_or o.ends i 0
 
-abbrev pub usesAt : Order → ℕ → Bool
-usesAt o i = get_or o.uses i false
+abbrev pub uses_at : Order → ℕ → Bool
+uses_at o i = get_or o.uses i false
 
 -- The end of the job before job i.
 abbrev pub after : Order → ℕ → ℕ
 after o zero = 0
 after o (suc i) = end o i
 
-abbrev pub nextBegin : ℕ → Order → ℕ → ℕ
-nextBegin h o j = cond (ltb j o.count) (begin o j) h
+abbrev pub next_begin : ℕ → Order → ℕ → ℕ
+next_begin h o j = cond (ltb j o.count) (begin o j) h
 
-abbrev pub nextUse : Order → ℕ → Bool
-nextUse o j = cond (ltb j o.count) (usesAt o j) false
+abbrev pub next_use : Order → ℕ → Bool
+next_use o j = cond (ltb j o.count) (uses_at o j) false
 
 -- No job is empty, none begins before the one before it has ended, and the last ends within the horizon.
 pub record Spaced (o : Order) (h : ℕ) : Type 0 where
@@ -50,18 +50,18 @@ abbrev pub fresh : Stepped
 fresh = record { state = Working; energy = 0 }
 
 unfoldable pub turn : Device → ℕ → Order → ℕ → Stepped → Stepped
-turn d h o i x = jobOver d (begin o i - after o i) (end o i - begin o i) (usesAt o i) (nextUse o (i + 1)) (nextBegin h o (i + 1) - end o i) x
+turn d h o i x = job_over d (begin o i - after o i) (end o i - begin o i) (uses_at o i) (next_use o (i + 1)) (next_begin h o (i + 1) - end o i) x
 
 -- All jobs in turn, and the ticks after the last.
 unfoldable pub stepped : Device → ℕ → Order → Stepped
-stepped d h o = passOver d (h - after o o.count) (each (turn d h o) o.count fresh)
+stepped d h o = pass_over d (h - after o o.count) (each (turn d h o) o.count fresh)
 
 -- What device k sees of the places of a schedule, from job i on.
 abbrev pub Shows : Recorder → ℕ → Order → ℕ → List Place → Type 0
 Shows R k o i [] = o.count ≡ i
 Shows R k o i (p ∷ r) =
-    (i < o.count) × (begin o i ≡ p.start) × (end o i ≡ end_of R k p) × (usesAt o i ≡ uses R k p.job) × Shows R k o (suc i) r
+    (i < o.count) × (begin o i ≡ p.start) × (end o i ≡ end_of R k p) × (uses_at o i ≡ uses R k p.job) × Shows R k o (suc i) r
 
 -- What a schedule leaves of device k: its state at H, and the energy of its row.
-abbrev pub steppedBy : Recorder → List ℕ → ℕ → Stepped
-steppedBy R s k = record { state = finally R k s; energy = spent R k s }
+abbrev pub stepped_by : Recorder → List ℕ → ℕ → Stepped
+stepped_by R s k = record { state = finally R k s; energy = spent R k s }

@@ -3,10 +3,10 @@ use mathlib.Core.Path.{◌≡◌, ap, ◌∙◌}
 use mathlib.Core.List.{[], ◌∷◌}
 use native.Mathlib.Omega.{arith}
 use Rattle.tables.specs.declared.File.{File}
-use Rattle.base.specs.Bytes.{pairBytes}
+use Rattle.base.specs.Bytes.{pair_bytes}
 use Rattle.tables.specs.inside.Held.{held}
-use Rattle.tables.proofs.Appending.{appended-more, held_all}
-use Rattle.table_bytes.specs.TableBytes.{kindByte, head_of}
+use Rattle.tables.proofs.Appending.{appended_more, held_all}
+use Rattle.table_bytes.specs.TableBytes.{kind_byte, head_of}
 use Rattle.table_bytes.proofs.Sizes.{counted}
 use borrow.Author.Rules.{rules}
 use Rattle.table_bytes.proofs.head.Statement.{statement}
@@ -47,10 +47,10 @@ push-pair-requires-4 c κs = omega (arith, seven c)
 returns : tie.Need-returns
 returns c =
     let a = c.before.before.before.before.before.before.before.args in
-    let k = kindByte a.kind in
+    let k = kind_byte a.kind in
     rw (c.push-pair4.ensures, c.before.push-pair3.ensures, c.before.before.push-pair2.ensures, c.before.before.before.push-pair.ensures, c.before.before.before.before.push.ensures, c.before.before.before.before.before.kind-byte.ensures, c.before.before.before.before.before.before.empty.ensures)
-    (appended-more _ (pairBytes a.tasks) (pairBytes a.jobs) ∙ appended-more _ (pairBytes a.devices) _ ∙ appended-more _ (pairBytes a.horizon) _
-    ∙ appended-more (held []) (k ∷ []) _ ∙ held_all (head_of a.kind a.horizon a.devices a.tasks a.jobs) (omega arith))
+    (appended_more _ (pair_bytes a.tasks) (pair_bytes a.jobs) ∙ appended_more _ (pair_bytes a.devices) _ ∙ appended_more _ (pair_bytes a.horizon) _
+    ∙ appended_more (held []) (k ∷ []) _ ∙ held_all (head_of a.kind a.horizon a.devices a.tasks a.jobs) (omega arith))
 
 pub head_spec : {M : Type 1} → statement M
 head_spec =

@@ -7,7 +7,7 @@ use Rattle.table_bytes.proofs.tasks_from.Tie as tie
 returns : tie.Need-returns
 returns c =
     let d = c.devices-end.ensures in
-    (d.0 ∙ rw (c.before.fewer.ensures, c.before.before.count_at.ensures, c.before.before.before.kind-named.ensures), d.1)
+    (d.0 ∙ rw (c.before.fewer.ensures, c.before.before.count_at.ensures, c.before.before.before.kind_named.ensures), d.1)
 
 pub tasks-from-spec : {M : Type 1} → statement M
 tasks-from-spec =

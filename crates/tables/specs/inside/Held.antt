@@ -5,7 +5,7 @@ use Rattle.base.specs.Lists.{padded}
 use Rattle.tables.specs.declared.Kind.{Kind}
 use Rattle.tables.specs.declared.Tables.{Tables}
 use Rattle.tables.specs.declared.File.{File}
-use Rattle.tables.specs.Layout.{taskCount, jobsPlace}
+use Rattle.tables.specs.Layout.{task_count, jobs_place}
 
 -- Tables whose counts are limited to one above the limits of a file, so that they fit an array. A count that is limited is refused all the same
 -- (request/proofs/Limiting).
@@ -30,7 +30,7 @@ appended f (b ∷ l) = appended (record { count = f.count + 1; bytes = set f.byt
 
 -- What follows the mark of a file of a kind: its tables are all there, with nothing after them, and fit their lists.
 pub record Whole (k : Kind) (s : List ℕ) : Type 0 where
-  pub few-devices : byte_at s 2 ≤ 8
-  pub few-tasks : taskCount k s ≤ 8
-  pub few-jobs : byte_at s (jobsPlace k s) ≤ 16
-  pub ends : jobsPlace k s + 1 + byte_at s (jobsPlace k s) * 7 ≡ length s
+  pub few_devices : byte_at s 2 ≤ 8
+  pub few_tasks : task_count k s ≤ 8
+  pub few_jobs : byte_at s (jobs_place k s) ≤ 16
+  pub ends : jobs_place k s + 1 + byte_at s (jobs_place k s) * 7 ≡ length s

@@ -1,4 +1,4 @@
--- The same text by places, as the code goes along it, two quotes between quotes left as they stand (`rawOf`). Nobody need believe these: no promise speaks of
+-- The same text by places, as the code goes along it, two quotes between quotes left as they stand (`raw_of`). Nobody need believe these: no promise speaks of
 -- them. proofs/Scanning: they are the lines, fields and numbers of the definitions.
 use Rattle.std.specs.Prelude.{Bool, true, false, cond, ◌&&◌, List, [], ◌∷◌, ℕ, suc, ◌+◌, ◌-◌, ◌*◌, min, length, take, drop, get_or, eqb, ltb}
 use Rattle.std.proofs.Math.Option
@@ -9,31 +9,31 @@ use Rattle.text.specs.declared.State.TheVariants.{Fresh, Plain, Quoted, Closed}
 use Rattle.text.specs.declared.Turn.{Turn}
 use Rattle.text.specs.declared.Turn.TheVariants.{Stray, Ends, Goes}
 use Rattle.text.specs.declared.Cut.{Cut}
-use Rattle.text.specs.Grammar.{cr, lf, quote, Step, stray, ends, goes, step, fieldsFrom}
+use Rattle.text.specs.Grammar.{cr, lf, quote, Step, stray, ends, goes, step, fields_from}
 use Rattle.text.specs.Numerals.{digit}
 
 -- ---- lines
 
 -- The length of the first line: the place of the first CR LF, or the text's length; and the place behind its CR LF.
-unfoldable pub lineLength : List ℕ → ℕ
-lineLength [] = 0
-lineLength (b ∷ []) = 1
-lineLength (b ∷ c ∷ s) = cond (eqb b cr && eqb c lf) 0 (suc (lineLength (c ∷ s)))
+unfoldable pub line_length : List ℕ → ℕ
+line_length [] = 0
+line_length (b ∷ []) = 1
+line_length (b ∷ c ∷ s) = cond (eqb b cr && eqb c lf) 0 (suc (line_length (c ∷ s)))
 
 -- CR LF stands at place i.
-abbrev pub breaksAt : List ℕ → ℕ → Bool
-breaksAt s i = eqb (get_or s i 0) cr && eqb (get_or s (i + 1) 0) lf
+abbrev pub breaks_at : List ℕ → ℕ → Bool
+breaks_at s i = eqb (get_or s i 0) cr && eqb (get_or s (i + 1) 0) lf
 
-abbrev pub nextLine : List ℕ → ℕ
-nextLine s = cond (ltb (lineLength s) (length s)) (lineLength s + 2) (lineLength s)
+abbrev pub next_line : List ℕ → ℕ
+next_line s = cond (ltb (line_length s) (length s)) (line_length s + 2) (line_length s)
 
 -- ---- fields
 
 abbrev pub raw : List ℕ
 raw = quote ∷ quote ∷ []
 
-abbrev pub rawOf : List ℕ → Option (List (List ℕ))
-rawOf = fieldsFrom (quote ∷ quote ∷ []) Fresh
+abbrev pub raw_of : List ℕ → Option (List (List ℕ))
+raw_of = fields_from (quote ∷ quote ∷ []) Fresh
 
 -- What a byte does, without the field's bytes.
 abbrev pub turn_of : Step → Turn
@@ -54,20 +54,20 @@ onward stray rest = record { size = 0; whole = false }
 onward ends rest = record { size = 0; whole = true }
 onward (goes q t) rest = let c = rest q in record { size = suc c.size; whole = c.whole }
 
-unfoldable pub cutFrom : State → List ℕ → Cut
-cutFrom q [] = record { size = 0; whole = is_over q }
-cutFrom q (b ∷ s) = onward (step (quote ∷ quote ∷ []) q b) (λ r. cutFrom r s)
+unfoldable pub cut_from : State → List ℕ → Cut
+cut_from q [] = record { size = 0; whole = is_over q }
+cut_from q (b ∷ s) = onward (step (quote ∷ quote ∷ []) q b) (λ r. cut_from r s)
 
 abbrev pub cut_of : List ℕ → Cut
-cut_of = cutFrom Fresh
+cut_of = cut_from Fresh
 
 -- A field's bytes: those up to its end, without the quotes around them.
-abbrev pub startsQuoted : List ℕ → Bool
-startsQuoted [] = false
-startsQuoted (b ∷ s) = eqb b quote
+abbrev pub starts_quoted : List ℕ → Bool
+starts_quoted [] = false
+starts_quoted (b ∷ s) = eqb b quote
 
-abbrev pub firstField : List ℕ → List ℕ
-firstField s = cond (startsQuoted s) (take ((cut_of s).size - 2) (drop 1 s)) (take (cut_of s).size s)
+abbrev pub first_field : List ℕ → List ℕ
+first_field s = cond (starts_quoted s) (take ((cut_of s).size - 2) (drop 1 s)) (take (cut_of s).size s)
 
 -- How many fields there are behind k; 0 where a quote is stray or open.
 abbrev pub counted : ℕ → Option (List (List ℕ)) → ℕ
@@ -81,13 +81,13 @@ field_at o i = get_or (Option.get_or o []) i []
 -- ---- numbers
 
 -- The value of digits, never above 65,536: nothing wraps, however many there are.
-unfoldable pub cappedFrom : ℕ → List ℕ → ℕ
-cappedFrom v [] = v
-cappedFrom v (b ∷ s) = cappedFrom (min (v * 10 + (b - 48)) 65536) s
+unfoldable pub capped_from : ℕ → List ℕ → ℕ
+capped_from v [] = v
+capped_from v (b ∷ s) = capped_from (min (v * 10 + (b - 48)) 65536) s
 
 -- 65,536 for what is no number of 16 bits.
-abbrev pub numberFrom : ℕ → List ℕ → ℕ
-numberFrom v s = cond (all digit s) (cappedFrom v s) 65536
+abbrev pub number_from : ℕ → List ℕ → ℕ
+number_from v s = cond (all digit s) (capped_from v s) 65536
 
 abbrev pub number_of : List ℕ → ℕ
-number_of f = cond (ltb 0 (length f)) (numberFrom 0 f) 65536
+number_of f = cond (ltb 0 (length f)) (number_from 0 f) 65536

@@ -7,7 +7,7 @@ use Rattle.vertex.specs.declared.dues.Dues.{Dues}
 
 -- Of the jobs of the set m below n the two smallest last starts, and the job of the smaller; 65536 where there is none.
 pub record TwoLeast (R : Recorder) (m n : ℕ) (d : Dues) : Type 0 where
-  pub first-low : (i : ℕ) → i < n → has m i ≡ true → d.first ≤ last_of R i
-  pub second-low : (i : ℕ) → i < n → has m i ≡ true → (i ≡ d.at.0 → ⊥) → d.second ≤ last_of R i
-  pub first-is : (d.first ≡ 65536) ⊎ ((d.at.0 < n) × (has m d.at.0 ≡ true) × (d.first ≡ last_of R d.at.0))
+  pub first_low : (i : ℕ) → i < n → has m i ≡ true → d.first ≤ last_of R i
+  pub second_low : (i : ℕ) → i < n → has m i ≡ true → (i ≡ d.at.0 → ⊥) → d.second ≤ last_of R i
+  pub first_is : (d.first ≡ 65536) ⊎ ((d.at.0 < n) × (has m d.at.0 ≡ true) × (d.first ≡ last_of R d.at.0))
   pub second_is : (d.second ≡ 65536) ⊎ ((i : ℕ) × (i < n) × (has m i ≡ true) × (i ≡ d.at.0 → ⊥) × (d.second ≡ last_of R i))

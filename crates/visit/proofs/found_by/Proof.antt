@@ -8,7 +8,7 @@ use Rattle.schedule.specs.declared.Recorder.{Recorder}
 use Rattle.schedule.specs.Quantities.{Valid, jobs}
 use Rattle.extras.specs.inside.Tabled.{Room}
 use Rattle.visit.specs.inside.Lent as Lent
-use Rattle.visit.proofs.Finding.{finds-over, finds-none, finds-found, finds-fit, kept-over, kept-counted}
+use Rattle.visit.proofs.Finding.{finds_over, finds_none, finds_found, finds_fit, kept_over, kept_counted}
 use Rattle.visit.proofs.found_by.Statement.{statement}
 use Rattle.visit.proofs.found_by.Tie as tie
 
@@ -30,14 +30,14 @@ returns-2 : tie.Need-returns-2
 returns-2 c =
     let v = c.before.before.before.before.before in
     let f = v.before.before.before.before.before in
-    (finds-over _ _ _ _ f.flat-of.ensures _ _ v.laid-visit.ensures.0 _ (room f.before) c.if2.true, kept-over _ _ _ _ _ v.laid-visit.ensures.1)
+    (finds_over _ _ _ _ f.flat-of.ensures _ _ v.laid-visit.ensures.0 _ (room f.before) c.if2.true, kept_over _ _ _ _ _ v.laid-visit.ensures.1)
 
 returns-3 : tie.Need-returns-3
 returns-3 c =
     let v = c.before.before.before.before.before.before in
     let f = v.before.before.before.before.before in (
-      finds-none _ _ _ _ f.flat-of.ensures _ _ v.laid-visit.ensures.0 _ (room f.before) c.before.if2.false c.if3.true,
-      kept-counted _ _ _ _ _ v.laid-visit.ensures.1 _ _ v.laid-visit.ensures.0 c.before.if2.false,
+      finds_none _ _ _ _ f.flat-of.ensures _ _ v.laid-visit.ensures.0 _ (room f.before) c.before.if2.false c.if3.true,
+      kept_counted _ _ _ _ _ v.laid-visit.ensures.1 _ _ v.laid-visit.ensures.0 c.before.if2.false,
     )
 
 write-starts-requires : tie.Need-write-starts-requires
@@ -45,15 +45,15 @@ write-starts-requires c κs =
     let v = c.before.before.before.before.before.before.before.before in
     let f = v.before.before.before.before.before in
     let s = f.before.before.before.before.before.before in
-    (s.requires.0.few-jobs, (room f.before, finds-fit _ _ _ _ f.flat-of.ensures _ _ v.laid-visit.ensures.0 s.requires.0 c.before.before.before.if2.false c.before.before.if3.false))
+    (s.requires.0.few_jobs, (room f.before, finds_fit _ _ _ _ f.flat-of.ensures _ _ v.laid-visit.ensures.0 s.requires.0 c.before.before.before.if2.false c.before.before.if3.false))
 
 returns-4 : tie.Need-returns-4
 returns-4 c =
     let n = c.before.before.before.before.before in
     let v = n.before.before.before.before.before.before in
     let f = v.before.before.before.before.before in (
-      finds-found _ _ _ _ f.flat-of.ensures _ _ v.laid-visit.ensures.0 _ (room f.before) n.before.if2.false n.if3.false _ c.before.before.write-starts.ensures,
-      kept-counted _ _ _ _ _ v.laid-visit.ensures.1 _ _ v.laid-visit.ensures.0 n.before.if2.false,
+      finds_found _ _ _ _ f.flat-of.ensures _ _ v.laid-visit.ensures.0 _ (room f.before) n.before.if2.false n.if3.false _ c.before.before.write-starts.ensures,
+      kept_counted _ _ _ _ _ v.laid-visit.ensures.1 _ _ v.laid-visit.ensures.0 n.before.if2.false,
     )
 
 pub found-by-spec : {M : Type 1} → statement M

@@ -6,13 +6,13 @@ use native.Mathlib.Nat.{mod-eq_of_lt}
 use lib.ListN.{length, set, length-set}
 use Rattle.base.specs.Loops.{each}
 use Rattle.base.proofs.Stores.{stored_is}
-use Rattle.base.proofs.Turns.{each_start, each_step, each-done}
-use Rattle.visit.specs.inside.Lent.{bestAt}
+use Rattle.base.proofs.Turns.{each_start, each_step, each_done}
+use Rattle.visit.specs.inside.Lent.{best_at}
 use Rattle.visit.proofs.write_starts.Statement.{statement}
 use Rattle.visit.proofs.write_starts.Tie as tie
 
 abbrev invariant-loop : tie.invariant-loop
-invariant-loop tally n out₀ j₀ out j = (j ≤ n) × (out ≡ each (λ i l. set l i (bestAt tally i)) j out₀) × (length out ≡ length out₀)
+invariant-loop tally n out₀ j₀ out j = (j ≤ n) × (out ≡ each (λ i l. set l i (best_at tally i)) j out₀) × (length out ≡ length out₀)
 
 abbrev decreases-loop : tie.decreases-loop
 decreases-loop tally n out₀ j₀ out j = n - j
@@ -30,7 +30,7 @@ same_length : tie.Need-same-length invariant-loop decreases-loop
 same_length c = c.before.loop.invariant.2
 
 returns : tie.Need-returns invariant-loop decreases-loop
-returns c = each-done _ _ _ _ _ c.before.loop.invariant.1 (omega arith) ∙ stored_is (bestAt c.before.before.args.tally.now) _ _ c.before.before.requires.1.0
+returns c = each_done _ _ _ _ _ c.before.loop.invariant.1 (omega arith) ∙ stored_is (best_at c.before.before.args.tally.now) _ _ c.before.before.requires.1.0
 
 pub write-starts-spec : {M : Type 1} → statement M
 write-starts-spec =

@@ -7,40 +7,40 @@ use Rattle.base.specs.Loops.{through}
 use Rattle.schedule.specs.declared.Recorder.{Recorder}
 use Rattle.schedule.specs.Quantities.{jobs, run, deadline}
 use Rattle.schedule.specs.Listing.{Feasible}
-use Rattle.schedule.specs.Visiting.{Vertex, Visited, startsOf, child, starts, earliest, choices, cutA, floor, planEnergy}
+use Rattle.schedule.specs.Visiting.{Vertex, Visited, starts_of, child, starts, earliest, choices, cut_a, floor, plan_energy}
 use Rattle.extras.specs.inside.Tabled.{Tabled, cap_at}
 use Rattle.vertex.specs.inside.Shown.{Shows}
 use Rattle.recall.specs.inside.Entries.{Right}
 use Rattle.recall.specs.inside.Counts.{Counts}
 use Rattle.visit.specs.declared.Found.{Found}
-use Rattle.visit.specs.inside.Stops.{Open, visitBy, visitedBy, entered}
+use Rattle.visit.specs.inside.Stops.{Open, visit_by, visited_by, entered}
 
 -- ---- the tally
 
-abbrev pub countAt : List ℕ → ℕ
-countAt l = get_or l 0 0
+abbrev pub count_at : List ℕ → ℕ
+count_at l = get_or l 0 0
 
-abbrev pub energyAt : List ℕ → ℕ
-energyAt l = get_or l 1 0
+abbrev pub energy_at : List ℕ → ℕ
+energy_at l = get_or l 1 0
 
 abbrev pub start_at : List ℕ → ℕ → ℕ
 start_at l j = get_or l (2 + j) 0
 
-abbrev pub bestAt : List ℕ → ℕ → ℕ
-bestAt l j = get_or l (18 + j) 0
+abbrev pub best_at : List ℕ → ℕ → ℕ
+best_at l j = get_or l (18 + j) 0
 
 abbrev pub stop_at : List ℕ → ℕ
 stop_at l = get_or l 34 0
 
 -- The tally holds the best.
 unfoldable pub Bests : Recorder → List ℕ → Option (List ℕ) → Type 0
-Bests R l none = energyAt l ≡ 4294967295
+Bests R l none = energy_at l ≡ 4294967295
 Bests R l (some s) =
-    (energyAt l ≡ planEnergy R s) × (energyAt l < 4294967295) × (length s ≡ jobs R) × ((j : ℕ) → j < jobs R → bestAt l j ≡ get_or s j 0) × Feasible R s
+    (energy_at l ≡ plan_energy R s) × (energy_at l < 4294967295) × (length s ≡ jobs R) × ((j : ℕ) → j < jobs R → best_at l j ≡ get_or s j 0) × Feasible R s
 
 -- The tally l holds what the visit has come to, within the budget.
 pub record Holds (R : Recorder) (budget : ℕ) (l : List ℕ) (st : Visited) : Type 0 where
-  pub count : countAt l ≡ st.count
+  pub count : count_at l ≡ st.count
   pub best : Bests R l st.best
   pub within : st.count ≤ budget
 
@@ -48,9 +48,9 @@ pub record Holds (R : Recorder) (budget : ℕ) (l : List ℕ) (st : Visited) : T
 pub record Tells (R : Recorder) (stop : Bool) (budget : ℕ) (l : List ℕ) (v : Vertex) (st : Visited) : Type 0 where
   pub long : length l ≡ 35
   pub stops : stop_at l ≡ cond stop 1 0
-  pub count : countAt l ≡ st.count
+  pub count : count_at l ≡ st.count
   pub best : Bests R l st.best
-  pub path : (j : ℕ) → j < jobs R → (In j v.unplaced → ⊥) → start_at l j ≡ get_or (startsOf R v) j 0
+  pub path : (j : ℕ) → j < jobs R → (In j v.unplaced → ⊥) → start_at l j ≡ get_or (starts_of R v) j 0
   pub within : st.count ≤ budget
   pub going : Open stop st
 
@@ -58,30 +58,30 @@ pub record Tells (R : Recorder) (stop : Bool) (budget : ℕ) (l : List ℕ) (v :
 -- it is found, and the tally holds st.
 pub data Came (R : Recorder) (stop : Bool) (budget : ℕ) (l : List ℕ) (v : Vertex) (st : Visited) : Bool → Type 0 where
   done : Tells R stop budget l v st → Came R stop budget l v st false
-  over : stop_at l ≡ cond stop 1 0 → budget < st.count → (stop ≡ true → energyAt l ≡ 4294967295) → Came R stop budget l v st true
-  ended : stop_at l ≡ cond stop 1 0 → stop ≡ true → energyAt l < 4294967295 → Holds R budget l st → Came R stop budget l v st true
+  over : stop_at l ≡ cond stop 1 0 → budget < st.count → (stop ≡ true → energy_at l ≡ 4294967295) → Came R stop budget l v st true
+  ended : stop_at l ≡ cond stop 1 0 → stop ≡ true → energy_at l < 4294967295 → Holds R budget l st → Came R stop budget l v st true
 
 -- Whether it was for the budget that a visit ended, by the tally l and whether it did.
 pub data Over (l : List ℕ) : Bool → Bool → Type 0 where
   goes : Over l false false
   alone : (stop_at l ≡ 1 → ⊥) → Over l true true
-  told : stop_at l ≡ 1 → (x : Bool) → x ≡ eqb (energyAt l) 4294967295 → Over l true x
+  told : stop_at l ≡ 1 → (x : Bool) → x ≡ eqb (energy_at l) 4294967295 → Over l true x
 
 -- The whole visit answered whether the budget is used up: the tally holds what it came to; or it counts more than the budget.
 pub data Ran (R : Recorder) (stop : Bool) (budget : ℕ) (l : List ℕ) : Bool → Type 0 where
-  whole : Holds R budget l (visitedBy R stop) → Ran R stop budget l false
-  spent : budget < (visitedBy R stop).count → Ran R stop budget l true
+  whole : Holds R budget l (visited_by R stop) → Ran R stop budget l false
+  spent : budget < (visited_by R stop).count → Ran R stop budget l true
 
 -- n vertices more are counted, if the budget has them.
 pub data Added (budget n : ℕ) (l l' : List ℕ) : Bool → Type 0 where
-  fits : countAt l + n ≤ budget → l' ≡ set l 0 (countAt l + n) → Added budget n l l' false
-  beyond : budget < countAt l + n → l' ≡ l → Added budget n l l' true
+  fits : count_at l + n ≤ budget → l' ≡ set l 0 (count_at l + n) → Added budget n l l' false
+  beyond : budget < count_at l + n → l' ≡ l → Added budget n l l' true
 
 -- ---- the memory
 
 -- By how much the energy of the best lies above a floor; 0 where there is no best.
-unfoldable pub slackBy : ℕ → ℕ → ℕ
-slackBy best f = cond (eqb best 4294967295) 0 (best - f)
+unfoldable pub slack_by : ℕ → ℕ → ℕ
+slack_by best f = cond (eqb best 4294967295) 0 (best - f)
 
 -- A lent memory stays as it was where n, the number of vertices, is no more than a few.
 abbrev pub KeptWithin : (n : ℕ) (memory after : List ℕ) → Type 0
@@ -97,8 +97,8 @@ pub record Lends (R : Recorder) (extras memory : List ℕ) : Type 0 where
 -- The numbers l show the vertex v, with jobs unplaced; it has the floor f, and cut A spares it.
 pub record Stands (R : Recorder) (l : List ℕ) (set f m : ℕ) (v : Vertex) : Type 0 where
   pub shows : Shows R l set (suc m) v
-  pub floor-is : floor R v ≡ f
-  pub spared : cutA R v ≡ false
+  pub floor_is : floor R v ≡ f
+  pub spared : cut_a R v ≡ false
 
 -- Job j may start at s at the vertex v.
 pub record Starts (R : Recorder) (v : Vertex) (j s : ℕ) : Type 0 where
@@ -111,15 +111,15 @@ pub record Starts (R : Recorder) (v : Vertex) (j s : ℕ) : Type 0 where
 pub record Tries (R : Recorder) (l : List ℕ) (best set from cut f j s m : ℕ) (v : Vertex) : Type 0 where
   pub stands : Stands R l set from m v
   pub starts : Starts R v j s
-  pub dropped : cut ≤ s → (cutA R (child R v j s) ≡ true) ⊎ (best ≤ floor R (child R v j s))
-  pub spared : s < cut → (cutA R (child R v j s) ≡ false) × (floor R (child R v j s) ≡ f)
+  pub dropped : cut ≤ s → (cut_a R (child R v j s) ≡ true) ⊎ (best ≤ floor R (child R v j s))
+  pub spared : s < cut → (cut_a R (child R v j s) ≡ false) × (floor R (child R v j s) ≡ f)
 
 -- The child that places job j at s and that no cut drops; f is its floor, and `left` the set of the jobs that it leaves unplaced.
 pub record Enters (R : Recorder) (l : List ℕ) (left f j s m : ℕ) (v : Vertex) : Type 0 where
   pub shows : Shows R l (left + 2 ^ j) (suc m) v
   pub starts : Starts R v j s
-  pub spared : cutA R (child R v j s) ≡ false
-  pub floor-is : floor R (child R v j s) ≡ f
+  pub spared : cut_a R (child R v j s) ≡ false
+  pub floor_is : floor R (child R v j s) ≡ f
 
 -- There are such a vertex and what the visit has come to there.
 pub record Some (R : Recorder) (budget : ℕ) (tally : List ℕ) (P : ℕ → Vertex → Type 0) : Type 0 where
@@ -134,7 +134,7 @@ pub record Some (R : Recorder) (budget : ℕ) (tally : List ℕ) (P : ℕ → Ve
 
 -- A memory that is right, and a best of no more energy.
 abbrev pub Leaves : Recorder → List ℕ → List ℕ → List ℕ → List ℕ → Type 0
-Leaves R extras memory l l' = Lends R extras memory × ((length l' ≡ 35) × (energyAt l' ≤ energyAt l))
+Leaves R extras memory l l' = Lends R extras memory × ((length l' ≡ 35) × (energy_at l' ≤ energy_at l))
 
 -- The vertex stands at the time t.
 abbrev pub StandsAt : Recorder → List ℕ → ℕ → ℕ → ℕ → ℕ → Vertex → Type 0
@@ -146,8 +146,8 @@ module _ (R : Recorder) (budget : ℕ) (v l l' : List ℕ) (x : Bool) where
   -- The child that places job j at s, and all below it; and the same child once it is entered.
   abbrev pub VisitCame : ℕ → ℕ → ℕ → ℕ → ℕ → ℕ → Type 0
   VisitCame set from cut f j s =
-      (stop : Bool) (m : ℕ) (u : Vertex) (st : Visited) → Tries R v (energyAt l) set from cut f j s m u → Tells R stop budget l u st
-      → Came R stop budget l' u (visitBy R stop m (child R u j s) st) x
+      (stop : Bool) (m : ℕ) (u : Vertex) (st : Visited) → Tries R v (energy_at l) set from cut f j s m u → Tells R stop budget l u st
+      → Came R stop budget l' u (visit_by R stop m (child R u j s) st) x
 
   abbrev pub EnterCame : ℕ → ℕ → ℕ → ℕ → Type 0
   EnterCame left f j s =
@@ -158,12 +158,12 @@ module _ (R : Recorder) (budget : ℕ) (v l l' : List ℕ) (x : Bool) where
   abbrev pub ChoicesCame : ℕ → ℕ → ℕ → Type 0
   ChoicesCame set from t =
       (stop : Bool) (m : ℕ) (u : Vertex) (st : Visited) → Stands R v set from m u → u.time ≡ t → Tells R stop budget l u st
-      → Came R stop budget l' u (choices R (visitBy R stop m) u st) x
+      → Came R stop budget l' u (choices R (visit_by R stop m) u st) x
 
   abbrev pub StartsCame : ℕ → ℕ → ℕ → ℕ → Type 0
   StartsCame set from t j =
       (stop : Bool) (m : ℕ) (u : Vertex) (st : Visited) → Stands R v set from m u → u.time ≡ t → Tells R stop budget l u st
-      → Came R stop budget l' u (through (λ (y : ℕ). visitBy R stop m (child R u j y)) (starts R u.time j) st) x
+      → Came R stop budget l' u (through (λ (y : ℕ). visit_by R stop m (child R u j y)) (starts R u.time j) st) x
 
 -- ---- the answer
 
@@ -179,4 +179,4 @@ pub data Finds (R : Recorder) (st : Visited) (budget : ℕ) (lent : List ℕ) : 
   beyond : jobs R ≤ length lent → budget < st.count → Finds R st budget lent (refusal 20 budget) lent
   nowhere : jobs R ≤ length lent → st.count ≤ budget → st.best ≡ none → Finds R st budget lent (refusal 19 st.count) lent
   found : {s : List ℕ} → jobs R ≤ length lent → st.count ≤ budget → st.best ≡ some s
-      → Finds R st budget lent (success (planEnergy R s) st.count) (s ++ drop (jobs R) lent)
+      → Finds R st budget lent (success (plan_energy R s) st.count) (s ++ drop (jobs R) lent)

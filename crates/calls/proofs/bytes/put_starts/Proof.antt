@@ -4,9 +4,9 @@ use Prim.Native.Nat.{◌≤◌, ◌-◌, ◌+◌, ◌*◌}
 use native.Mathlib.Omega.{arith}
 use lib.ListN.{length, take, length-set}
 use lib.Seq.{take_all}
-use Rattle.base.proofs.Filling.{Filled, filled-length}
+use Rattle.base.proofs.Filling.{Filled, filled_length}
 use Rattle.calls.specs.Bytes.{spread}
-use Rattle.calls.proofs.Digits.{spread_none, spread-next}
+use Rattle.calls.proofs.Digits.{spread_none, spread_next}
 use borrow.Author.Rules.{rules}
 use Rattle.calls.proofs.bytes.put_starts.Statement.{statement}
 use Rattle.calls.proofs.bytes.put_starts.Tie as tie
@@ -22,7 +22,7 @@ roomy : (c : tie.In-loop invariant-loop decreases-loop)
     → (length c.before.loop.bytes ≡ length c.before.before.args.bytes.now) × (c.before.loop.j * 2 + 2 ≤ length c.before.before.args.bytes.now)
 roomy c =
     let p = c.before.before.requires in
-    (filled-length c.before.loop.invariant.1 (omega arith), omega arith)
+    (filled_length c.before.loop.invariant.1 (omega arith), omega arith)
 
 loop-holds : tie.Need-loop-init invariant-loop decreases-loop
 loop-holds c = (omega arith, spread_none c.args.starts.now c.args.bytes.now)
@@ -43,10 +43,10 @@ slice-write-bytes-2 : tie.Need-slice-write-bytes-2 invariant-loop decreases-loop
 slice-write-bytes-2 c = simp length-set (omega (arith, roomy c.before.before))
 
 loop-again : tie.Need-loop-preserved invariant-loop decreases-loop
-loop-again c = (omega arith, spread-next c.before.before.before.before.args.starts.now c.before.before.before.before.args.bytes.now c.before.before.before.loop.bytes c.before.before.before.loop.j (omega arith) (roomy c.before.before).1 c.before.before.before.loop.invariant.1)
+loop-again c = (omega arith, spread_next c.before.before.before.before.args.starts.now c.before.before.before.before.args.bytes.now c.before.before.before.loop.bytes c.before.before.before.loop.j (omega arith) (roomy c.before.before).1 c.before.before.before.loop.invariant.1)
 
 same_length : tie.Need-same-length invariant-loop decreases-loop
-same_length c = filled-length c.before.loop.invariant.1 (omega (arith, c.before.before.requires))
+same_length c = filled_length c.before.loop.invariant.1 (omega (arith, c.before.before.requires))
 
 returns : tie.Need-returns invariant-loop decreases-loop
 returns c =

@@ -7,7 +7,7 @@ use lib.ListN.{replicate}
 use lib.Seq.{length-take-le}
 use Rattle.schedule.specs.Quantities.{jobs}
 use Rattle.planner.specs.Promises.{RowsOf}
-use Rattle.calls.proofs.Crossing.{own-starts, own_room}
+use Rattle.calls.proofs.Crossing.{own_starts, own_room}
 use borrow.Author.Rules.{rules}
 use Rattle.calls.proofs.paired.rows_bytes.Statement.{statement}
 use Rattle.calls.proofs.paired.rows_bytes.Tie as tie
@@ -36,7 +36,7 @@ returns c =
     let s = c.before.before.before.before.before.before.before.before.before.before in
     let w = c.before.before.rows_of_lem in
     subst (λ (l : List ℕ). RowsOf l s.args.out.now s.args.r w.result w.new.1.1.0)
-    (own-starts s.args.bytes.now zeros c.before.before.before.before.before.before.get-starts.new.1.0 (jobs s.args.r) (omega (arith, c.before.before.before.before.before.before.before.before.before.before.requires.0)) c.before.before.before.before.before.before.get-starts.ensures) w.ensures
+    (own_starts s.args.bytes.now zeros c.before.before.before.before.before.before.get-starts.new.1.0 (jobs s.args.r) (omega (arith, c.before.before.before.before.before.before.before.before.before.before.requires.0)) c.before.before.before.before.before.before.get-starts.ensures) w.ensures
 
 pub rows-bytes-spec : {M : Type 1} → statement M
 rows-bytes-spec =

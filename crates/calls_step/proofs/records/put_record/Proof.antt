@@ -3,7 +3,7 @@ use mathlib.Core.Path.{sym, ◌∙◌}
 use native.Mathlib.Omega.{arith}
 use lib.ListN.{length-set}
 use borrow.Author.Rules.{rules}
-use Rattle.calls_step.proofs.Steps.{stored, record-bytes}
+use Rattle.calls_step.proofs.Steps.{stored, record_bytes_lem}
 use Rattle.calls_step.proofs.records.put_record.Statement.{statement}
 use Rattle.calls_step.proofs.records.put_record.Tie as tie
 
@@ -16,7 +16,7 @@ slice-write-bytes-6 c = rw (length-set, length-set, length-set, length-set, leng
 returns : tie.Need-returns
 returns c =
     let s = c.before.before.before.before.before in
-    rw (c.left-of.ensures, c.before.byte_of.ensures) (stored s.args.bytes.now _ _ _ _ _ _ s.requires ∙ sym (record-bytes s.args.x))
+    rw (c.left-of.ensures, c.before.byte_of.ensures) (stored s.args.bytes.now _ _ _ _ _ _ s.requires ∙ sym (record_bytes_lem s.args.x))
 
 pub put-record-spec : {M : Type 1} → statement M
 put-record-spec =

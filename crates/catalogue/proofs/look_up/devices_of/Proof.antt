@@ -4,17 +4,17 @@ use Prim.Native.Nat.{◌-◌, ◌*◌, ◌≤◌}
 use native.Mathlib.Omega.{arith}
 use borrow.Author.Rules.{rules}
 use Rattle.base.specs.Lists.{up_to, padded}
-use Rattle.base.proofs.Arrays.{upTo-fill}
+use Rattle.base.proofs.Arrays.{up_to_fill}
 use Rattle.base.proofs.Pieces.{slice_is}
-use Rattle.tables.specs.Records.{blankDevice}
-use Rattle.catalogue.proofs.Pieces.{wanted-has, recordFor, wanted-devices}
+use Rattle.tables.specs.Records.{blank_device}
+use Rattle.catalogue.proofs.Pieces.{wanted_has, record_for, wanted_devices}
 use Rattle.catalogue.proofs.look_up.devices_of.Statement.{statement}
 use Rattle.catalogue.proofs.look_up.devices_of.Tie as tie
 
 -- The records of the wanted parts so far.
 abbrev invariant-loop : tie.invariant-loop
 invariant-loop catalogue wanted devices₀ n held k₀ devices k =
-    (k ≤ held) × (devices ≡ record { count = 0; list = padded 8 blankDevice (up_to (recordFor catalogue wanted) k) })
+    (k ≤ held) × (devices ≡ record { count = 0; list = padded 8 blank_device (up_to (record_for catalogue wanted) k) })
 
 abbrev decreases-loop : tie.decreases-loop
 decreases-loop catalogue wanted devices₀ n held k₀ devices k = held - k
@@ -44,7 +44,7 @@ record-of-requires c κs =
     let s = start.args.catalogue.now in
     let w = start.args.wanted.now in
     let k = c.before.before.loop.k in
-    (start.requires.0, rw (slice_is w 8 (8 * k)) (wanted-has s w start.requires.0 start.requires.1 k (omega (arith, c.before.before.before.fewer.ensures))))
+    (start.requires.0, rw (slice_is w 8 (8 * k)) (wanted_has s w start.requires.0 start.requires.1 k (omega (arith, c.before.before.before.fewer.ensures))))
 
 mul-t18 : tie.Need-overflow-mul-t18 invariant-loop decreases-loop
 mul-t18 c = omega (arith, c.before.before.before.before.fewer.ensures)
@@ -62,7 +62,7 @@ loop-again c =
     let s = start.args.catalogue.now in
     let w = start.args.wanted.now in
     let few : l.k ≤ 7 = omega (arith, c.before.before.before.before.fewer.ensures) in
-    (omega arith, rw (c.record_of.ensures, l.invariant.1, slice_is w 8 (8 * l.k), upTo-fill 8 blankDevice (recordFor s w) l.k (omega arith)))
+    (omega arith, rw (c.record_of.ensures, l.invariant.1, slice_is w 8 (8 * l.k), up_to_fill 8 blank_device (record_for s w) l.k (omega arith)))
 
 returns : tie.Need-returns invariant-loop decreases-loop
 returns c =
@@ -71,7 +71,7 @@ returns c =
     let s = start.args.catalogue.now in
     let w = start.args.wanted.now in
     let all : l.k ≡ c.before.before.fewer.result = omega arith in
-    rw (l.invariant.1, all, c.before.before.fewer.ensures) (sym (wanted-devices s w start.requires.0 start.requires.1))
+    rw (l.invariant.1, all, c.before.before.fewer.ensures) (sym (wanted_devices s w start.requires.0 start.requires.1))
 
 pub devices-of-spec : {M : Type 1} → statement M
 devices-of-spec =

@@ -4,7 +4,7 @@ use Prim.Native.Nat.{◌-◌, ◌*◌, ◌≤◌}
 use native.Mathlib.Omega.{arith}
 use borrow.Author.Rules.{rules}
 use Rattle.base.proofs.Pieces.{slice_is}
-use Rattle.catalogue.proofs.Pieces.{Passed, passed-more}
+use Rattle.catalogue.proofs.Pieces.{Passed, passed_more}
 use Rattle.catalogue.proofs.look_up.find.Statement.{statement}
 use Rattle.catalogue.proofs.look_up.find.Tie as tie
 
@@ -37,7 +37,7 @@ loop-again c =
     let s = a.catalogue.now in
     let n = a.number.now in
     let another = sym c.before.is_same.ensures ∙ c.if1.false in
-    (omega arith, omega arith, passed-more s n a.from l.k l.invariant.2 (rw (slice_is s 8 (15 * l.k)) at another))
+    (omega arith, omega arith, passed_more s n a.from l.k l.invariant.2 (rw (slice_is s 8 (15 * l.k)) at another))
 
 returns-2 : tie.Need-returns-2 invariant-loop decreases-loop
 returns-2 c =

@@ -2,7 +2,7 @@
 use mathlib.Core.Path.{sym, ◌∙◌}
 use native.Mathlib.Omega.{arith}
 use borrow.Author.Rules.{rules}
-use Rattle.catalogue.proofs.Pieces.{found-record, found_within}
+use Rattle.catalogue.proofs.Pieces.{found_record, found_within}
 use Rattle.catalogue.proofs.look_up.record_of.Statement.{statement}
 use Rattle.catalogue.proofs.look_up.record_of.Tie as tie
 
@@ -19,7 +19,7 @@ returns c =
     let n = start.args.number.now in
     let found = c.before.find in
     let within = found_within s n found.result start.requires.0 found.ensures start.requires.1 in
-    c.first-at.ensures ∙ sym (found-record s n found.result start.requires.0 found.ensures within)
+    c.first-at.ensures ∙ sym (found_record s n found.result start.requires.0 found.ensures within)
 
 pub record-of-spec : {M : Type 1} → statement M
 record-of-spec = tie.close (tie.spec (λ c κs. search rules) (λ c. search rules) (λ c. search rules) first-at-requires returns)

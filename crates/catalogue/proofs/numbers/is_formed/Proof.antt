@@ -4,16 +4,16 @@ use Prim.Native.Nat.{◌≤◌}
 use native.Mathlib.Omega.{arith}
 use lib.ListN.{length}
 use borrow.Author.Rules.{rules}
-use Rattle.catalogue.proofs.Scanning.{front_fits, formed-only-eight, formed-some-sign, formed-spaces}
+use Rattle.catalogue.proofs.Scanning.{front_fits, formed_only_eight, formed_some_sign, formed_spaces}
 use Rattle.catalogue.proofs.numbers.is_formed.Statement.{statement}
 use Rattle.catalogue.proofs.numbers.is_formed.Tie as tie
 
 returns : tie.Need-returns
-returns c = sym (formed-only-eight c.before.before.args.number.now c.if1.true)
+returns c = sym (formed_only_eight c.before.before.args.number.now c.if1.true)
 
 returns-2 : tie.Need-returns-2
 returns-2 c =
-    sym (formed-some-sign c.before.before.before.before.args.number.now c.before.before.if1.false (sym c.before.signs_of.ensures ∙ c.if2.true))
+    sym (formed_some_sign c.before.before.before.before.args.number.now c.before.before.if1.false (sym c.before.signs_of.ensures ∙ c.if2.true))
 
 -- The signs are at most the bytes.
 fits : (c : tie.Else2) → c.before.signs_of.result ≤ length c.before.before.before.before.args.number.now
@@ -29,7 +29,7 @@ returns-3 : tie.Need-returns-3
 returns-3 c =
     let signs = c.before.before.before.signs_of in
     let n = c.before.before.before.before.before.before.args.number.now in
-    c.are-spaces.ensures ∙ formed-spaces n signs.result c.before.before.before.before.if1.false signs.ensures (omega arith)
+    c.are-spaces.ensures ∙ formed_spaces n signs.result c.before.before.before.before.if1.false signs.ensures (omega arith)
 
 pub is-formed-spec : {M : Type 1} → statement M
 is-formed-spec =

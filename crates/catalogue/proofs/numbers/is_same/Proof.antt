@@ -5,7 +5,7 @@ use native.Mathlib.Omega.{arith}
 use lib.ListN.{drop}
 use borrow.Author.Rules.{rules}
 use Rattle.base.specs.Bytes.{same}
-use Rattle.base.proofs.Comparing.{same_end, same_next, same_stop, same-lengths}
+use Rattle.base.proofs.Comparing.{same_end, same_next, same_stop, same_lengths}
 use Rattle.catalogue.proofs.numbers.is_same.Statement.{statement}
 use Rattle.catalogue.proofs.numbers.is_same.Tie as tie
 
@@ -17,7 +17,7 @@ abbrev decreases-loop : tie.decreases-loop
 decreases-loop a b len k₀ k = len - k
 
 returns : tie.Need-returns invariant-loop decreases-loop
-returns c = sym (same-lengths c.before.args.a.now c.before.args.b.now c.if1.true)
+returns c = sym (same_lengths c.before.args.a.now c.before.args.b.now c.if1.true)
 
 loop-holds : tie.Need-loop-init invariant-loop decreases-loop
 loop-holds c = (omega arith, refl)

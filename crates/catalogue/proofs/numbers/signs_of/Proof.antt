@@ -6,7 +6,7 @@ use lib.ListN.{length, drop}
 use borrow.Author.Rules.{rules}
 use borrow.Author.Tests.{not-true, not-false}
 use Rattle.catalogue.specs.Parts.{front}
-use Rattle.catalogue.proofs.Scanning.{front-next, front-stop, front-end}
+use Rattle.catalogue.proofs.Scanning.{front_next, front_stop, front_end}
 use Rattle.catalogue.proofs.numbers.signs_of.Statement.{statement}
 use Rattle.catalogue.proofs.numbers.signs_of.Tie as tie
 
@@ -24,20 +24,20 @@ returns : tie.Need-returns invariant-loop decreases-loop
 returns c =
     let l = c.before.before.before.before.loop in
     let no_sign = sym c.before.is-sign.ensures ∙ not-true _ c.if1.true in
-    sym (l.invariant.1 ∙ front-stop _ l.i (omega arith) no_sign)
+    sym (l.invariant.1 ∙ front_stop _ l.i (omega arith) no_sign)
 
 loop-again : tie.Need-loop-preserved invariant-loop decreases-loop
 loop-again c =
     let l = c.before.before.before.before.loop in
     let a-sign = sym c.before.is-sign.ensures ∙ not-false _ c.if1.false in
-    (omega arith, l.invariant.1 ∙ front-next _ l.i (omega arith) a-sign)
+    (omega arith, l.invariant.1 ∙ front_next _ l.i (omega arith) a-sign)
 
 returns-2 : tie.Need-returns-2 invariant-loop decreases-loop
 returns-2 c =
     let l = c.before.loop in
     let n = c.before.before.before.args.number.now in
     let all : l.i ≡ length n = omega arith in
-    omega (arith, l.invariant.1, front-end n l.i all)
+    omega (arith, l.invariant.1, front_end n l.i all)
 
 pub signs-of-spec : {M : Type 1} → statement M
 signs-of-spec =

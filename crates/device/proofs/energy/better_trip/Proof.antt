@@ -8,9 +8,9 @@ use borrow.Author.Rules.{rules}
 use lib.ListN.{get_or}
 use Rattle.device.specs.declared.Device.{Device}
 use Rattle.device.specs.declared.energy.Trip.{Trip}
-use Rattle.device.specs.Row.{depth, tripCost}
+use Rattle.device.specs.Row.{depth, trip_cost}
 use Rattle.device.specs.inside.Trips.{Chosen}
-use Rattle.device.proofs.Chosen.{depth-next, depth-short, depth-dear, power-falls}
+use Rattle.device.proofs.Chosen.{depth_next, depth_short, depth_dear, power_falls}
 use Rattle.device.proofs.energy.better_trip.Statement.{statement}
 use Rattle.device.proofs.energy.better_trip.Tie as tie
 
@@ -31,24 +31,24 @@ cost-fits pd pu p x y g hd hu hp h hg =
 
 -- The best so far stays, or the next level takes its place.
 stays : {d : Device} {n g : ℕ} {t : Trip} → depth d (suc n) g ≡ depth d n g → Chosen d n g t → Chosen d (n + 1) g t
-stays {d} {n} {g} e h = rw add-one (record { level = h.level ∙ sym e; cost = h.cost ∙ ap (λ (m : ℕ). tripCost d m g) (sym e) })
+stays {d} {n} {g} e h = rw add-one (record { level = h.level ∙ sym e; cost = h.cost ∙ ap (λ (m : ℕ). trip_cost d m g) (sym e) })
 
-deeper : {d : Device} {n g : ℕ} {t : Trip} → depth d (suc n) g ≡ suc n → t.level ≡ n + 1 → t.cost ≡ tripCost d (suc n) g → Chosen d (n + 1) g t
-deeper {d} {n} {g} e l h = rw add-one (record { level = l ∙ add-one n ∙ sym e; cost = h ∙ ap (λ (m : ℕ). tripCost d m g) (sym e) })
+deeper : {d : Device} {n g : ℕ} {t : Trip} → depth d (suc n) g ≡ suc n → t.level ≡ n + 1 → t.cost ≡ trip_cost d (suc n) g → Chosen d (n + 1) g t
+deeper {d} {n} {g} e l h = rw add-one (record { level = l ∙ add-one n ∙ sym e; cost = h ∙ ap (λ (m : ℕ). trip_cost d m g) (sym e) })
 
 mul-down : tie.Need-overflow-mul-down
-mul-down c = record { fits = omega (arith, way c.args.t1.shut c.args.n (omega (arith, c.well-formed.0)) (omega (arith, c.requires.0.few-levels))) }
+mul-down c = record { fits = omega (arith, way c.args.t1.shut c.args.n (omega (arith, c.well-formed.0)) (omega (arith, c.requires.0.few_levels))) }
 
 mul-up : tie.Need-overflow-mul-up
-mul-up c = record { fits = omega (arith, way c.args.t1.wake c.args.n (omega (arith, c.well-formed.0)) (omega (arith, c.requires.0.few-levels))) }
+mul-up c = record { fits = omega (arith, way c.args.t1.wake c.args.n (omega (arith, c.well-formed.0)) (omega (arith, c.requires.0.few_levels))) }
 
 add-if1 : tie.Need-overflow-add-if1
-add-if1 c = record { fits = omega (arith, way c.args.t1.shut c.args.n (omega (arith, c.well-formed.0)) (omega (arith, c.requires.0.few-levels)), way c.args.t1.wake c.args.n (omega (arith, c.well-formed.0)) (omega (arith, c.requires.0.few-levels))) }
+add-if1 c = record { fits = omega (arith, way c.args.t1.shut c.args.n (omega (arith, c.well-formed.0)) (omega (arith, c.requires.0.few_levels)), way c.args.t1.wake c.args.n (omega (arith, c.well-formed.0)) (omega (arith, c.requires.0.few_levels))) }
 
 returns : tie.Need-returns
 returns c =
     let a = c.before.args in
-    stays (depth-short a.t1 a.n a.g (rw add-one at c.if1.true)) c.before.requires.1.1
+    stays (depth_short a.t1 a.n a.g (rw add-one at c.if1.true)) c.before.requires.1.1
 
 -- What the level costs, where it has room: without the stay, and with it.
 moving : (c : tie.Else1) → let a = c.before.args in
@@ -75,7 +75,7 @@ priced : (c : tie.After-cost) → let a = c.before.before.args in
 priced c =
     let a = c.before.before.args in
     cost-fits a.t1.pd a.t1.pu (get_or a.t1.powers a.n 0) (a.t1.shut * (a.n + 1)) (a.t1.wake * (a.n + 1)) a.g
-    (omega (arith, c.before.before.well-formed.0)) (omega (arith, c.before.before.well-formed.0)) (omega (arith, power-falls a.t1 c.before.before.requires.0 0 (suc a.n) (omega arith) (omega arith), c.before.before.well-formed.0)) (omega (arith, c.before.if1.false)) (omega arith)
+    (omega (arith, c.before.before.well-formed.0)) (omega (arith, c.before.before.well-formed.0)) (omega (arith, power_falls a.t1 c.before.before.requires.0 0 (suc a.n) (omega arith) (omega arith), c.before.before.well-formed.0)) (omega (arith, c.before.if1.false)) (omega arith)
 
 mul-cost-4 : tie.Need-overflow-mul-cost-4
 mul-cost-4 c = record { fits = omega (arith, priced c) }
@@ -87,14 +87,14 @@ returns-2 : tie.Need-returns-2
 returns-2 c =
     let s = c.before.before.before.before in
     let a = s.args in
-    let less : tripCost a.t1 (suc a.n) a.g < tripCost a.t1 (depth a.t1 a.n a.g) a.g = rw (s.requires.1.1.cost, add-one) at c.if2.true in
-    deeper (depth-next a.t1 a.n a.g (rw add-one at c.before.before.before.if1.false) less) refl (rw add-one)
+    let less : trip_cost a.t1 (suc a.n) a.g < trip_cost a.t1 (depth a.t1 a.n a.g) a.g = rw (s.requires.1.1.cost, add-one) at c.if2.true in
+    deeper (depth_next a.t1 a.n a.g (rw add-one at c.before.before.before.if1.false) less) refl (rw add-one)
 
 returns-3 : tie.Need-returns-3
 returns-3 c =
     let s = c.before.before.before.before in
     let a = s.args in
-    stays (depth-dear a.t1 a.n a.g (rw (s.requires.1.1.cost, add-one) at c.if2.false)) s.requires.1.1
+    stays (depth_dear a.t1 a.n a.g (rw (s.requires.1.1.cost, add-one) at c.if2.false)) s.requires.1.1
 
 pub better-trip-spec : {M : Type 1} → statement M
 better-trip-spec =

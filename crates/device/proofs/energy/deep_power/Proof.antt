@@ -5,12 +5,12 @@ use native.Mathlib.Omega.{arith}
 use borrow.Author.Rules.{rules}
 use lib.ListN.{get_or}
 use Rattle.device.specs.declared.Device.{Device}
-use Rattle.device.specs.Row.{powerAt}
+use Rattle.device.specs.Row.{power_at}
 use Rattle.device.proofs.energy.deep_power.Statement.{statement}
 use Rattle.device.proofs.energy.deep_power.Tie as tie
 
 -- The last level's power stands in the place before its number.
-last-power : (d : Device) (n : ℕ) → 1 ≤ n → get_or d.powers (n - 1) 0 ≡ powerAt d n
+last-power : (d : Device) (n : ℕ) → 1 ≤ n → get_or d.powers (n - 1) 0 ≡ power_at d n
 last-power d zero h = absurd (omega arith)
 last-power d (suc n) h = let e : suc n - 1 ≡ n = omega arith in rw e
 

@@ -8,24 +8,24 @@ use borrow.Author.Rules.{rules}
 use borrow.Rule.Slice.PartMut.{put_mid}
 use lib.ListN.{length, replicate, length-replicate, take, drop, length-drop}
 use lib.Seq.{take_all, length-take-le}
-use Rattle.base.proofs.Filling.{Filled, filled-length}
+use Rattle.base.proofs.Filling.{Filled, filled_length}
 use Rattle.device.specs.declared.Device.{Device}
 use Rattle.device.specs.declared.Sleeps.{Sleeps}
-use Rattle.device.specs.Row.{byte_of, gapRow}
-use Rattle.device.specs.inside.Uses.{begin, end, afterFrom}
+use Rattle.device.specs.Row.{byte_of, gap_row}
+use Rattle.device.specs.inside.Uses.{begin, end, after_from}
 use Rattle.device.specs.inside.Trips.{around}
-use Rattle.device.proofs.Spacing.{use-fits, from-by, from_next}
-use Rattle.device.proofs.Bytes.{bytes, bytes-none, bytes-use, length-gap-bytes, written-first, written_on, filled-begun, filled-since}
+use Rattle.device.proofs.Spacing.{use_fits, from_by, from_next}
+use Rattle.device.proofs.Bytes.{bytes, bytes_none, bytes_use, length_gap_bytes, written_first, written_on, filled_begun, filled_since}
 use Rattle.device.proofs.writer.write_around.Statement.{statement}
 use Rattle.device.proofs.writer.write_around.Tie as tie
 
 -- The gap over the seam, of which n ticks lie at the row's end and b at its front.
 abbrev seamed : Sleeps → Device → ℕ → ℕ → List ℕ
-seamed sleeps d n b = map (byte_of sleeps) (gapRow d (n + b))
+seamed sleeps d n b = map (byte_of sleeps) (gap_row d (n + b))
 
 abbrev invariant-loop : tie.invariant-loop
 invariant-loop sleeps d h front tail out₀ u seam at₀ i₀ out at i =
-    (i ≤ u.count) × (at ≡ afterFrom front u i) × Filled out₀ at (drop tail (seamed sleeps d tail front) ++ bytes sleeps u d front at) out
+    (i ≤ u.count) × (at ≡ after_from front u i) × Filled out₀ at (drop tail (seamed sleeps d tail front) ++ bytes sleeps u d front at) out
 
 abbrev decreases-loop : tie.decreases-loop
 decreases-loop sleeps d h front tail out₀ u seam at₀ i₀ out at i = u.count - i
@@ -34,7 +34,7 @@ decreases-loop sleeps d h front tail out₀ u seam at₀ i₀ out at i = u.count
 room : (s : tie.Start invariant-loop decreases-loop) → s.args.tail + s.args.front ≤ s.args.h
 room s =
     let a = s.args in
-    omega (arith, from-by a.t4 a.h s.requires.1.0 a.front s.requires.1.1.0 a.t4.count (omega arith), s.requires.1.1.1.0, s.requires.1.1.1.1.0)
+    omega (arith, from_by a.t4 a.h s.requires.1.0 a.front s.requires.1.1.0 a.t4.count (omega arith), s.requires.1.1.1.0, s.requires.1.1.1.1.0)
 
 add-seam : tie.Need-overflow-add-seam invariant-loop decreases-loop
 add-seam c = omega (arith, room c.before)
@@ -49,9 +49,9 @@ head g =
     let s = g.before.before.before in
     let a = s.args in
     let gap = seamed a.sleeps a.d a.tail a.front in
-    let long = length-gap-bytes a.sleeps a.d (a.tail + a.front) in
+    let long = length_gap_bytes a.sleeps a.d (a.tail + a.front) in
     let all : take a.front (drop a.tail gap) ≡ drop a.tail gap = take_all a.front (drop a.tail gap) (omega (arith, length-drop a.tail gap)) in
-    let first = written-first (take a.front (drop a.tail gap)) (length-take-le a.front (drop a.tail gap) (omega (arith, length-drop a.tail gap))) g.write-gap.ensures in
+    let first = written_first (take a.front (drop a.tail gap)) (length-take-le a.front (drop a.tail gap) (omega (arith, length-drop a.tail gap))) g.write-gap.ensures in
     rw (g.write-gap.ensures.0, all) at first
 
 loop-holds : tie.Need-loop-init invariant-loop decreases-loop
@@ -60,8 +60,8 @@ loop-holds c =
     let a = g.before.before.before.args in
     let to : g.write-gap.result ≡ a.front = g.write-gap.ensures.0 in
     let front = drop a.tail (seamed a.sleeps a.d a.tail a.front) in
-    let none : front ++ bytes a.sleeps a.t4 a.d a.front a.front ≡ front = ap (λ (l : List ℕ). front ++ l) (bytes-none a.sleeps a.t4 a.d a.front) ∙ append-nil front in
-    (omega arith, to, rw (to, none) (filled-begun (head g)))
+    let none : front ++ bytes a.sleeps a.t4 a.d a.front a.front ≡ front = ap (λ (l : List ℕ). front ++ l) (bytes_none a.sleeps a.t4 a.d a.front) ∙ append-nil front in
+    (omega arith, to, rw (to, none) (filled_begun (head g)))
 
 -- From the start on, and not only from where the loop begins.
 since : (l : tie.At-loop invariant-loop decreases-loop) → let a = l.before.before.before.before.before.before.args in
@@ -70,8 +70,8 @@ since l =
     let g = l.before.before.before in
     let s = g.before.before.before in
     let a = s.args in
-    filled-since (head g) l.loop.invariant.2
-    (omega (arith, l.loop.invariant.1, from-by a.t4 a.h s.requires.1.0 a.front s.requires.1.1.0 l.loop.i l.loop.invariant.0))
+    filled_since (head g) l.loop.invariant.2
+    (omega (arith, l.loop.invariant.1, from_by a.t4 a.h s.requires.1.0 a.front s.requires.1.1.0 l.loop.i l.loop.invariant.0))
 
 -- What is known of the use at hand, and that the buffer has the length it had.
 fits : (c : tie.In-loop invariant-loop decreases-loop) → let s = c.before.before.before.before.before.before.before in
@@ -82,11 +82,11 @@ fits : (c : tie.In-loop invariant-loop decreases-loop) → let s = c.before.befo
     × (length c.before.before.before.before.write-gap.new.0 ≡ length s.args.out.now)
 fits c =
     let s = c.before.before.before.before.before.before.before in
-    let f = use-fits s.args.t4 s.args.h s.requires.1.0 s.args.front s.requires.1.1.0 c.before.loop.i c.loop-test.true in
+    let f = use_fits s.args.t4 s.args.h s.requires.1.0 s.args.front s.requires.1.1.0 c.before.loop.i c.loop-test.true in
     let at : c.before.loop.at ≤ begin s.args.t4 c.before.loop.i = omega (arith, c.before.loop.invariant.1) in
     let wide = s.requires.1.1.1.1.1.1 in
     let r = room s in
-    (at, f.1, f.2, filled-length (since c.before) (omega arith), filled-length (head c.before.before.before.before) (omega arith))
+    (at, f.1, f.2, filled_length (since c.before) (omega arith), filled_length (head c.before.before.before.before) (omega arith))
 
 sub-gap : tie.Need-overflow-sub-gap invariant-loop decreases-loop
 sub-gap c = omega (arith, fits c.before.before)
@@ -141,8 +141,8 @@ loop-again c =
     let f = fits l in
     let n = begin u i - at in
     let wide = s.requires.1.1.1.1.1.1 in
-    let made = map (byte_of a.sleeps) (gapRow a.d n) in
-    let long = length-gap-bytes a.sleeps a.d n in
+    let made = map (byte_of a.sleeps) (gap_row a.d n) in
+    let long = length_gap_bytes a.sleeps a.d n in
     let all : take n (drop 0 made) ≡ made = take_all n made (omega arith) in
     let first = drop a.tail (seamed a.sleeps a.d a.tail a.front) in
     let before = bytes a.sleeps u a.d a.front at in
@@ -152,7 +152,7 @@ loop-again c =
     let to : at + g.write-gap2.result + w.write-run.result ≡ end u i = omega arith in
     let joined : ((first ++ before) ++ take n (drop 0 made)) ++ work ≡ first ++ bytes a.sleeps u a.d a.front (end u i)
     = ap (λ (k : List ℕ). ((first ++ before) ++ k) ++ work) all ∙ ap (λ (k : List ℕ). k ++ work) (append_assoc first before made) ∙ append_assoc first (before ++ made) work
-    ∙ ap (λ (k : List ℕ). first ++ k) (sym (bytes-use a.sleeps u a.h s.requires.1.0 a.d a.front s.requires.1.1.0 i at l.loop-test.true l.before.loop.invariant.1)) in (
+    ∙ ap (λ (k : List ℕ). first ++ k) (sym (bytes_use a.sleeps u a.h s.requires.1.0 a.d a.front s.requires.1.1.0 i at l.loop-test.true l.before.loop.invariant.1)) in (
       omega arith,
       to ∙ from_next a.front u i,
       rw to (rw (to, joined) at used),
@@ -161,15 +161,15 @@ loop-again c =
 -- All uses are passed.
 over : (c : tie.After-loop invariant-loop decreases-loop) → let s = c.before.before.before.before.before.before.before in
     let a = s.args in
-    (c.before.loop.at ≡ afterFrom a.front a.t4 a.t4.count) × (c.before.loop.at + a.tail ≡ a.h)
+    (c.before.loop.at ≡ after_from a.front a.t4 a.t4.count) × (c.before.loop.at + a.tail ≡ a.h)
     × (length c.before.loop.out ≡ length a.out.now)
 over c =
     let s = c.before.before.before.before.before.before.before in
     let a = s.args in
     let last : c.before.loop.i ≡ a.t4.count = omega arith in
-    let e : c.before.loop.at ≡ afterFrom a.front a.t4 a.t4.count = c.before.loop.invariant.1 ∙ ap (afterFrom a.front a.t4) last in
+    let e : c.before.loop.at ≡ after_from a.front a.t4 a.t4.count = c.before.loop.invariant.1 ∙ ap (after_from a.front a.t4) last in
     let h = s.requires.1.1.1 in
-    (e, omega (arith, h.0, h.1.0), filled-length (since c.before) (omega (arith, h.0, h.1.1.1)))
+    (e, omega (arith, h.0, h.1.0), filled_length (since c.before) (omega (arith, h.0, h.1.1.1)))
 
 sub-write-gap-2 : tie.Need-overflow-sub-write-gap-2 invariant-loop decreases-loop
 sub-write-gap-2 c = omega (arith, over c)
@@ -201,7 +201,7 @@ whole c =
     let o = over l in
     let r = room s in
     let gap = seamed a.sleeps a.d a.tail a.front in
-    let long = length-gap-bytes a.sleeps a.d (a.tail + a.front) in
+    let long = length_gap_bytes a.sleeps a.d (a.tail + a.front) in
     let wide = s.requires.1.1.1.1.1.1 in
     let last = written_on (since l.before) (take a.tail (drop 0 gap)) (length-take-le a.tail gap (omega arith)) (omega arith) c.write-gap3.ensures in
     let to : at + c.write-gap3.result ≡ a.h = omega arith in
@@ -209,7 +209,7 @@ whole c =
     rw (← o.0) (rw (to, joined) at last)
 
 same_length : tie.Need-same-length invariant-loop decreases-loop
-same_length c = filled-length (whole c.before.before) c.before.before.before.before.before.before.before.before.before.before.before.requires.1.1.1.1.1.1
+same_length c = filled_length (whole c.before.before) c.before.before.before.before.before.before.before.before.before.before.before.requires.1.1.1.1.1.1
 
 returns : tie.Need-returns invariant-loop decreases-loop
 returns c = (whole c.before.before).is

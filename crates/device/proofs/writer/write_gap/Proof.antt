@@ -5,11 +5,11 @@ use Prim.Native.Nat.{ℕ, ◌+◌, ◌-◌, ◌*◌, ◌≤◌}
 use native.Mathlib.Omega.{arith}
 use borrow.Author.Rules.{rules}
 use lib.ListN.{take, drop}
-use Rattle.device.specs.Row.{byte_of, trip, gapRow}
+use Rattle.device.specs.Row.{byte_of, trip, gap_row}
 use Rattle.device.specs.Row as Row
-use Rattle.device.specs.inside.Trips.{tripBytes}
+use Rattle.device.specs.inside.Trips.{trip_bytes}
 use Rattle.device.proofs.Chosen.{chosen}
-use Rattle.device.proofs.Bytes.{bytes-trip}
+use Rattle.device.proofs.Bytes.{bytes_trip}
 use Rattle.device.proofs.writer.write_gap.Statement.{statement}
 use Rattle.device.proofs.writer.write_gap.Tie as tie
 
@@ -40,7 +40,7 @@ letter-at-requires : tie.Need-letter-at-requires
 letter-at-requires c κs =
     let t = c.before.before.before in
     let a = t.before.before.before.args in
-    omega (arith, t.gap-trip.ensures.level, (chosen a.d a.d.levels a.g).within, t.before.before.before.requires.0.few-levels)
+    omega (arith, t.gap-trip.ensures.level, (chosen a.d a.d.levels a.g).within, t.before.before.before.requires.0.few_levels)
 
 write-trip-requires : tie.Need-write-trip-requires
 write-trip-requires c κs =
@@ -55,9 +55,9 @@ returns-2 c =
     let a = t.before.before.before.args in
     let m = t.gap-trip.result.level in
     let stay = a.g - (a.d.shut * m + a.d.wake * m) in
-    let row : tripBytes (a.d.shut * m) stay (a.d.wake * m) (byte_of a.sleeps (Row.at m)) ≡ map (byte_of a.sleeps) (gapRow a.d a.g)
-    = sym (bytes-trip a.sleeps a.d m a.g) ∙ ap (λ (k : ℕ). map (byte_of a.sleeps) (trip a.d k a.g)) t.gap-trip.ensures.level in
-    let all = ap (tripBytes (a.d.shut * m) stay (a.d.wake * m)) w.before.letter_at.ensures ∙ row in
+    let row : trip_bytes (a.d.shut * m) stay (a.d.wake * m) (byte_of a.sleeps (Row.at m)) ≡ map (byte_of a.sleeps) (gap_row a.d a.g)
+    = sym (bytes_trip a.sleeps a.d m a.g) ∙ ap (λ (k : ℕ). map (byte_of a.sleeps) (trip a.d k a.g)) t.gap-trip.ensures.level in
+    let all = ap (trip_bytes (a.d.shut * m) stay (a.d.wake * m)) w.before.letter_at.ensures ∙ row in
     (w.write-trip.ensures.0, w.write-trip.ensures.1 ∙ ap (λ (l : List ℕ). take a.n (drop a.x l) ++ drop a.n a.rest.now) all)
 
 pub write-gap-spec : {M : Type 1} → statement M

@@ -8,16 +8,16 @@ use borrow.Author.Rules.{rules}
 use lib.ListN.{replicate, drop}
 use Rattle.device.specs.Row.{byte_of, row_of, pattern}
 use Rattle.device.specs.Row as Row
-use Rattle.device.specs.inside.Uses.{usedIn, after, afterFrom, idle}
+use Rattle.device.specs.inside.Uses.{used_in, after, after_from, idle}
 use Rattle.device.specs.inside.Trips.{around}
-use Rattle.device.proofs.Prefix.{map-replicate}
-use Rattle.device.proofs.Spacing.{front_by, last-front, row-idle}
-use Rattle.device.proofs.Bytes.{row-around}
+use Rattle.device.proofs.Prefix.{map_replicate}
+use Rattle.device.proofs.Spacing.{front_by, last_front, row_idle}
+use Rattle.device.proofs.Bytes.{row_around}
 use Rattle.device.proofs.writer.write_row.Statement.{statement}
 use Rattle.device.proofs.writer.write_row.Tie as tie
 
 letter-at-requires : tie.Need-letter-at-requires
-letter-at-requires c κs = omega (arith, c.before.before.before.before.before.requires.0.few-levels)
+letter-at-requires c κs = omega (arith, c.before.before.before.before.before.requires.0.few_levels)
 
 returns : tie.Need-returns
 returns c =
@@ -25,18 +25,18 @@ returns c =
     let s = w.before.before.before.before.before.before.before in
     let a = s.args in
     let e : idle a.round a.u ≡ true = sym w.before.before.before.before.before.is-idle.ensures ∙ w.before.before.before.before.if1.true in
-    let row : map (byte_of a.sleeps) (row_of a.round a.d (pattern (usedIn a.u) 0 a.h)) ≡ replicate a.h (byte_of a.sleeps (Row.at a.d.levels))
-    = ap (map (byte_of a.sleeps)) (row-idle a.u a.h s.requires.1.0 a.d a.round e) ∙ map-replicate (byte_of a.sleeps) a.h (Row.at a.d.levels) in
+    let row : map (byte_of a.sleeps) (row_of a.round a.d (pattern (used_in a.u) 0 a.h)) ≡ replicate a.h (byte_of a.sleeps (Row.at a.d.levels))
+    = ap (map (byte_of a.sleeps)) (row_idle a.u a.h s.requires.1.0 a.d a.round e) ∙ map_replicate (byte_of a.sleeps) a.h (Row.at a.d.levels) in
     w.write-run.ensures.1 ∙ ap (λ (l : List ℕ). l ++ drop a.h a.out.now) (ap (replicate a.h) w.before.letter_at.ensures ∙ sym row)
 
 -- There is a use, or it is no round.
 lasts : (c : tie.After-front-of) → let a = c.before.before.before.before.args in
-    (idle a.round a.u ≡ false) × (afterFrom c.front_of.result a.u a.u.count ≡ after a.u a.u.count)
+    (idle a.round a.u ≡ false) × (after_from c.front_of.result a.u a.u.count ≡ after a.u a.u.count)
 lasts c =
     let s = c.before.before.before.before in
     let a = s.args in
     let e : idle a.round a.u ≡ false = sym c.before.before.is-idle.ensures ∙ c.before.if1.false in
-    (e, rw c.front_of.ensures (last-front a.u a.h s.requires.1.0 a.round e))
+    (e, rw c.front_of.ensures (last_front a.u a.h s.requires.1.0 a.round e))
 
 write-around-requires : tie.Need-write-around-requires
 write-around-requires c κs =
@@ -54,9 +54,9 @@ returns-2 c =
     let s = f.before.before.before.before in
     let a = s.args in
     let l = lasts f in
-    let tail : a.h - w.before.before.last-end.result ≡ a.h - afterFrom f.front_of.result a.u a.u.count = rw (l.1, w.before.before.last-end.ensures) in
-    let row : around a.sleeps a.d a.u f.front_of.result (a.h - w.before.before.last-end.result) ≡ map (byte_of a.sleeps) (row_of a.round a.d (pattern (usedIn a.u) 0 a.h))
-    = rw (tail, f.front_of.ensures) (sym (row-around a.sleeps a.u a.h s.requires.1.0 a.d a.round l.0)) in
+    let tail : a.h - w.before.before.last-end.result ≡ a.h - after_from f.front_of.result a.u a.u.count = rw (l.1, w.before.before.last-end.ensures) in
+    let row : around a.sleeps a.d a.u f.front_of.result (a.h - w.before.before.last-end.result) ≡ map (byte_of a.sleeps) (row_of a.round a.d (pattern (used_in a.u) 0 a.h))
+    = rw (tail, f.front_of.ensures) (sym (row_around a.sleeps a.u a.h s.requires.1.0 a.d a.round l.0)) in
     w.write-around.ensures ∙ ap (λ (r : List ℕ). r ++ drop a.h a.out.now) row
 
 pub write-row-spec : {M : Type 1} → statement M

@@ -4,7 +4,7 @@ use Prim.Native.Nat.{◌≤◌, ◌-◌}
 use native.Mathlib.Omega.{arith}
 use borrow.Author.Rules.{rules}
 use lib.ListN.{length, replicate, replicate-append-replicate}
-use Rattle.base.proofs.Filling.{Filled, filled_none, filled-store}
+use Rattle.base.proofs.Filling.{Filled, filled_none, filled_store}
 use Rattle.device.proofs.writer.write_run.Statement.{statement}
 use Rattle.device.proofs.writer.write_run.Tie as tie
 
@@ -21,7 +21,7 @@ loop-again : tie.Need-loop-preserved invariant-loop decreases-loop
 loop-again c = (
   search rules,
   search rules,
-  rw (← replicate-append-replicate c.before.loop.written 1 c.before.before.args.letter) (filled-store c.before.loop.invariant.2 (omega arith) c.before.before.args.letter),
+  rw (← replicate-append-replicate c.before.loop.written 1 c.before.before.args.letter) (filled_store c.before.loop.invariant.2 (omega arith) c.before.before.args.letter),
 )
 
 returns : tie.Need-returns invariant-loop decreases-loop

@@ -5,7 +5,7 @@ use native.Mathlib.Omega.{arith}
 use borrow.Author.Rules.{rules}
 use lib.ListN.{replicate, length-replicate}
 use Rattle.device.specs.inside.Trips.{shared}
-use Rattle.device.proofs.Bytes.{written-first, written_on, taken-trip, shared-trip}
+use Rattle.device.proofs.Bytes.{written_first, written_on, taken_trip, shared_trip}
 use Rattle.device.proofs.writer.write_trip.Statement.{statement}
 use Rattle.device.proofs.writer.write_trip.Tie as tie
 
@@ -23,7 +23,7 @@ third c = rw (c.before.beyond3.ensures, c.beyond4.ensures)
 
 all : (s : tie.Start) → let a = s.args in
     shared a.down a.x (a.x + a.n) + shared a.stay (a.x - a.down) (a.x + a.n - a.down) + shared a.up (a.x - (a.down + a.stay)) (a.x + a.n - (a.down + a.stay)) ≡ a.n
-all s = let a = s.args in shared-trip a.down a.stay a.up a.x a.n s.requires.0
+all s = let a = s.args in shared_trip a.down a.stay a.up a.x a.n s.requires.0
 
 write-some-requires : tie.Need-write-some-requires
 write-some-requires c κs = (omega arith, omega (arith, all c.before.before))
@@ -63,11 +63,11 @@ returns c =
     let n = shared a.down a.x (a.x + a.n) in
     let k = shared a.stay (a.x - a.down) (a.x + a.n - a.down) in
     let j = shared a.up (a.x - (a.down + a.stay)) (a.x + a.n - (a.down + a.stay)) in
-    let front = written-first (replicate n 68) (length-replicate n 68) d.write-some.ensures in
+    let front = written_first (replicate n 68) (length-replicate n 68) d.write-some.ensures in
     let stayed = written_on front (replicate k a.letter) (length-replicate k a.letter) (omega (arith, all s)) (rw (second m.before) at m.write-some2.ensures) in
     let whole = written_on stayed (replicate j 85) (length-replicate j 85) (omega (arith, second m.before, all s)) (rw (third u.before) at u.write-some3.ensures) in
     let end : d.write-some.result + m.write-some2.result + u.write-some3.result ≡ a.n = omega (arith, second m.before, third u.before, all s) in
-    (end, whole.is ∙ rw (end, taken-trip a.down a.stay a.up a.letter a.x a.n))
+    (end, whole.is ∙ rw (end, taken_trip a.down a.stay a.up a.letter a.x a.n))
 
 pub write-trip-spec : {M : Type 1} → statement M
 write-trip-spec =

@@ -3,8 +3,8 @@ use mathlib.Core.Path.{ap, ◌∙◌}
 use mir.Syntax.{w32}
 use mir.Val.{SFits, to_z, of_z}
 use mir.Facts.{to_z-of_z}
-use Rattle.planner.proofs.Signs.{size-pos}
-use Rattle.doors.proofs.Signs.{Raised, raised, complement-pos, complement-raised}
+use Rattle.planner.proofs.Signs.{size_pos}
+use Rattle.doors.proofs.Signs.{Raised, raised, complement_pos, complement_raised}
 use Rattle.doors.specs.Promises.{complement}
 use Rattle.doors.proofs.door_margins.bits_of.Statement.{statement}
 use Rattle.doors.proofs.door_margins.bits_of.Tie as tie
@@ -28,15 +28,15 @@ cast-result-2 c = rw (to_z-of_z (up c).wide, to_z-of_z (up c).ranges) (up c).siz
 returns : tie.Need-returns
 returns c =
     let m = c.before.args.margin in
-    rw (to_z-of_z (up c).wide, to_z-of_z (up c).ranges) (complement-raised (to_z w32 (of_z w32 m)) (fitted c.before) c.if1.true ∙ ap complement (to_z-of_z c.before.ranges.margin))
+    rw (to_z-of_z (up c).wide, to_z-of_z (up c).ranges) (complement_raised (to_z w32 (of_z w32 m)) (fitted c.before) c.if1.true ∙ ap complement (to_z-of_z c.before.ranges.margin))
 
 cast-result-3 : tie.Need-overflow-cast-result-3
-cast-result-3 c = size-pos _ (fitted c.before) c.if1.false
+cast-result-3 c = size_pos _ (fitted c.before) c.if1.false
 
 returns-2 : tie.Need-returns-2
 returns-2 c =
     let m = c.before.args.margin in
-    complement-pos (to_z w32 (of_z w32 m)) c.if1.false ∙ ap complement (to_z-of_z c.before.ranges.margin)
+    complement_pos (to_z w32 (of_z w32 m)) c.if1.false ∙ ap complement (to_z-of_z c.before.ranges.margin)
 
 pub bits-of-spec : {M : Type 1} → statement M
 bits-of-spec =

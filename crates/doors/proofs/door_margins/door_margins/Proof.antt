@@ -3,7 +3,7 @@ use mathlib.Core.Path.{sym}
 use native.Mathlib.Omega.{arith}
 use lib.Seq.{length-take-le}
 use Rattle.doorway.specs.Doors.{shut, answered}
-use Rattle.doors.proofs.Rooms.{margins-all}
+use Rattle.doors.proofs.Rooms.{margins_all}
 use borrow.Author.Tests.{not-true, not-false}
 use borrow.Author.Rules.{rules}
 use Rattle.doors.proofs.door_margins.door_margins.Statement.{statement}
@@ -20,7 +20,7 @@ returns-2 c =
     let s = c.before.before.before.before.before.before.before.before.before.before.before.before.before.before.before.before.before.before.args in
     let told = c.before.before.tell.ensures in
     let opens = c.before.before.before.before.before.before.before.before.before.before.before.before.before.is_open.ensures.0 (not-false _ c.before.before.before.before.before.before.before.before.before.before.before.before.if1.false) in
-    rw (told.0, told.1) (answered opens (margins-all s.file.now s.out.now c.before.before.before.before.before.before.before.before.before.before.hand-starts.ensures.1 c.before.before.before.before.before.before.margin-bytes.ensures))
+    rw (told.0, told.1) (answered opens (margins_all s.file.now s.out.now c.before.before.before.before.before.before.before.before.before.before.hand-starts.ensures.1 c.before.before.before.before.before.before.margin-bytes.ensures))
 
 pub door-margins-spec : {M : Type 1} → statement M
 door-margins-spec =

@@ -8,11 +8,11 @@ use lib.ListN.{length, take, drop, replicate}
 use lib.Seq.{length-take-le}
 use Rattle.schedule.specs.Quantities.{jobs}
 use Rattle.planner.specs.Promises.{MarginsOf}
-use Rattle.doorway.proofs.Opening.{kept-places, given-places}
-use Rattle.doorway.proofs.Fours.{fours-front}
+use Rattle.doorway.proofs.Opening.{kept_places, given_places}
+use Rattle.doorway.proofs.Fours.{fours_front}
 use Rattle.doors.specs.Promises.{complement, MarginsSpelled}
-use Rattle.doors.proofs.Rooms.{margins-room, margins-kept, margins-given}
-use Rattle.calls.proofs.Crossing.{front-room}
+use Rattle.doors.proofs.Rooms.{margins_room, margins_kept, margins_given}
+use Rattle.calls.proofs.Crossing.{front_room}
 use borrow.Author.Rules.{rules}
 use Rattle.doors.proofs.door_margins.margin_bytes.Statement.{statement}
 use Rattle.doors.proofs.door_margins.margin_bytes.Tie as tie
@@ -29,13 +29,13 @@ slice-aggregate-margins : tie.Need-slice-aggregate-margins
 slice-aggregate-margins c = sym (length-take-le _ _ (omega (arith, c.before.fewer.ensures)))
 
 array-share-prefix-room : tie.Need-array-share-prefix-room
-array-share-prefix-room c = front-room zeros c.before.before.before.before.margins.new.1.1.0 c.before.before.before.before.before.before.fewer.result c.fewer2.result (omega (arith, c.before.before.before.before.before.before.fewer.ensures)) (omega (arith, c.fewer2.ensures)) c.before.before.before.before.margins.auto.1.1.0
+array-share-prefix-room c = front_room zeros c.before.before.before.before.margins.new.1.1.0 c.before.before.before.before.before.before.fewer.result c.fewer2.result (omega (arith, c.before.before.before.before.before.before.fewer.ensures)) (omega (arith, c.fewer2.ensures)) c.before.before.before.before.margins.auto.1.1.0
 
 slice-aggregate-put-margins : tie.Need-slice-aggregate-put-margins
-slice-aggregate-put-margins c = sym (length-take-le _ _ (front-room zeros c.before.before.before.before.before.margins.new.1.1.0 c.before.before.before.before.before.before.before.fewer.result c.before.fewer2.result (omega (arith, c.before.before.before.before.before.before.before.fewer.ensures)) (omega (arith, c.before.fewer2.ensures)) c.before.before.before.before.before.margins.auto.1.1.0))
+slice-aggregate-put-margins c = sym (length-take-le _ _ (front_room zeros c.before.before.before.before.before.margins.new.1.1.0 c.before.before.before.before.before.before.before.fewer.result c.before.fewer2.result (omega (arith, c.before.before.before.before.before.before.before.fewer.ensures)) (omega (arith, c.before.fewer2.ensures)) c.before.before.before.before.before.margins.auto.1.1.0))
 
 put-margins-requires : tie.Need-put-margins-requires
-put-margins-requires c κs = rw (length-take-le c.before.before.fewer2.result (c.before.before.before.before.before.before.margins.new.1.1.0 ++ drop c.before.before.before.before.before.before.before.before.fewer.result zeros) (front-room zeros c.before.before.before.before.before.before.margins.new.1.1.0 c.before.before.before.before.before.before.before.before.fewer.result c.before.before.fewer2.result (omega (arith, c.before.before.before.before.before.before.before.before.fewer.ensures)) (omega (arith, c.before.before.fewer2.ensures)) c.before.before.before.before.before.before.margins.auto.1.1.0)) (omega (arith, c.before.before.fewer2.ensures, c.before.before.before.before.before.before.before.before.fewer.ensures))
+put-margins-requires c κs = rw (length-take-le c.before.before.fewer2.result (c.before.before.before.before.before.before.margins.new.1.1.0 ++ drop c.before.before.before.before.before.before.before.before.fewer.result zeros) (front_room zeros c.before.before.before.before.before.before.margins.new.1.1.0 c.before.before.before.before.before.before.before.before.fewer.result c.before.before.fewer2.result (omega (arith, c.before.before.before.before.before.before.before.before.fewer.ensures)) (omega (arith, c.before.before.fewer2.ensures)) c.before.before.before.before.before.before.margins.auto.1.1.0)) (omega (arith, c.before.before.fewer2.ensures, c.before.before.before.before.before.before.before.before.fewer.ensures))
 
 returns : tie.Need-returns
 returns c =
@@ -44,20 +44,20 @@ returns c =
     let a = c.before.before.before.before.before.before.before.before.before.margins in
     let z = c.before.before.before.before.before.before.if1.true in
     let own = take p.result zeros in
-    given-places s.file.now own s.out.now (MarginsOf s.starts.now own) (MarginsSpelled s.starts.now s.out.now) a.result a.new.1.1.0 _
+    given_places s.file.now own s.out.now (MarginsOf s.starts.now own) (MarginsSpelled s.starts.now s.out.now) a.result a.new.1.1.0 _
     (λ R v t.
-    let room = margins-room s.starts.now s.out.now R v.few-jobs own (owned c.before.before.before.before.before.before.before.before.before.before) z t in
+    let room = margins_room s.starts.now s.out.now R v.few_jobs own (owned c.before.before.before.before.before.before.before.before.before.before) z t in
     subst (λ (x : List ℕ). MarginsSpelled s.starts.now s.out.now R a.result x)
-    (sym (fours-front complement (pos 0) a.new.1.1.0 (drop p.result zeros) s.out.now _ (jobs R) c.before.before.before.before.before.fewer2.result (omega (arith, c.before.before.before.before.before.fewer2.ensures, room.0, room.1, owned c.before.before.before.before.before.before.before.before.before.before, p.ensures)) room.2 c.before.before.put-margins.ensures))
-    (margins-given s.starts.now s.out.now R v.few-jobs own (owned c.before.before.before.before.before.before.before.before.before.before) z t))
+    (sym (fours_front complement (pos 0) a.new.1.1.0 (drop p.result zeros) s.out.now _ (jobs R) c.before.before.before.before.before.fewer2.result (omega (arith, c.before.before.before.before.before.fewer2.ensures, room.0, room.1, owned c.before.before.before.before.before.before.before.before.before.before, p.ensures)) room.2 c.before.before.put-margins.ensures))
+    (margins_given s.starts.now s.out.now R v.few_jobs own (owned c.before.before.before.before.before.before.before.before.before.before) z t))
     z a.ensures
 
 returns-2 : tie.Need-returns-2
 returns-2 c =
     let s = c.before.before.before.before.before.before.before.before.before.args in
     let own = take c.before.before.before.before.before.fewer.result zeros in
-    kept-places s.file.now own s.out.now (MarginsOf s.starts.now own) (MarginsSpelled s.starts.now s.out.now)
-    (λ R v b l n t. margins-kept s.starts.now s.out.now R v.few-jobs own (owned c.before.before.before.before) n t) c.if1.false c.before.before.before.margins.ensures
+    kept_places s.file.now own s.out.now (MarginsOf s.starts.now own) (MarginsSpelled s.starts.now s.out.now)
+    (λ R v b l n t. margins_kept s.starts.now s.out.now R v.few_jobs own (owned c.before.before.before.before) n t) c.if1.false c.before.before.before.margins.ensures
 
 pub margin-bytes-spec : {M : Type 1} → statement M
 margin-bytes-spec =

@@ -7,11 +7,11 @@ use lib.ListN.{length, get_or}
 use mir.Syntax.{w32}
 use mir.Val.{SFits}
 use mir.Facts.{to_z-of_z}
-use Rattle.base.proofs.Filling.{Filled, filled-length}
+use Rattle.base.proofs.Filling.{Filled, filled_length}
 use Rattle.tables.specs.Layout.{joined}
 use Rattle.calls.specs.Bytes.{big}
 use Rattle.doorway.specs.Doors.{fours}
-use Rattle.doorway.proofs.Fours.{fours-none, fours-more}
+use Rattle.doorway.proofs.Fours.{fours_none, fours_more}
 use Rattle.doors.specs.Promises.{complement}
 use borrow.Author.Rules.{rules}
 use Rattle.doors.proofs.door_margins.put_margins.Statement.{statement}
@@ -24,11 +24,11 @@ abbrev decreases-loop : tie.decreases-loop
 decreases-loop margins out₀ j₀ out j = length margins - j
 
 loop-holds : tie.Need-loop-init invariant-loop decreases-loop
-loop-holds c = (omega arith, fours-none (λ i. complement (get_or c.before.args.margins.now i (pos 0))) c.before.args.out.now)
+loop-holds c = (omega arith, fours_none (λ i. complement (get_or c.before.args.margins.now i (pos 0))) c.before.args.out.now)
 
 -- The bytes written keep the length.
 same : (c : tie.At-loop invariant-loop decreases-loop) → length c.loop.out ≡ length c.before.before.args.out.now
-same c = filled-length c.loop.invariant.1 (omega (arith, c.before.before.requires))
+same c = filled_length c.loop.invariant.1 (omega (arith, c.before.before.requires))
 
 part-put-end : tie.Need-slice-bounds-put-end invariant-loop decreases-loop
 part-put-end c = omega (arith, same c.before, c.before.before.before.requires)
@@ -40,7 +40,7 @@ loop-again c =
     let x = get_or m l.j (pos 0) in
     let fits : SFits w32 x = record { sfits = c.before.before.before.before.bits-of-arg.given } in
     let told : c.before.before.before.bits_of.result ≡ complement x = c.before.before.before.bits_of.ensures ∙ ap complement (to_z-of_z fits) in
-    (omega arith, fours-more (λ i. complement (get_or m i (pos 0))) l.j (l.j * 4 + 4 - l.j * 4) (omega arith) l.invariant.1 (omega (arith, c.before.before.before.before.before.before.before.before.before.requires)) _ (c.before.before.put.ensures ∙ ap (big _) told))
+    (omega arith, fours_more (λ i. complement (get_or m i (pos 0))) l.j (l.j * 4 + 4 - l.j * 4) (omega arith) l.invariant.1 (omega (arith, c.before.before.before.before.before.before.before.before.before.requires)) _ (c.before.before.put.ensures ∙ ap (big _) told))
 
 same_length : tie.Need-same-length invariant-loop decreases-loop
 same_length c = same c.before

@@ -4,7 +4,7 @@ use native.Mathlib.Omega.{arith}
 use lib.Seq.{length-take-le}
 use Rattle.mend.specs.Promises.{lending}
 use Rattle.doorway.specs.Doors.{shut, answered}
-use Rattle.doors.proofs.Mending.{mend-all}
+use Rattle.doors.proofs.Mending.{mend_all}
 use borrow.Author.Tests.{not-true, not-false}
 use borrow.Author.Rules.{rules}
 use Rattle.doors.proofs.door_mend.door_mend.Statement.{statement}
@@ -21,7 +21,7 @@ returns-2 c =
     let s = c.before.before.before.before.before.before.before.before.before.before.before.before.before.before.before.before.before.before.before.before.before.before.args in
     let told = c.before.before.tell.ensures in
     let opens = c.before.before.before.before.before.before.before.before.before.before.before.before.before.before.before.before.is_open.ensures.0 (not-false _ c.before.before.before.before.before.before.before.before.before.before.before.before.before.before.before.if1.false) in
-    rw (told.0, told.1) (answered opens (mend-all s.file.now (lending s.out.now s.moved.now) c.before.before.before.before.before.before.before.before.before.before.before.before.before.hand-starts.ensures.1 c.before.before.before.before.before.before.before.before.mend-bytes.ensures))
+    rw (told.0, told.1) (answered opens (mend_all s.file.now (lending s.out.now s.moved.now) c.before.before.before.before.before.before.before.before.before.before.before.before.before.hand-starts.ensures.1 c.before.before.before.before.before.before.before.before.mend-bytes.ensures))
 
 pub door-mend-spec : {M : Type 1} → statement M
 door-mend-spec =

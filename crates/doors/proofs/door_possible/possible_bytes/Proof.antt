@@ -6,11 +6,11 @@ use native.Mathlib.Omega.{arith}
 use lib.ListN.{length, take, drop, replicate}
 use lib.Seq.{length-take-le}
 use Rattle.schedule.specs.Quantities.{Valid, jobs}
-use Rattle.request.proofs.Accepted.{read-accepted, read-refused, accepted-valid}
+use Rattle.request.proofs.Accepted.{read_accepted, read_refused, accepted_valid}
 use Rattle.planner.specs.Promises.{OfFile, Reads}
-use Rattle.calls.proofs.Crossing.{front-room}
-use Rattle.doorway.proofs.Opening.{twos-front}
-use Rattle.doors.proofs.Rooms.{possible-room, possible-kept, possible-given}
+use Rattle.calls.proofs.Crossing.{front_room}
+use Rattle.doorway.proofs.Opening.{twos_front}
+use Rattle.doors.proofs.Rooms.{possible_room, possible_kept, possible_given}
 use borrow.Author.Rules.{rules}
 use Rattle.doors.proofs.door_possible.possible_bytes.Statement.{statement}
 use Rattle.doors.proofs.door_possible.possible_bytes.Tie as tie
@@ -21,17 +21,17 @@ zeros = replicate 16 0
 
 -- The file is read as the recorder.
 recorded : (c : tie.Else1) → Reads c.before.before.before.before.before.args.file.now c.before.before.read.result.recorder
-recorded c = read-accepted _ _ c.before.before.read.ensures c.if1.false
+recorded c = read_accepted _ _ c.before.before.read.ensures c.if1.false
 
 valid : (c : tie.Else1) → Valid c.before.before.read.result.recorder
-valid c = accepted-valid _ _ (recorded c)
+valid c = accepted_valid _ _ (recorded c)
 
 -- The places lent: as many as the bytes have room for, at most sixteen.
 owned : (c : tie.After-fewer) → length (take c.fewer.result zeros) ≡ min (length c.before.before.before.before.before.before.args.starts.now / 2) 16
 owned c = length-take-le c.fewer.result zeros (omega (arith, c.fewer.ensures)) ∙ c.fewer.ensures
 
 returns : tie.Need-returns
-returns c = rw c.refusal.ensures (OfFile.refused (read-refused _ _ c.before.before.before.read.ensures c.before.if1.true))
+returns c = rw c.refusal.ensures (OfFile.refused (read_refused _ _ c.before.before.before.read.ensures c.before.if1.true))
 
 slice-aggregate-first-schedule : tie.Need-slice-aggregate-first-schedule
 slice-aggregate-first-schedule c = sym (length-take-le _ _ (omega (arith, c.before.fewer.ensures)))
@@ -40,7 +40,7 @@ first-schedule-requires : tie.Need-first-schedule-requires
 first-schedule-requires c κs = valid c.before.before
 
 array-share-prefix-own : tie.Need-array-share-prefix-own
-array-share-prefix-own c = front-room zeros c.before.before.before.before.first-schedule.new.1.1.0 c.before.before.before.before.before.before.fewer.result c.fewer2.result (omega (arith, c.before.before.before.before.before.before.fewer.ensures)) (omega (arith, c.fewer2.ensures)) c.before.before.before.before.first-schedule.auto.1.1.0
+array-share-prefix-own c = front_room zeros c.before.before.before.before.first-schedule.new.1.1.0 c.before.before.before.before.before.before.fewer.result c.fewer2.result (omega (arith, c.before.before.before.before.before.before.fewer.ensures)) (omega (arith, c.fewer2.ensures)) c.before.before.before.before.first-schedule.auto.1.1.0
 
 slice-aggregate-put-starts : tie.Need-slice-aggregate-put-starts
 slice-aggregate-put-starts c = sym (length-take-le _ _ (array-share-prefix-own c.before))
@@ -57,16 +57,16 @@ returns-2 c =
     let R = c.before.before.before.before.before.before.before.before.before.before.before.before.before.before.read.result.recorder in
     let own = take p.result zeros in
     let fits = owned c.before.before.before.before.before.before.before.before.before.before.before in
-    let few = (valid c.before.before.before.before.before.before.before.before.before.before.before.before).few-jobs in
-    let room = possible-room s.budget s.starts.now R few own fits z a.ensures in
-    rw (twos-front a.new.1.1.0 (drop p.result zeros) s.starts.now _ (jobs R) c.before.before.before.before.before.fewer2.result (omega (arith, c.before.before.before.before.before.fewer2.ensures, room.0, fits, p.ensures)) room.1 c.before.before.put-starts.ensures)
-    (OfFile.read (recorded c.before.before.before.before.before.before.before.before.before.before.before.before) (possible-given s.budget s.starts.now R few own fits z a.ensures))
+    let few = (valid c.before.before.before.before.before.before.before.before.before.before.before.before).few_jobs in
+    let room = possible_room s.budget s.starts.now R few own fits z a.ensures in
+    rw (twos_front a.new.1.1.0 (drop p.result zeros) s.starts.now _ (jobs R) c.before.before.before.before.before.fewer2.result (omega (arith, c.before.before.before.before.before.fewer2.ensures, room.0, fits, p.ensures)) room.1 c.before.before.put-starts.ensures)
+    (OfFile.read (recorded c.before.before.before.before.before.before.before.before.before.before.before.before) (possible_given s.budget s.starts.now R few own fits z a.ensures))
 
 returns-3 : tie.Need-returns-3
 returns-3 c =
     let s = c.before.before.before.before.before.before.before.before.before.before.before.args in
     OfFile.read (recorded c.before.before.before.before.before.before)
-    (possible-kept s.budget s.starts.now c.before.before.before.before.before.before.before.before.read.result.recorder (valid c.before.before.before.before.before.before).few-jobs (take c.before.before.before.before.before.fewer.result zeros) (owned c.before.before.before.before.before) c.if2.false c.before.before.before.first-schedule.ensures)
+    (possible_kept s.budget s.starts.now c.before.before.before.before.before.before.before.before.read.result.recorder (valid c.before.before.before.before.before.before).few_jobs (take c.before.before.before.before.before.fewer.result zeros) (owned c.before.before.before.before.before) c.if2.false c.before.before.before.first-schedule.ensures)
 
 pub possible-bytes-spec : {M : Type 1} → statement M
 possible-bytes-spec =

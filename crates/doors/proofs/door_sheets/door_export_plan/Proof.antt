@@ -3,7 +3,7 @@ use mathlib.Core.Path.{sym}
 use native.Mathlib.Omega.{arith}
 use lib.Seq.{length-take-le}
 use Rattle.doorway.specs.Doors.{shut, answered}
-use Rattle.doors.proofs.Planning.{plan-all}
+use Rattle.doors.proofs.Planning.{plan_all}
 use borrow.Author.Tests.{not-true, not-false}
 use borrow.Author.Rules.{rules}
 use Rattle.doors.proofs.door_sheets.door_export_plan.Statement.{statement}
@@ -20,7 +20,7 @@ returns-2 c =
     let s = c.before.before.before.before.before.before.before.before.before.before.before.before.before.before.before.before.before.before.args in
     let told = c.before.before.tell.ensures in
     let opens = c.before.before.before.before.before.before.before.before.before.before.before.before.before.is_open.ensures.0 (not-false _ c.before.before.before.before.before.before.before.before.before.before.before.before.if1.false) in
-    rw (told.0, told.1) (answered opens (plan-all s.file.now s.out.now c.before.before.before.before.before.before.before.before.before.before.hand-starts.ensures.1 c.before.before.before.before.before.before.export-plan.ensures))
+    rw (told.0, told.1) (answered opens (plan_all s.file.now s.out.now c.before.before.before.before.before.before.before.before.before.before.hand-starts.ensures.1 c.before.before.before.before.before.before.export-plan.ensures))
 
 pub door-export-plan-spec : {M : Type 1} → statement M
 door-export-plan-spec =

@@ -6,11 +6,11 @@ use native.Mathlib.Omega.{arith}
 use lib.ListN.{length, take, drop, replicate}
 use lib.Seq.{length-take-le}
 use Rattle.schedule.specs.Quantities.{Valid}
-use Rattle.request.proofs.Accepted.{read-accepted, read-refused, accepted-valid}
+use Rattle.request.proofs.Accepted.{read_accepted, read_refused, accepted_valid}
 use Rattle.planner.specs.Promises.{OfFile, Reads}
-use Rattle.calls.proofs.Crossing.{front-room}
-use Rattle.doorway.proofs.Fours.{fours-front}
-use Rattle.doors.proofs.Stepping.{steps-room, steps-kept, steps-given}
+use Rattle.calls.proofs.Crossing.{front_room}
+use Rattle.doorway.proofs.Fours.{fours_front}
+use Rattle.doors.proofs.Stepping.{steps_room, steps_kept, steps_given}
 use borrow.Author.Rules.{rules}
 use Rattle.doors.proofs.door_step.step_bytes.Statement.{statement}
 use Rattle.doors.proofs.door_step.step_bytes.Tie as tie
@@ -21,17 +21,17 @@ zeros = replicate 8 0
 
 -- The file is read as the recorder.
 recorded : (c : tie.Else1) → Reads c.before.before.before.before.before.before.args.file.now c.before.before.read.result.recorder
-recorded c = read-accepted _ _ c.before.before.read.ensures c.if1.false
+recorded c = read_accepted _ _ c.before.before.read.ensures c.if1.false
 
 valid : (c : tie.Else1) → Valid c.before.before.read.result.recorder
-valid c = accepted-valid _ _ (recorded c)
+valid c = accepted_valid _ _ (recorded c)
 
 -- The places lent: as many as the bytes have room for, at most eight.
 owned : (c : tie.After-fewer) → length (take c.fewer.result zeros) ≡ min (length c.before.before.before.before.before.before.before.before.args.out.now / 4) 8
 owned c = length-take-le c.fewer.result zeros (omega (arith, c.fewer.ensures)) ∙ c.fewer.ensures
 
 returns : tie.Need-returns
-returns c = rw c.refusal.ensures (OfFile.refused (read-refused _ _ c.before.before.before.read.ensures c.before.if1.true))
+returns c = rw c.refusal.ensures (OfFile.refused (read_refused _ _ c.before.before.before.read.ensures c.before.if1.true))
 
 slice-aggregate-steps-of : tie.Need-slice-aggregate-steps-of
 slice-aggregate-steps-of c = sym (length-take-le _ _ (omega (arith, c.before.fewer.ensures)))
@@ -40,7 +40,7 @@ steps-of-requires : tie.Need-steps-of-requires
 steps-of-requires c κs = valid c.before.before.before
 
 array-share-prefix-room : tie.Need-array-share-prefix-room
-array-share-prefix-room c = front-room zeros c.before.before.before.before.steps_of.new.1.1.1.0 c.before.before.before.before.before.before.fewer.result c.fewer2.result (omega (arith, c.before.before.before.before.before.before.fewer.ensures)) (omega (arith, c.fewer2.ensures)) c.before.before.before.before.steps_of.auto.1.1.1.0
+array-share-prefix-room c = front_room zeros c.before.before.before.before.steps_of.new.1.1.1.0 c.before.before.before.before.before.before.fewer.result c.fewer2.result (omega (arith, c.before.before.before.before.before.before.fewer.ensures)) (omega (arith, c.fewer2.ensures)) c.before.before.before.before.steps_of.auto.1.1.1.0
 
 slice-aggregate-put-energies : tie.Need-slice-aggregate-put-energies
 slice-aggregate-put-energies c = sym (length-take-le _ _ (array-share-prefix-room c.before))
@@ -57,16 +57,16 @@ returns-2 c =
     let R = c.before.before.before.before.before.before.before.before.before.before.before.before.before.before.before.read.result.recorder in
     let own = take p.result zeros in
     let fits = owned c.before.before.before.before.before.before.before.before.before.before.before in
-    let few = (valid c.before.before.before.before.before.before.before.before.before.before.before.before.before).few-devices in
-    let room = steps-room s.file.now s.starts.now s.out.now R few own fits z a.ensures in
-    rw (fours-front (λ x. x) 0 a.new.1.1.1.0 (drop p.result zeros) s.out.now _ R.devices.count c.before.before.before.before.before.fewer2.result (omega (arith, c.before.before.before.before.before.fewer2.ensures, room.0, fits, p.ensures)) room.1 c.before.before.put-energies.ensures)
-    (OfFile.read (recorded c.before.before.before.before.before.before.before.before.before.before.before.before.before) (steps-given s.file.now s.starts.now s.out.now R few own fits z a.ensures))
+    let few = (valid c.before.before.before.before.before.before.before.before.before.before.before.before.before).few_devices in
+    let room = steps_room s.file.now s.starts.now s.out.now R few own fits z a.ensures in
+    rw (fours_front (λ x. x) 0 a.new.1.1.1.0 (drop p.result zeros) s.out.now _ R.devices.count c.before.before.before.before.before.fewer2.result (omega (arith, c.before.before.before.before.before.fewer2.ensures, room.0, fits, p.ensures)) room.1 c.before.before.put-energies.ensures)
+    (OfFile.read (recorded c.before.before.before.before.before.before.before.before.before.before.before.before.before) (steps_given s.file.now s.starts.now s.out.now R few own fits z a.ensures))
 
 returns-3 : tie.Need-returns-3
 returns-3 c =
     let s = c.before.before.before.before.before.before.before.before.before.before.before.before.before.args in
     OfFile.read (recorded c.before.before.before.before.before.before.before)
-    (steps-kept s.file.now s.starts.now s.out.now c.before.before.before.before.before.before.before.before.before.read.result.recorder (valid c.before.before.before.before.before.before.before).few-devices (take c.before.before.before.before.before.fewer.result zeros) (owned c.before.before.before.before.before) c.if2.false c.before.before.before.steps_of.ensures)
+    (steps_kept s.file.now s.starts.now s.out.now c.before.before.before.before.before.before.before.before.before.read.result.recorder (valid c.before.before.before.before.before.before.before).few_devices (take c.before.before.before.before.before.fewer.result zeros) (owned c.before.before.before.before.before) c.if2.false c.before.before.before.steps_of.ensures)
 
 pub step-bytes-spec : {M : Type 1} → statement M
 step-bytes-spec =

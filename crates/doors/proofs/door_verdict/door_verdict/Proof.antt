@@ -3,8 +3,8 @@ use mathlib.Core.Path.{sym}
 use native.Mathlib.Omega.{arith}
 use lib.Seq.{length-take-le}
 use Rattle.planner.specs.Promises.{Judged}
-use Rattle.doorway.specs.Doors.{startsOf, shut}
-use Rattle.doorway.proofs.Opening.{answered-as, judged-all}
+use Rattle.doorway.specs.Doors.{starts_of, shut}
+use Rattle.doorway.proofs.Opening.{answered_as, judged_all}
 use borrow.Author.Tests.{not-true, not-false}
 use borrow.Author.Rules.{rules}
 use Rattle.doors.proofs.door_verdict.door_verdict.Statement.{statement}
@@ -21,8 +21,8 @@ returns-2 c =
     let s = c.before.before.before.before.before.before.before.before.before.before.before.before.before.before.args in
     let told = c.before.before.tell.ensures in
     let opens = c.before.before.before.before.before.before.before.before.before.before.is_open.ensures.0 (not-false _ c.before.before.before.before.before.before.before.before.before.if1.false) in
-    answered-as s.result.now tt (λ a u. Judged s.file.now (startsOf s.starts.now) a) told.0 told.1 opens
-    (judged-all s.file.now c.before.before.before.before.before.before.before.hand-starts.ensures.1 c.before.before.before.before.verdict.ensures)
+    answered_as s.result.now tt (λ a u. Judged s.file.now (starts_of s.starts.now) a) told.0 told.1 opens
+    (judged_all s.file.now c.before.before.before.before.before.before.before.hand-starts.ensures.1 c.before.before.before.before.verdict.ensures)
 
 pub door-verdict-spec : {M : Type 1} → statement M
 door-verdict-spec =

@@ -4,16 +4,16 @@ use Prim.Native.Nat.{◌+◌, ◌-◌, ◌≤◌}
 use lib.ListN.{length-set}
 use native.Mathlib.Omega.{arith}
 use borrow.Author.Rules.{rules}
-use Rattle.flat.specs.inside.Flat.{recorderOf}
-use Rattle.extras.specs.inside.Jobs.{usedBelow}
-use Rattle.extras.proofs.Uses.{used-none, used-next, used-most}
-use Rattle.extras.proofs.Listed.{ListedTo, listed-none, listed_next, listed-all}
+use Rattle.flat.specs.inside.Flat.{recorder_of}
+use Rattle.extras.specs.inside.Jobs.{used_below}
+use Rattle.extras.proofs.Uses.{used_none, used_next, used_most}
+use Rattle.extras.proofs.Listed.{ListedTo, listed_none, listed_next, listed_all}
 use Rattle.extras.proofs.jobs.lay_job.Statement.{statement}
 use Rattle.extras.proofs.jobs.lay_job.Tie as tie
 
 abbrev invariant-loop : tie.invariant-loop
 invariant-loop r j extras₀ m n₀ k₀ extras n k =
-    (k ≤ m) × (m ≤ 8) × ListedTo (recorderOf r) j k extras₀ extras × (n ≡ usedBelow (recorderOf r) j k) × (n ≤ k)
+    (k ≤ m) × (m ≤ 8) × ListedTo (recorder_of r) j k extras₀ extras × (n ≡ used_below (recorder_of r) j k) × (n ≤ k)
 
 abbrev decreases-loop : tie.decreases-loop
 decreases-loop r j extras₀ m n₀ k₀ extras n k = m - k
@@ -21,7 +21,7 @@ decreases-loop r j extras₀ m n₀ k₀ extras n k = m - k
 loop-holds : tie.Need-loop-init invariant-loop decreases-loop
 loop-holds c =
     let s = c.before.before in
-    (omega arith, omega (arith, c.device-count.ensures, s.requires.0.few-devices), listed-none, used-none (recorderOf s.args.r.now) s.args.j, omega arith)
+    (omega arith, omega (arith, c.device-count.ensures, s.requires.0.few_devices), listed_none, used_none (recorder_of s.args.r.now) s.args.j, omega arith)
 
 slice-write-extras : tie.Need-slice-write-extras invariant-loop decreases-loop
 slice-write-extras c =
@@ -43,15 +43,15 @@ loop-again : tie.Need-loop-preserved invariant-loop decreases-loop
 loop-again c =
     let l = c.before.before.before in
     let s = l.before.before.before in
-    let R = recorderOf s.args.r.now in
+    let R = recorder_of s.args.r.now in
     let j = s.args.j in
-    let next : c.counted.result ≡ usedBelow R j (l.loop.k + 1)
-    = c.counted.ensures ∙ rw (c.before.is-used.ensures, l.loop.invariant.3) (used-next R j l.loop.k) in (
+    let next : c.counted.result ≡ used_below R j (l.loop.k + 1)
+    = c.counted.ensures ∙ rw (c.before.is-used.ensures, l.loop.invariant.3) (used_next R j l.loop.k) in (
       omega (arith, c.before.before.loop-test.true),
       l.loop.invariant.1,
       listed_next s.requires.1.0 s.requires.1.1 l.loop.invariant.2 (omega (arith, c.before.before.loop-test.true, l.loop.invariant.1)) l.loop.invariant.3,
       next,
-      omega (arith, next, used-most R j (l.loop.k + 1)),
+      omega (arith, next, used_most R j (l.loop.k + 1)),
     )
 
 slice-write-extras-2 : tie.Need-slice-write-extras-2 invariant-loop decreases-loop
@@ -74,7 +74,7 @@ returns c =
     let e = c.before.before.before.before.before in
     let l = e.before in
     let s = l.before.before.before in
-    listed-all s.requires.1.0 s.requires.1.1 l.loop.invariant.2 (omega (arith, e.loop-test.false, l.loop.invariant.0, l.before.device-count.ensures)) (omega (arith, l.loop.invariant.0, l.loop.invariant.1)) l.loop.invariant.3
+    listed_all s.requires.1.0 s.requires.1.1 l.loop.invariant.2 (omega (arith, e.loop-test.false, l.loop.invariant.0, l.before.device-count.ensures)) (omega (arith, l.loop.invariant.0, l.loop.invariant.1)) l.loop.invariant.3
     (c.lessened.ensures ∙ rw (c.before.before.before.wide.ensures.0, c.before.before.before.before.deadline-of.ensures, c.before.wide2.ensures.0, c.before.before.run_of.ensures))
 
 pub lay-job-spec : {M : Type 1} → statement M

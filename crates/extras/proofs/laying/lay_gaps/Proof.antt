@@ -5,15 +5,15 @@ use mathlib.Core.Bool.{true}
 use Prim.Native.Nat.{ℕ, suc, ◌+◌, ◌-◌, ◌*◌, ◌≤◌}
 use native.Mathlib.Omega.{arith}
 use borrow.Author.Rules.{rules}
-use Rattle.extras.specs.inside.Shapes.{Stays, extraBefore, shape_of}
+use Rattle.extras.specs.inside.Shapes.{Stays, extra_before, shape_of}
 use Rattle.extras.proofs.Laid.{Below, below_none, below_next, below_all}
-use Rattle.extras.proofs.Shaping.{shape-none, before-none, shape-next, before-next}
+use Rattle.extras.proofs.Shaping.{shape_none, before_none, shape_next, before_next}
 use Rattle.extras.proofs.laying.lay_gaps.Statement.{statement}
 use Rattle.extras.proofs.laying.lay_gaps.Tie as tie
 
 abbrev invariant-loop : tie.invariant-loop
 invariant-loop d sleep k h extras₀ shape₀ last₀ deepest₀ g₀ extras shape last deepest g =
-    (g ≤ h + 1) × Below d k g extras₀ extras × (shape ≡ shape_of d g) × (last ≡ extraBefore d g) × (deepest ≡ true → Stays d g last)
+    (g ≤ h + 1) × Below d k g extras₀ extras × (shape ≡ shape_of d g) × (last ≡ extra_before d g) × (deepest ≡ true → Stays d g last)
 
 abbrev decreases-loop : tie.decreases-loop
 decreases-loop d sleep k h extras₀ shape₀ last₀ deepest₀ g₀ extras shape last deepest g = h + 1 - g
@@ -22,8 +22,8 @@ loop-holds : tie.Need-loop-init invariant-loop decreases-loop
 loop-holds c = (
   omega arith,
   below_none,
-  shape-none c.before.args.d,
-  before-none c.before.args.d,
+  shape_none c.before.args.d,
+  before_none c.before.args.d,
   λ e. absurd (let z : ◌≡◌ {A = ℕ} 0 1 = cc in omega arith),
 )
 
@@ -47,8 +47,8 @@ loop-again c =
     let is = n.next-gap.ensures.0 in (
       omega (arith, n.before.loop-test.true),
       below_next l.loop.invariant.1 (omega (arith, p.0, p.1.1)) is,
-      shape-next d l.loop.g is l.loop.invariant.2 c.before.wide.ensures.0 l.loop.invariant.3 c.shape-with.ensures,
-      before-next d l.loop.g is,
+      shape_next d l.loop.g is l.loop.invariant.2 c.before.wide.ensures.0 l.loop.invariant.3 c.shape-with.ensures,
+      before_next d l.loop.g is,
       n.next-gap.ensures.1,
     )
 

@@ -1,20 +1,20 @@
 -- `faults::records::called_for` meets its contract.
 use borrow.Author.Rules.{rules}
 use Rattle.base.proofs.Paths.{paths}
-use Rattle.faults.specs.Places.{calledFor}
+use Rattle.faults.specs.Places.{called_for}
 use Rattle.faults.proofs.records.called_for.Statement.{statement}
 use Rattle.faults.proofs.records.called_for.Tie as tie
 
 returns : tie.Need-returns
-unfolding calledFor
+unfolding called_for
 returns c = search paths
 
 returns-2 : tie.Need-returns-2
-unfolding calledFor
+unfolding called_for
 returns-2 c = search paths
 
 returns-3 : tie.Need-returns-3
-unfolding calledFor
+unfolding called_for
 returns-3 c = search paths
 
 pub called-for-spec : {M : Type 1} → statement M

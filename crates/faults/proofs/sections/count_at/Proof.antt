@@ -1,12 +1,12 @@
 -- `faults::sections::count_at` meets its contract.
 use borrow.Author.Rules.{rules}
 use mathlib.Core.Path.{refl}
-use Rattle.faults.specs.Places.{placeAt}
+use Rattle.faults.specs.Places.{place_at}
 use Rattle.faults.proofs.sections.count_at.Statement.{statement}
 use Rattle.faults.proofs.sections.count_at.Tie as tie
 
 returns : tie.Need-returns
-unfolding placeAt
+unfolding place_at
 returns c = refl
 
 pub count-at-spec : {M : Type 1} → statement M

@@ -4,13 +4,13 @@ use mathlib.Core.Path.{◌≡◌}
 use native.Mathlib.Omega.{arith}
 use Rattle.base.specs.Bytes.{byte_at}
 use Rattle.base.proofs.Paths.{paths}
-use Rattle.base.proofs.Records.{after-from}
-use Rattle.tables.specs.Records.{deviceSize}
-use Rattle.tables.specs.Layout.{tasksPlace}
+use Rattle.base.proofs.Records.{after_from_lem}
+use Rattle.tables.specs.Records.{device_size}
+use Rattle.tables.specs.Layout.{tasks_place}
 use Rattle.request.specs.declared.Section.TheVariants.{DeviceRecords}
-use Rattle.request.proofs.Checked.{records-room}
-use Rattle.faults.specs.inside.Walk.{taskWalk, walk}
-use Rattle.faults.proofs.Walking.{walks, clear-records}
+use Rattle.request.proofs.Checked.{records_room}
+use Rattle.faults.specs.inside.Walk.{task_walk, walk}
+use Rattle.faults.proofs.Walking.{walks, clear_records}
 use Rattle.faults.proofs.sections.walk_in.Statement.{statement}
 use Rattle.faults.proofs.sections.walk_in.Tie as tie
 
@@ -35,16 +35,16 @@ returns-4 c = search (paths, walks)
 
 device-place-requires : tie.Need-device-place-requires
 device-place-requires c κs =
-    records-room _ (DeviceRecords _) _ 3 (omega arith) (clear-records _ _ _ _ _ c.before.before.records-place.ensures c.if4.false)
+    records_room _ (DeviceRecords _) _ 3 (omega arith) (clear_records _ _ _ _ _ c.before.before.records-place.ensures c.if4.false)
 
 task-fault-requires : tie.Need-task-fault-requires
 task-fault-requires c κs =
-    let room = records-room _ (DeviceRecords _) _ 3 (omega arith) (clear-records _ _ _ _ _ c.before.before.before.records-place.ensures c.before.if4.false) in
+    let room = records_room _ (DeviceRecords _) _ 3 (omega arith) (clear_records _ _ _ _ _ c.before.before.before.records-place.ensures c.before.if4.false) in
     let a = c.before.before.before.before.before.before.before.before.before.args in
-    rw c.device-place.ensures (room, after-from (deviceSize a.kind a.s.now) (byte_at a.s.now 2) 3, omega arith)
+    rw c.device_place.ensures (room, after_from_lem (device_size a.kind a.s.now) (byte_at a.s.now 2) 3, omega arith)
 
-placed : (c : tie.After-task-fault) → (let a = c.before.before.before.before.before.before.before.before.before.before.args in c.task-fault.result ≡ taskWalk a.mark a.s.now (byte_at a.s.now 2) (tasksPlace a.kind a.s.now))
-placed c = rw c.before.device-place.ensures at c.task-fault.ensures
+placed : (c : tie.After-task-fault) → (let a = c.before.before.before.before.before.before.before.before.before.before.args in c.task_fault.result ≡ task_walk a.mark a.s.now (byte_at a.s.now 2) (tasks_place a.kind a.s.now))
+placed c = rw c.before.device_place.ensures at c.task_fault.ensures
 
 returns-5 : tie.Need-returns-5
 unfolding walk

@@ -3,19 +3,19 @@ use Prim.Native.Nat.{◌≤◌, ◌<◌}
 use native.Mathlib.Omega.{arith}
 use borrow.Author.Rules.{rules}
 use lib.ListN.{length}
-use Rattle.extras.specs.inside.Tabled.{riseAt, fallAt}
+use Rattle.extras.specs.inside.Tabled.{rise_at, fall_at}
 use Rattle.least.proofs.leads.fall_with.Statement.{statement}
 use Rattle.least.proofs.leads.fall_with.Tie as tie
 
 -- The device is one of eight, and its steepest rise and fall are no more than the table holds.
 few : (s : tie.Start) → s.args.k < 8
-few s = omega (arith, s.requires.1.0, s.requires.0.valid.few-devices)
+few s = omega (arith, s.requires.1.0, s.requires.0.valid.few_devices)
 
 there : (s : tie.Start) → (s.args.k < 8) × (40 ≤ length s.args.extras.now)
 there s = (few s, omega (arith, s.requires.0.room.long))
 
-most : (s : tie.Start) → (riseAt s.args.extras.now s.args.k ≤ 268431360) × (fallAt s.args.extras.now s.args.k ≤ 268431360)
-most s = (s.requires.0.rise-most s.args.k s.requires.1.0, s.requires.0.fall-most s.args.k s.requires.1.0)
+most : (s : tie.Start) → (rise_at s.args.extras.now s.args.k ≤ 268431360) × (fall_at s.args.extras.now s.args.k ≤ 268431360)
+most s = (s.requires.0.rise_most s.args.k s.requires.1.0, s.requires.0.fall_most s.args.k s.requires.1.0)
 
 is-used-requires : tie.Need-is-used-requires
 is-used-requires c κs = (few c.before, c.before.requires.1.1)

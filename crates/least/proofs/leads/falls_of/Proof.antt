@@ -5,21 +5,21 @@ use native.Mathlib.Omega.{arith}
 use borrow.Author.Rules.{rules}
 use Rattle.base.specs.Sums.{sum}
 use Rattle.base.proofs.Additions.{sum_more}
-use Rattle.flat.specs.inside.Flat.{recorderOf}
-use Rattle.extras.specs.inside.Tabled.{riseAt, fallAt}
-use Rattle.least.specs.inside.Shown.{fallBy}
+use Rattle.flat.specs.inside.Flat.{recorder_of}
+use Rattle.extras.specs.inside.Tabled.{rise_at, fall_at}
+use Rattle.least.specs.inside.Shown.{fall_by}
 use Rattle.least.proofs.leads.falls_of.Statement.{statement}
 use Rattle.least.proofs.leads.falls_of.Tie as tie
 
 abbrev invariant-loop : tie.invariant-loop
 invariant-loop r extras v j round m made₀ k₀ made k =
-    (k ≤ m) × (m ≤ 8) × (made ≡ sum k (fallBy (recorderOf r) (riseAt extras) (fallAt extras) v j)) × (made ≤ 536862720 * k)
+    (k ≤ m) × (m ≤ 8) × (made ≡ sum k (fall_by (recorder_of r) (rise_at extras) (fall_at extras) v j)) × (made ≤ 536862720 * k)
 
 abbrev decreases-loop : tie.decreases-loop
 decreases-loop r extras v j round m made₀ k₀ made k = m - k
 
 loop-holds : tie.Need-loop-init invariant-loop decreases-loop
-loop-holds c = (omega arith, omega (arith, c.device-count.ensures, c.before.before.before.requires.0.valid.few-devices), refl, omega arith)
+loop-holds c = (omega arith, omega (arith, c.device-count.ensures, c.before.before.before.requires.0.valid.few_devices), refl, omega arith)
 
 fall-with-requires : tie.Need-fall-with-requires invariant-loop decreases-loop
 fall-with-requires c κs =
@@ -42,23 +42,23 @@ add-sum : tie.Need-overflow-add-sum invariant-loop decreases-loop
 add-sum c = omega (arith, more c)
 
 loop-again : tie.Need-loop-preserved invariant-loop decreases-loop
-unfolding fallBy
+unfolding fall_by
 loop-again c =
     let at = c.before.before.before in
     let l = at.loop in
     let a = at.before.before.before.before.args in
-    let R = recorderOf a.r.now in
+    let R = recorder_of a.r.now in
     let x = a.extras.now in
-    let here : c.fall-with.result ≡ fallBy R (riseAt x) (fallAt x) a.v.now a.j l.k = rw at.before.before.is-round.ensures at c.fall-with.ensures.0 in
-    (omega arith, l.invariant.1, omega (arith, here, l.invariant.2, sum_more l.k (fallBy R (riseAt x) (fallAt x) a.v.now a.j)), (more c).0)
+    let here : c.fall-with.result ≡ fall_by R (rise_at x) (fall_at x) a.v.now a.j l.k = rw at.before.before.is-round.ensures at c.fall-with.ensures.0 in
+    (omega arith, l.invariant.1, omega (arith, here, l.invariant.2, sum_more l.k (fall_by R (rise_at x) (fall_at x) a.v.now a.j)), (more c).0)
 
 returns : tie.Need-returns invariant-loop decreases-loop
 returns c =
     let a = c.before.before.before.before.before.args in
-    let R = recorderOf a.r.now in
+    let R = recorder_of a.r.now in
     let x = a.extras.now in
     let all : c.before.loop.k ≡ R.devices.count = omega (arith, c.before.before.device-count.ensures) in
-    c.before.loop.invariant.2 ∙ ap (λ (n : ℕ). sum n (fallBy R (riseAt x) (fallAt x) a.v.now a.j)) all
+    c.before.loop.invariant.2 ∙ ap (λ (n : ℕ). sum n (fall_by R (rise_at x) (fall_at x) a.v.now a.j)) all
 
 pub falls-of-spec : {M : Type 1} → statement M
 falls-of-spec =

@@ -4,7 +4,7 @@ use mathlib.Core.Logic.{⊎_elim}
 use Prim.Native.Nat.{ℕ, ◌≤◌, ◌<◌, ◌-◌, min}
 use native.Mathlib.Omega.{arith}
 use borrow.Author.Rules.{rules}
-use Rattle.flat.specs.inside.Flat.{recorderOf}
+use Rattle.flat.specs.inside.Flat.{recorder_of}
 use Rattle.least.proofs.leads.wait_of.Statement.{statement}
 use Rattle.least.proofs.leads.wait_of.Tie as tie
 
@@ -16,10 +16,10 @@ decreases-loop r extras v time round m until₀ k₀ until k = m - k
 
 -- The time is one of the horizon's, which has at most 4,096 ticks.
 soon : (s : tie.Start invariant-loop decreases-loop) → s.args.time ≤ 4096
-soon s = omega (arith, s.requires.1.by, s.requires.0.valid.few-ticks)
+soon s = omega (arith, s.requires.1.by, s.requires.0.valid.few_ticks)
 
 loop-holds : tie.Need-loop-init invariant-loop decreases-loop
-loop-holds c = (omega arith, omega (arith, c.device-count.ensures, c.before.before.before.requires.0.valid.few-devices), omega (arith, soon c.before.before.before))
+loop-holds c = (omega arith, omega (arith, c.device-count.ensures, c.before.before.before.requires.0.valid.few_devices), omega (arith, soon c.before.before.before))
 
 cap-of-requires : tie.Need-cap-of-requires invariant-loop decreases-loop
 cap-of-requires c κs =
@@ -30,8 +30,8 @@ wait-with-requires : tie.Need-wait-with-requires invariant-loop decreases-loop
 wait-with-requires c κs =
     let l = c.before.before.before.before.before.before in
     let start = l.before.before.before.before in
-    let few : l.loop.k < (recorderOf start.args.r.now).devices.count = omega (arith, c.before.before.before.before.before.loop-test.true, l.before.device-count.ensures) in (
-      omega (arith, c.before.before.before.before.cap-of.ensures, start.requires.0.cap-most l.loop.k few),
+    let few : l.loop.k < (recorder_of start.args.r.now).devices.count = omega (arith, c.before.before.before.before.before.loop-test.true, l.before.device-count.ensures) in (
+      omega (arith, c.before.before.before.before.cap-of.ensures, start.requires.0.cap_most l.loop.k few),
       (omega (arith, start.requires.1.ends l.loop.k few, soon start), l.loop.invariant.2),
     )
 

@@ -4,7 +4,7 @@ use mathlib.Core.Logic.{inl, inr}
 use Prim.Native.Nat.{◌+◌, ◌-◌, ◌*◌, ◌≤◌}
 use native.Mathlib.Omega.{arith}
 use lib.ListN.{length}
-use Rattle.least.proofs.Kept.{known-at}
+use Rattle.least.proofs.Kept.{known_at_lem}
 use Rattle.least.proofs.memory.look.Statement.{statement}
 use Rattle.least.proofs.memory.look.Tie as tie
 
@@ -24,7 +24,7 @@ cast-t19 : tie.Need-overflow-cast-t19 invariant-loop decreases-loop
 cast-t19 c = omega (arith, c.shared-slice-known2.given (5 * c.before.before.before.before.loop.i))
 
 returns-2 : tie.Need-returns-2 invariant-loop decreases-loop
-returns-2 c = record { known = inr (omega arith, c.before.before.is_at.ensures c.before.if2.true, known-at _ _) }
+returns-2 c = record { known = inr (omega arith, c.before.before.is_at.ensures c.before.if2.true, known_at_lem _ _) }
 
 returns-3 : tie.Need-returns-3 invariant-loop decreases-loop
 returns-3 c = record { known = inl refl }

@@ -4,7 +4,7 @@ use Rattle.least.proofs.memory.remember.Statement.{statement}
 use Rattle.least.proofs.memory.remember.Tie as tie
 
 returns : tie.Need-returns
-returns c = (c.before.before.before.before.effort-of.result, c.before.before.before.before.effort-of.ensures, rw (← c.before.before.before.known-of.ensures) c.before.before.keep.ensures)
+returns c = (c.before.before.before.before.effort-of.result, c.before.before.before.before.effort-of.ensures, rw (← c.before.before.before.known_of.ensures) c.before.before.keep.ensures)
 
 pub remember-spec : {M : Type 1} → statement M
 remember-spec =

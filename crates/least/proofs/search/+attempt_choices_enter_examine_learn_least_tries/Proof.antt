@@ -8,17 +8,17 @@ use native.Mathlib.Omega.{arith}
 use lib.ListN.{length}
 use lib.Pow.{pow_pos}
 use borrow.Author.Rules.{rules}
-use Rattle.flat.specs.inside.Flat.{recorderOf}
-use Rattle.latest.proofs.Members.{has-le}
-use Rattle.latest.proofs.Tabled.{power-next}
+use Rattle.flat.specs.inside.Flat.{recorder_of}
+use Rattle.latest.proofs.Members.{has_le}
+use Rattle.latest.proofs.Tabled.{power_next}
 use Rattle.least.specs.inside.Outcome.{Lent, told, stopped, passed}
-use Rattle.vertex.proofs.Showing.{ordered-later, ticks-shown, load-shown}
-use Rattle.least.proofs.Falling.{waited-shown}
-use Rattle.least.proofs.Counting.{came-stop, came-go, came-small, came-more, came_from, most-less, most-near, most-own}
-use Rattle.least.proofs.Choosing.{held-open, Chosen, chosen_none, chosen-as, chosen-passed, chosen-tried, chosen-stopped, chosen-all}
+use Rattle.vertex.proofs.Showing.{ordered_later, ticks_shown, load_shown}
+use Rattle.least.proofs.Falling.{waited_shown}
+use Rattle.least.proofs.Counting.{came_stop, came_go, came_small, came_more, came_from, most_less, most_near, most_own}
+use Rattle.least.proofs.Choosing.{held_open, Chosen, chosen_none, chosen_as, chosen_passed, chosen_tried, chosen_stopped, chosen_all}
 use Rattle.vertex.proofs.Lasting.{bit_is, bit_not}
-use Rattle.least.proofs.Trials.{Trial, trial-start, trial-as, trial-next, trial-stopped, trial-end}
-use Rattle.least.proofs.Going.{held_by, held-ordered, held-few, held-later, held-offers, some_left, offers-known, offers-end, offers-bit, child-shows, child-held, complete-answers, known-answers, head_few, learnt, learnt-kept, kept-lent, tried-entered, alive-early, near-comes, far-stops, far-comes, waits, starts-late, starts-to}
+use Rattle.least.proofs.Trials.{Trial, trial_start, trial_as, trial_next, trial_stopped, trial_end}
+use Rattle.least.proofs.Going.{held_by, held_ordered, held_few, held_later, held_offers, some_left, offers_known, offers_end, offers_bit, child_shows, child_held, complete_answers, known_answers, head_few, learnt, learnt_kept, kept_lent, tried_entered, alive_early, near_comes, far_stops, far_comes, waits, starts_late, starts_to_lem}
 use Rattle.schedule.specs.Visiting.{child}
 use Rattle.stored.specs.declared.Key.{Key}
 use Rattle.least.specs.inside.Entries.{Looked}
@@ -168,22 +168,22 @@ attempt-enter-requires t c κs =
 attempt-returns-2 : (t : ℕ) → attempt-lts.Need-returns-2 (attempt-calls t) (attempt-at t) attempt.Post
 attempt-returns-2 t c =
     let e = c.before.before.before.enter in
-    (e.ensures.0, λ m u h q. came-stop _ _ (omega arith) (e.ensures.1 m u h q) c.if2.true)
+    (e.ensures.0, λ m u h q. came_stop _ _ (omega arith) (e.ensures.1 m u h q) c.if2.true)
 
 attempt-returns-3 : (t : ℕ) → attempt-lts.Need-returns-3 (attempt-calls t) (attempt-at t) attempt.Post
 attempt-returns-3 t c =
     let s = c.before.before.before.before.before.before.before.before.before.before in
     let e = c.before.before.before.before.enter in (
       e.ensures.0,
-      λ m u h q. came-go _ _ _ (omega arith) (e.ensures.1 m u h q) c.before.if2.false
-          (λ small w. tried-entered _ _ _ _ _ _ c.larger.ensures (omega arith) small s.requires.1.1.1.1.1.1.1 w),
+      λ m u h q. came_go _ _ _ (omega arith) (e.ensures.1 m u h q) c.before.if2.false
+          (λ small w. tried_entered _ _ _ _ _ _ c.larger.ensures (omega arith) small s.requires.1.1.1.1.1.1.1 w),
     )
 
 -- ---- choices
 
 abbrev choices-Inv-loop : choices-lts.invariant-loop
 choices-Inv-loop r extras latest memory₀ entered₀ budget lift v set time until limit n best₀ rest₀ p₀ j₀ memory entered best rest p j =
-    (j ≤ n) × (p ≡ 2 ^ j) × (rest ≡ set / 2 ^ j) × Lent (recorderOf r) extras latest memory × (entered ≤ budget) × Chosen (recorderOf r) v set time until limit budget entered₀ j entered best × (length memory ≡ length memory₀)
+    (j ≤ n) × (p ≡ 2 ^ j) × (rest ≡ set / 2 ^ j) × Lent (recorder_of r) extras latest memory × (entered ≤ budget) × Chosen (recorder_of r) v set time until limit budget entered₀ j entered best × (length memory ≡ length memory₀)
 
 abbrev choices-μ-loop : choices-lts.decreases-loop
 choices-μ-loop r extras latest memory₀ entered₀ budget lift v set time until limit n best₀ rest₀ p₀ j₀ memory entered best rest p j = n - j
@@ -202,21 +202,21 @@ choices-tries-requires t c κs =
 choices-returns : (t : ℕ) → choices-lts.Need-returns (choices-calls t) (choices-at t) choices.Post choices-Inv-loop choices-μ-loop
 choices-returns t c =
     let s = c.before.before.before.before.before.before.before.before.before.before.before.before in
-    let R = recorderOf s.args.r.now in
+    let R = recorder_of s.args.r.now in
     let valid = s.requires.1.0.tabled.valid in
     let l = c.before.before.before.before.before.before.before.before.loop in
     let e = c.before.before.before.tries in
-    (e.ensures.0, λ m u h q. chosen-stopped R valid _ _ _ _ _ _ _ _ _ _ l.invariant.5 _ _ e.ensures.1 (omega (arith, c.before.before.before.before.before.before.before.loop-test.true, c.before.before.before.before.before.before.before.before.before.job-count.ensures)) c.if2.true m u h q)
+    (e.ensures.0, λ m u h q. chosen_stopped R valid _ _ _ _ _ _ _ _ _ _ l.invariant.5 _ _ e.ensures.1 (omega (arith, c.before.before.before.before.before.before.before.loop-test.true, c.before.before.before.before.before.before.before.before.before.job-count.ensures)) c.if2.true m u h q)
 
 choices-mul-p : (t : ℕ) → choices-lts.Need-overflow-mul-p (choices-calls t) (choices-at t) choices.Post choices-Inv-loop choices-μ-loop
 choices-mul-p t c =
     let l = c.before.before.loop in
-    omega (arith, l.invariant.1, power-next l.j (omega (arith, c.before.loop-test.true, c.before.before.before.job-count.ensures, c.before.before.before.before.before.before.requires.1.0.tabled.valid.few-jobs)))
+    omega (arith, l.invariant.1, power_next l.j (omega (arith, c.before.loop-test.true, c.before.before.before.job-count.ensures, c.before.before.before.before.before.before.requires.1.0.tabled.valid.few_jobs)))
 
 choices-loop-again : (t : ℕ) → choices-lts.Need-loop-preserved (choices-calls t) (choices-at t) choices.Post choices-Inv-loop choices-μ-loop
 choices-loop-again t c =
     let s = c.before.before.before.before.before.before in
-    let R = recorderOf s.args.r.now in
+    let R = recorder_of s.args.r.now in
     let valid = s.requires.1.0.tabled.valid in
     let l = c.before.before.loop in
     let held = s.requires.1.1.1.0 in
@@ -227,7 +227,7 @@ choices-loop-again t c =
       rw l.invariant.2 (halved _ _),
       rw w.7 w.3.ensures.0.0,
       rw w.8 w.3.ensures.0.1,
-      chosen-as _ _ _ _ _ _ _ _ _ _ _ _ _ (chosen-tried R valid _ _ _ _ _ _ _ _ _ _ l.invariant.5 _ _ w.3.ensures.1 held (bit_is _ _ _ l.invariant.2 w.0.taken) w.6.left) w.8 w.9,
+      chosen_as _ _ _ _ _ _ _ _ _ _ _ _ _ (chosen_tried R valid _ _ _ _ _ _ _ _ _ _ l.invariant.5 _ _ w.3.ensures.1 held (bit_is _ _ _ l.invariant.2 w.0.taken) w.6.left) w.8 w.9,
       omega (arith, ap length w.7, l.invariant.6),
     ))
     (λ w. (
@@ -236,7 +236,7 @@ choices-loop-again t c =
       rw l.invariant.2 (halved _ _),
       rw w.1 l.invariant.3,
       rw w.2 l.invariant.4,
-      chosen-as _ _ _ _ _ _ _ _ _ _ _ _ _ (chosen-passed R valid _ _ _ _ _ _ _ _ _ _ l.invariant.5 (bit_not _ _ _ l.invariant.2 w.0.left)) w.2 w.3,
+      chosen_as _ _ _ _ _ _ _ _ _ _ _ _ _ (chosen_passed R valid _ _ _ _ _ _ _ _ _ _ l.invariant.5 (bit_not _ _ _ l.invariant.2 w.0.left)) w.2 w.3,
       omega (arith, ap length w.1, l.invariant.6),
     ))
     c.if1.branch
@@ -247,74 +247,74 @@ choices-same-length-2 t c = c.before.loop.invariant.6
 choices-returns-2 : (t : ℕ) → choices-lts.Need-returns-2 (choices-calls t) (choices-at t) choices.Post choices-Inv-loop choices-μ-loop
 choices-returns-2 t c =
     let s = c.before.before.before.before.before in
-    let R = recorderOf s.args.r.now in
+    let R = recorder_of s.args.r.now in
     let valid = s.requires.1.0.tabled.valid in
     let l = c.before.loop in
-    ((l.invariant.3, l.invariant.4), λ m u h q. chosen-all R valid _ _ _ _ _ _ _ _ _ _ l.invariant.5 (omega (arith, c.before.before.job-count.ensures)) m u h q)
+    ((l.invariant.3, l.invariant.4), λ m u h q. chosen_all R valid _ _ _ _ _ _ _ _ _ _ l.invariant.5 (omega (arith, c.before.before.job-count.ensures)) m u h q)
 
 -- ---- enter
 
 enter-place-requires : (t : ℕ) → enter-lts.Need-place-requires (enter-calls t) (enter-at t) enter.Post
 enter-place-requires t c κs =
     let s = c.before.before.before.before in
-    let R = recorderOf s.args.r.now in
+    let R = recorder_of s.args.r.now in
     let valid = s.requires.1.0.tabled.valid in
     let o = s.requires.1.1.1.0 in
-    (valid, (o.shows.long, ((offers-known R valid _ _ _ _ o).1, (omega (arith, offers-end R valid s.args.v.now s.args.set s.args.j s.args.s o), (load-shown R valid _ _ _ _ o.shows _ o.job, ticks-shown R valid _ _ _ _ o.shows _ o.job)))))
+    (valid, (o.shows.long, ((offers_known R valid _ _ _ _ o).1, (omega (arith, offers_end R valid s.args.v.now s.args.set s.args.j s.args.s o), (load_shown R valid _ _ _ _ o.shows _ o.job, ticks_shown R valid _ _ _ _ o.shows _ o.job)))))
 
 enter-run-of-requires : (t : ℕ) → enter-lts.Need-run-of-requires (enter-calls t) (enter-at t) enter.Post
 enter-run-of-requires t c κs =
     let s = c.before.before.before.before.before in
-    let R = recorderOf s.args.r.now in
+    let R = recorder_of s.args.r.now in
     let valid = s.requires.1.0.tabled.valid in
     let o = s.requires.1.1.1.0 in
-    (offers-known R valid _ _ _ _ o).1
+    (offers_known R valid _ _ _ _ o).1
 
 enter-add-end : (t : ℕ) → enter-lts.Need-overflow-add-end (enter-calls t) (enter-at t) enter.Post
 enter-add-end t c =
     let s = c.before.before.before.before.before.before.before in
-    let R = recorderOf s.args.r.now in
+    let R = recorder_of s.args.r.now in
     let valid = s.requires.1.0.tabled.valid in
     let o = s.requires.1.1.1.0 in
-    omega (arith, offers-end R valid s.args.v.now s.args.set s.args.j s.args.s o, c.wide.ensures.0, c.before.run_of.ensures)
+    omega (arith, offers_end R valid s.args.v.now s.args.set s.args.j s.args.s o, c.wide.ensures.0, c.before.run_of.ensures)
 
 enter-sub-least : (t : ℕ) → enter-lts.Need-overflow-sub-least (enter-calls t) (enter-at t) enter.Post
 enter-sub-least t c =
     let s = c.before.before.before.before.before.before.before.before.before.before in
-    let R = recorderOf s.args.r.now in
+    let R = recorder_of s.args.r.now in
     let valid = s.requires.1.0.tabled.valid in
     let o = s.requires.1.1.1.0 in
-    (offers-bit R valid s.args.v.now s.args.set s.args.j s.args.s o s.args.p s.requires.1.1.1.1.0).1
+    (offers_bit R valid s.args.v.now s.args.set s.args.j s.args.s o s.args.p s.requires.1.1.1.1.0).1
 
 enter-least-requires : (t : ℕ) → enter-lts.Need-least-requires (enter-calls t) (enter-at t) enter.Post
 enter-least-requires t c κs =
     let s = c.before.before.before.before.before.before.before.before.before.before in
-    let R = recorderOf s.args.r.now in
+    let R = recorder_of s.args.r.now in
     let valid = s.requires.1.0.tabled.valid in
     let o = s.requires.1.1.1.0 in
     let p-is = s.requires.1.1.1.1.0 in
     let end_is = ap (λ (n : ℕ). s.args.s + n) (c.before.before.before.wide.ensures.0 ∙ c.before.before.before.before.run_of.ensures) in
-    (omega (arith, offers-bit R valid s.args.v.now s.args.set s.args.j s.args.s o s.args.p p-is), (s.requires.1.0, (s.requires.1.1.0, (child-held R valid _ _ _ _ o _ _ p-is end_is _ c.before.before.before.before.before.place.ensures, s.requires.1.1.1.1.1))))
+    (omega (arith, offers_bit R valid s.args.v.now s.args.set s.args.j s.args.s o s.args.p p-is), (s.requires.1.0, (s.requires.1.1.0, (child_held R valid _ _ _ _ o _ _ p-is end_is _ c.before.before.before.before.before.place.ensures, s.requires.1.1.1.1.1))))
 
 enter-returns : (t : ℕ) → enter-lts.Need-returns (enter-calls t) (enter-at t) enter.Post
 enter-returns t c =
     let s = c.before.before.before.before.before.before.before.before.before.before.before.before.before in
-    let R = recorderOf s.args.r.now in
+    let R = recorder_of s.args.r.now in
     let valid = s.requires.1.0.tabled.valid in
     let o = s.requires.1.1.1.0 in
     let p-is = s.requires.1.1.1.1.0 in
     let end_is = ap (λ (n : ℕ). s.args.s + n) (c.before.before.before.before.before.before.wide.ensures.0 ∙ c.before.before.before.before.before.before.before.run_of.ensures) in
     let e = c.before.before.least in
-    (e.ensures.0, λ m u h q. came-more _ (most-less R m _) (e.ensures.1 m (child R u s.args.j s.args.s) (child-shows R valid _ _ _ _ o _ _ p-is end_is _ c.before.before.before.before.before.before.before.before.place.ensures m u h q) (sym end_is)))
+    (e.ensures.0, λ m u h q. came_more _ (most_less R m _) (e.ensures.1 m (child R u s.args.j s.args.s) (child_shows R valid _ _ _ _ o _ _ p-is end_is _ c.before.before.before.before.before.before.before.before.place.ensures m u h q) (sym end_is)))
 
 -- ---- examine
 
 examine-wait-of-requires : (t : ℕ) → examine-lts.Need-wait-of-requires (examine-calls t) (examine-at t) examine.Post
 examine-wait-of-requires t c κs =
     let s = c.before.before in
-    let R = recorderOf s.args.r.now in
+    let R = recorder_of s.args.r.now in
     let valid = s.requires.1.0.tabled.valid in
-    (s.requires.1.0.tabled, held-ordered R valid _ _ _ s.requires.1.1.1.0)
+    (s.requires.1.0.tabled, held_ordered R valid _ _ _ s.requires.1.1.1.0)
 
 examine-choices-requires : (t : ℕ) → examine-lts.Need-choices-requires (examine-calls t) (examine-at t) examine.Post
 examine-choices-requires t c κs = (omega arith, c.before.before.before.before.before.requires.1)
@@ -322,90 +322,90 @@ examine-choices-requires t c κs = (omega arith, c.before.before.before.before.b
 examine-returns : (t : ℕ) → examine-lts.Need-returns (examine-calls t) (examine-at t) examine.Post
 examine-returns t c =
     let s = c.before.before.before.before.before.before.before.before.before in
-    let R = recorderOf s.args.r.now in
+    let R = recorder_of s.args.r.now in
     let valid = s.requires.1.0.tabled.valid in
     let held = s.requires.1.1.1.0 in
     let wait = c.before.before.before.before.before.before.wait-of.ensures in
     let order = waits _ _ _ wait.1 wait.0 (held_by R valid _ _ _ held) in
     let e = c.before.before.before.choices in
-    (e.ensures.0, λ m u h q. came-stop _ _ (most-near R m _ _ order wait.0) (e.ensures.1 m u h q) c.if1.true)
+    (e.ensures.0, λ m u h q. came_stop _ _ (most_near R m _ _ order wait.0) (e.ensures.1 m u h q) c.if1.true)
 
 examine-mul-last : (t : ℕ) → examine-lts.Need-overflow-mul-last (examine-calls t) (examine-at t) examine.Post
 examine-mul-last t c =
     let s = c.before.before.before.before.before.before.before.before.before in
-    let R = recorderOf s.args.r.now in
+    let R = recorder_of s.args.r.now in
     let valid = s.requires.1.0.tabled.valid in
-    omega (arith, (held-few R valid s.args.v.now s.args.set s.args.time s.requires.1.1.1.0).1)
+    omega (arith, (held_few R valid s.args.v.now s.args.set s.args.time s.requires.1.1.1.0).1)
 
 examine-element-copy-out-last : (t : ℕ) → examine-lts.Need-element-copy-out-last (examine-calls t) (examine-at t) examine.Post
 examine-element-copy-out-last t c =
     let s = c.before.before.before.before.before.before.before.before.before in
-    let R = recorderOf s.args.r.now in
+    let R = recorder_of s.args.r.now in
     let valid = s.requires.1.0.tabled.valid in
-    omega (arith, (held-few R valid s.args.v.now s.args.set s.args.time s.requires.1.1.1.0).1)
+    omega (arith, (held_few R valid s.args.v.now s.args.set s.args.time s.requires.1.1.1.0).1)
 
 examine-returns-2 : (t : ℕ) → examine-lts.Need-returns-2 (examine-calls t) (examine-at t) examine.Post
 examine-returns-2 t c =
     let s = c.before.before.before.before.before.before.before.before.before.before.before.before in
-    let R = recorderOf s.args.r.now in
+    let R = recorder_of s.args.r.now in
     let valid = s.requires.1.0.tabled.valid in
     let held = s.requires.1.1.1.0 in
     let wait = c.before.before.before.before.before.before.before.before.before.wait-of.ensures in
     let order = waits _ _ _ wait.1 wait.0 (held_by R valid _ _ _ held) in
     let e = c.before.before.before.before.before.before.choices in
-    let last = s.requires.1.0.laid.laid s.args.set (held-few R valid s.args.v.now s.args.set s.args.time held).0 in
-    (e.ensures.0, λ m u h q. near-comes R valid _ _ m u h _ wait.0 _ q order _ _ _ _ _ c.before.before.before.if1.false (e.ensures.1 m u h q) (omega (arith, c.if2.true, c.before.wide.ensures.0, last)))
+    let last = s.requires.1.0.laid.laid s.args.set (held_few R valid s.args.v.now s.args.set s.args.time held).0 in
+    (e.ensures.0, λ m u h q. near_comes R valid _ _ m u h _ wait.0 _ q order _ _ _ _ _ c.before.before.before.if1.false (e.ensures.1 m u h q) (omega (arith, c.if2.true, c.before.wide.ensures.0, last)))
 
 examine-least-requires : (t : ℕ) → examine-lts.Need-least-requires (examine-calls t) (examine-at t) examine.Post
 examine-least-requires t c κs =
     let s = c.before.before.before.before.before.before.before.before.before.before.before.before.before.before.before in
-    let R = recorderOf s.args.r.now in
+    let R = recorder_of s.args.r.now in
     let valid = s.requires.1.0.tabled.valid in
     let held = s.requires.1.1.1.0 in
     let wait = c.before.before.before.before.before.before.before.before.before.before.before.before.wait-of.ensures in
     let order = waits _ _ _ wait.1 wait.0 (held_by R valid _ _ _ held) in
     let e = c.before.before.before.before.before.before.before.before.before.choices in
-    let last = s.requires.1.0.laid.laid s.args.set (held-few R valid s.args.v.now s.args.set s.args.time held).0 in
-    let early = alive-early R valid s.args.set c.before.before.before.before.before.before.before.before.before.before.before.before.wait-of.result s.requires.1.1.1.1.1 (omega (arith, c.before.before.before.if2.false, c.before.before.before.before.wide.ensures.0, last)) in
+    let last = s.requires.1.0.laid.laid s.args.set (held_few R valid s.args.v.now s.args.set s.args.time held).0 in
+    let early = alive_early R valid s.args.set c.before.before.before.before.before.before.before.before.before.before.before.before.wait-of.result s.requires.1.1.1.1.1 (omega (arith, c.before.before.before.if2.false, c.before.before.before.before.wide.ensures.0, last)) in
     let later = wait.1 early in
-    (omega (arith, later, wait.0, valid.few-ticks), (e.ensures.0.0, (e.ensures.0.1, (held-later R valid _ _ _ held _ order wait.0, omega (arith, c.smaller.ensures, s.requires.1.1.1.1.0)))))
+    (omega (arith, later, wait.0, valid.few_ticks), (e.ensures.0.0, (e.ensures.0.1, (held_later R valid _ _ _ held _ order wait.0, omega (arith, c.smaller.ensures, s.requires.1.1.1.1.0)))))
 
 examine-returns-3 : (t : ℕ) → examine-lts.Need-returns-3 (examine-calls t) (examine-at t) examine.Post
 examine-returns-3 t c =
     let s = c.before.before.before.before.before.before.before.before.before.before.before.before.before.before.before.before.before.before.before in
-    let R = recorderOf s.args.r.now in
+    let R = recorder_of s.args.r.now in
     let valid = s.requires.1.0.tabled.valid in
     let held = s.requires.1.1.1.0 in
     let wait = c.before.before.before.before.before.before.before.before.before.before.before.before.before.before.before.before.wait-of.ensures in
     let order = waits _ _ _ wait.1 wait.0 (held_by R valid _ _ _ held) in
-    let last = s.requires.1.0.laid.laid s.args.set (held-few R valid s.args.v.now s.args.set s.args.time held).0 in
-    let early = alive-early R valid s.args.set c.before.before.before.before.before.before.before.before.before.before.before.before.before.before.before.before.wait-of.result s.requires.1.1.1.1.1 (omega (arith, c.before.before.before.before.before.before.before.if2.false, c.before.before.before.before.before.before.before.before.wide.ensures.0, last)) in
+    let last = s.requires.1.0.laid.laid s.args.set (held_few R valid s.args.v.now s.args.set s.args.time held).0 in
+    let early = alive_early R valid s.args.set c.before.before.before.before.before.before.before.before.before.before.before.before.before.before.before.before.wait-of.result s.requires.1.1.1.1.1 (omega (arith, c.before.before.before.before.before.before.before.if2.false, c.before.before.before.before.before.before.before.before.wide.ensures.0, last)) in
     let later = wait.1 early in
     let e = c.before.before.before.before.before.before.before.before.before.before.before.before.before.choices in
     let f = c.before.before.before.least in
-    (f.ensures.0, λ m u h q. far-stops R valid _ _ m u h _ wait.0 _ q order _ _ _ _ _ c.before.before.before.before.before.before.before.before.before.before.if1.false (e.ensures.1 m u h q) later _ _ _ (f.ensures.1 (suc m) (waited R u c.before.before.before.before.before.before.before.before.before.before.before.before.before.before.before.before.wait-of.result) (waited-shown R valid _ _ _ u h _ (omega (arith, q, order)) wait.0) refl) _ c.if3.true)
+    (f.ensures.0, λ m u h q. far_stops R valid _ _ m u h _ wait.0 _ q order _ _ _ _ _ c.before.before.before.before.before.before.before.before.before.before.if1.false (e.ensures.1 m u h q) later _ _ _ (f.ensures.1 (suc m) (waited R u c.before.before.before.before.before.before.before.before.before.before.before.before.before.before.before.before.wait-of.result) (waited_shown R valid _ _ _ u h _ (omega (arith, q, order)) wait.0) refl) _ c.if3.true)
 
 examine-returns-4 : (t : ℕ) → examine-lts.Need-returns-4 (examine-calls t) (examine-at t) examine.Post
 examine-returns-4 t c =
     let s = c.before.before.before.before.before.before.before.before.before.before.before.before.before.before.before.before.before.before.before.before in
-    let R = recorderOf s.args.r.now in
+    let R = recorder_of s.args.r.now in
     let valid = s.requires.1.0.tabled.valid in
     let held = s.requires.1.1.1.0 in
     let wait = c.before.before.before.before.before.before.before.before.before.before.before.before.before.before.before.before.before.wait-of.ensures in
     let order = waits _ _ _ wait.1 wait.0 (held_by R valid _ _ _ held) in
-    let last = s.requires.1.0.laid.laid s.args.set (held-few R valid s.args.v.now s.args.set s.args.time held).0 in
-    let early = alive-early R valid s.args.set c.before.before.before.before.before.before.before.before.before.before.before.before.before.before.before.before.before.wait-of.result s.requires.1.1.1.1.1 (omega (arith, c.before.before.before.before.before.before.before.before.if2.false, c.before.before.before.before.before.before.before.before.before.wide.ensures.0, last)) in
+    let last = s.requires.1.0.laid.laid s.args.set (held_few R valid s.args.v.now s.args.set s.args.time held).0 in
+    let early = alive_early R valid s.args.set c.before.before.before.before.before.before.before.before.before.before.before.before.before.before.before.before.before.wait-of.result s.requires.1.1.1.1.1 (omega (arith, c.before.before.before.before.before.before.before.before.if2.false, c.before.before.before.before.before.before.before.before.before.wide.ensures.0, last)) in
     let later = wait.1 early in
     let e = c.before.before.before.before.before.before.before.before.before.before.before.before.before.before.choices in
     let f = c.before.before.before.before.least in
-    (f.ensures.0, λ m u h q. far-comes R valid _ _ m u h _ wait.0 _ q order _ _ _ _ _ c.before.before.before.before.before.before.before.before.before.before.before.if1.false (e.ensures.1 m u h q) later _ _ _ (f.ensures.1 (suc m) (waited R u c.before.before.before.before.before.before.before.before.before.before.before.before.before.before.before.before.before.wait-of.result) (waited-shown R valid _ _ _ u h _ (omega (arith, q, order)) wait.0) refl) _ c.smaller2.ensures c.before.before.before.before.before.smaller.ensures c.before.if3.false)
+    (f.ensures.0, λ m u h q. far_comes R valid _ _ m u h _ wait.0 _ q order _ _ _ _ _ c.before.before.before.before.before.before.before.before.before.before.before.if1.false (e.ensures.1 m u h q) later _ _ _ (f.ensures.1 (suc m) (waited R u c.before.before.before.before.before.before.before.before.before.before.before.before.before.before.before.before.before.wait-of.result) (waited_shown R valid _ _ _ u h _ (omega (arith, q, order)) wait.0) refl) _ c.smaller2.ensures c.before.before.before.before.before.smaller.ensures c.before.if3.false)
 
 -- ---- learn
 
 learn-returns : (t : ℕ) → learn-lts.Need-returns (learn-calls t) (learn-at t) learn.Post
 learn-returns t c =
     let s = c.before.before.before.before in
-    ((s.requires.1.0, s.requires.1.1.0), λ m u h q. stopped refl (omega (arith, most-own (recorderOf s.args.r.now) m s.args.time, c.if1.true)))
+    ((s.requires.1.0, s.requires.1.1.0), λ m u h q. stopped refl (omega (arith, most_own (recorder_of s.args.r.now) m s.args.time, c.if1.true)))
 
 learn-examine-requires : (t : ℕ) → learn-lts.Need-examine-requires (learn-calls t) (learn-at t) learn.Post
 learn-examine-requires t c κs =
@@ -416,40 +416,40 @@ learn-returns-2 : (t : ℕ) → learn-lts.Need-returns-2 (learn-calls t) (learn-
 learn-returns-2 t c =
     let s = c.before.before.before.before.before.before.before.before.before.before.before in
     let e = c.before.before.before.examine in
-    (e.ensures.0, λ m u h q. came-stop _ _ (omega (arith, most-own (recorderOf s.args.r.now) m s.args.time)) (came_from s.args.entered.now 1 (omega arith) (e.ensures.1 m u h q)) c.if2.true)
+    (e.ensures.0, λ m u h q. came_stop _ _ (omega (arith, most_own (recorder_of s.args.r.now) m s.args.time)) (came_from s.args.entered.now 1 (omega arith) (e.ensures.1 m u h q)) c.if2.true)
 
 learn-remember-requires : (t : ℕ) → learn-lts.Need-remember-requires (learn-calls t) (learn-at t) learn.Post
 learn-remember-requires t c κs =
     let s = c.before.before.before.before.before.before.before.before.before.before.before.before.before.before.before in
-    let R = recorderOf s.args.r.now in
+    let R = recorder_of s.args.r.now in
     let valid = s.requires.1.0.tabled.valid in
     let held = s.requires.1.1.1.0 in
     let key-is = s.requires.1.1.1.1.1.1.0 in
-    let o = held-open R valid _ _ _ held s.requires.1.1.1.1.1.0 in
-    let few = held-few R valid s.args.v.now s.args.set s.args.time held in
+    let o = held_open R valid _ _ _ held s.requires.1.1.1.1.1.0 in
+    let few = held_few R valid s.args.v.now s.args.set s.args.time held in
     let e = c.before.before.before.before.before.before.before.examine in (
-      subst (λ (k : Key). k.head < 536870912) (sym key-is) (head_few R (cap_at s.args.extras.now) s.args.v.now s.args.set s.args.time few.1 (omega (arith, held_by R valid s.args.v.now s.args.set s.args.time held, valid.few-ticks))),
-      omega (arith, c.before.before.larger.ensures, came-small (e.ensures.1 o.left o.vertex o.shows o.time) c.before.before.before.before.if2.false, c.before.before.before.struct_known.given),
+      subst (λ (k : Key). k.head < 536870912) (sym key-is) (head_few R (cap_at s.args.extras.now) s.args.v.now s.args.set s.args.time few.1 (omega (arith, held_by R valid s.args.v.now s.args.set s.args.time held, valid.few_ticks))),
+      omega (arith, c.before.before.larger.ensures, came_small (e.ensures.1 o.left o.vertex o.shows o.time) c.before.before.before.before.if2.false, c.before.before.before.struct_known.given),
     )
 
 learn-returns-3 : (t : ℕ) → learn-lts.Need-returns-3 (learn-calls t) (learn-at t) learn.Post
 learn-returns-3 t c =
     let s = c.before.before.before.before.before.before.before.before.before.before.before.before.before.before.before.before.before.before in
-    let R = recorderOf s.args.r.now in
+    let R = recorder_of s.args.r.now in
     let valid = s.requires.1.0.tabled.valid in
     let held = s.requires.1.1.1.0 in
     let key-is = s.requires.1.1.1.1.1.1.0 in
-    let o = held-open R valid _ _ _ held s.requires.1.1.1.1.1.0 in
-    let few = held-few R valid s.args.v.now s.args.set s.args.time held in
+    let o = held_open R valid _ _ _ held s.requires.1.1.1.1.1.0 in
+    let few = held_few R valid s.args.v.now s.args.set s.args.time held in
     let looked = subst (λ (k : Key). Looked s.args.memory.now k s.args.spot) key-is s.requires.1.1.1.1.1.1.1 in
     let e = c.before.before.before.before.before.before.before.before.before.before.examine in
-    let best-is = c.before.before.before.before.before.larger.ensures in
+    let best_is = c.before.before.before.before.before.larger.ensures in
     let keeps = c.before.before.remember.ensures in
     let went = c.before.before.before.before.before.before.before.if2.false in
-    let early : s.args.time ≤ 4096 = omega (arith, held_by R valid s.args.v.now s.args.set s.args.time held, valid.few-ticks) in
-    let w = learnt-kept R s.args.extras.now s.args.latest.now s.args.memory.now s.args.v.now s.requires.1.0 s.args.set s.args.time s.args.spot looked _ _ _ _ _ _ _ best-is went o.left o.vertex o.shows o.time (e.ensures.1 o.left o.vertex o.shows o.time) in (
-      (kept-lent R _ _ _ _ e.ensures.0.0 _ _ few.1 early _ key-is o.left o.vertex o.shows o.time _ _ w _ keeps.0 keeps.1 _ keeps.2, e.ensures.0.1),
-      λ m u h q. learnt R s.args.extras.now s.args.latest.now s.args.memory.now s.args.v.now s.requires.1.0 s.args.set s.args.time s.args.spot looked s.args.slack c.before.before.before.before.before.before.before.before.before.before.before.before.before.raised.result _ s.args.entered.now _ e.result c.before.before.before.before.before.larger.result c.before.before.before.before.before.before.before.before.before.before.before.before.before.raised.ensures.0 (omega (arith, c.before.before.before.before.before.before.struct_known.given)) best-is went m u h q (e.ensures.1 m u h q),
+    let early : s.args.time ≤ 4096 = omega (arith, held_by R valid s.args.v.now s.args.set s.args.time held, valid.few_ticks) in
+    let w = learnt_kept R s.args.extras.now s.args.latest.now s.args.memory.now s.args.v.now s.requires.1.0 s.args.set s.args.time s.args.spot looked _ _ _ _ _ _ _ best_is went o.left o.vertex o.shows o.time (e.ensures.1 o.left o.vertex o.shows o.time) in (
+      (kept_lent R _ _ _ _ e.ensures.0.0 _ _ few.1 early _ key-is o.left o.vertex o.shows o.time _ _ w _ keeps.0 keeps.1 _ keeps.2, e.ensures.0.1),
+      λ m u h q. learnt R s.args.extras.now s.args.latest.now s.args.memory.now s.args.v.now s.requires.1.0 s.args.set s.args.time s.args.spot looked s.args.slack c.before.before.before.before.before.before.before.before.before.before.before.before.before.raised.result _ s.args.entered.now _ e.result c.before.before.before.before.before.larger.result c.before.before.before.before.before.before.before.before.before.before.before.before.before.raised.ensures.0 (omega (arith, c.before.before.before.before.before.before.struct_known.given)) best_is went m u h q (e.ensures.1 m u h q),
     )
 
 -- ---- least
@@ -457,35 +457,35 @@ learn-returns-3 t c =
 least-close-of-requires : (t : ℕ) → least-lts.Need-close-of-requires (least-calls t) (least_at t) least.Post
 least-close-of-requires t c κs =
     let s = c.before.before.before in
-    let R = recorderOf s.args.r.now in
+    let R = recorder_of s.args.r.now in
     let valid = s.requires.1.0.tabled.valid in
     let held = s.requires.1.1.1.0 in
-    (s.requires.1.0.tabled, ordered-later R valid _ _ _ (held-ordered R valid _ _ _ held) (held_by R valid _ _ _ held) (omega arith))
+    (s.requires.1.0.tabled, ordered_later R valid _ _ _ (held_ordered R valid _ _ _ held) (held_by R valid _ _ _ held) (omega arith))
 
 least-returns : (t : ℕ) → least-lts.Need-returns (least-calls t) (least_at t) least.Post
 least-returns t c =
     let s = c.before.before.before.before in
-    let R = recorderOf s.args.r.now in
+    let R = recorder_of s.args.r.now in
     let valid = s.requires.1.0.tabled.valid in
-    ((s.requires.1.0, s.requires.1.1.0), λ m u h q. told (omega (arith, c.Close-of.ensures.1)) (omega arith) (complete-answers R valid _ _ m u h c.before.if1.true _ _ c.Close-of.ensures.0))
+    ((s.requires.1.0, s.requires.1.1.0), λ m u h q. told (omega (arith, c.Close-of.ensures.1)) (omega arith) (complete_answers R valid _ _ m u h c.before.if1.true _ _ c.Close-of.ensures.0))
 
 least-key-of-requires : (t : ℕ) → least-lts.Need-key-of-requires (least-calls t) (least_at t) least.Post
 least-key-of-requires t c κs =
     let s = c.before.before.before in
-    let R = recorderOf s.args.r.now in
+    let R = recorder_of s.args.r.now in
     let valid = s.requires.1.0.tabled.valid in
     let held = s.requires.1.1.1.0 in
-    (s.requires.1.0.tabled, (held-ordered R valid _ _ _ held, (held-few R valid _ _ _ held).1))
+    (s.requires.1.0.tabled, (held_ordered R valid _ _ _ held, (held_few R valid _ _ _ held).1))
 
 least-returns-2 : (t : ℕ) → least-lts.Need-returns-2 (least-calls t) (least_at t) least.Post
 least-returns-2 t c =
     let s = c.before.before.before.before.before.before.before.before.before in
-    let R = recorderOf s.args.r.now in
+    let R = recorder_of s.args.r.now in
     let valid = s.requires.1.0.tabled.valid in
     let looked = subst (λ (k : Key). Looked s.args.memory.now k c.before.before.before.look.result) c.before.before.before.before.before.key_of.ensures c.before.before.before.look.ensures in (
       (s.requires.1.0, s.requires.1.1.0),
       λ m u h q. some_left R valid _ _ m u h (omega (arith, c.before.before.before.before.before.before.if1.false)) s.args.time (λ n h'. told (omega (arith, c.struct_known.given)) (omega arith)
-          (known-answers R s.args.extras.now s.args.latest.now s.args.memory.now s.args.v.now s.requires.1.0 s.args.set s.args.time c.before.before.before.look.result looked _ (sym c.before.before.is-enough.ensures ∙ c.before.if2.true) n u h' q)),
+          (known_answers R s.args.extras.now s.args.latest.now s.args.memory.now s.args.v.now s.requires.1.0 s.args.set s.args.time c.before.before.before.look.result looked _ (sym c.before.before.is-enough.ensures ∙ c.before.if2.true) n u h' q)),
     )
 
 least-learn-requires : (t : ℕ) → least-lts.Need-learn-requires (least-calls t) (least_at t) least.Post
@@ -496,7 +496,7 @@ least-learn-requires t c κs =
 least-returns-3 : (t : ℕ) → least-lts.Need-returns-3 (least-calls t) (least_at t) least.Post
 least-returns-3 t c =
     let s = c.before.before.before.before.before.before.before.before.before.before.before.before.before in
-    let R = recorderOf s.args.r.now in
+    let R = recorder_of s.args.r.now in
     let valid = s.requires.1.0.tabled.valid in
     let e = c.before.before.learn in
     (e.ensures.0, λ m u h q. some_left R valid _ _ m u h (omega (arith, c.before.before.before.before.before.before.before.before.before.before.if1.false)) s.args.time (λ n h'. e.ensures.1 n u h' q))
@@ -505,7 +505,7 @@ least-returns-3 t c =
 
 abbrev tries-Inv-loop : tries-lts.invariant-loop
 tries-Inv-loop r extras latest memory₀ entered₀ budget lift v set p j time until limit given to fall best₀ ahead₀ s₀ memory entered best ahead s =
-    Lent (recorderOf r) extras latest memory × (entered ≤ budget) × Trial (recorderOf r) v set j time limit given budget entered₀ s₀ to fall s entered best ahead × (length memory ≡ length memory₀)
+    Lent (recorder_of r) extras latest memory × (entered ≤ budget) × Trial (recorder_of r) v set j time limit given budget entered₀ s₀ to fall s entered best ahead × (length memory ≡ length memory₀)
 
 abbrev tries-μ-loop : tries-lts.decreases-loop
 tries-μ-loop r extras latest memory₀ entered₀ budget lift v set p j time until limit given to fall best₀ ahead₀ s₀ memory entered best ahead s = to - s
@@ -513,56 +513,56 @@ tries-μ-loop r extras latest memory₀ entered₀ budget lift v set p j time un
 tries-sub-last-of : (t : ℕ) → tries-lts.Need-overflow-sub-last-of (tries-calls t) (tries-at t) tries.Post tries-Inv-loop tries-μ-loop
 tries-sub-last-of t c =
     let s = c.before.before in
-    let R = recorderOf s.args.r.now in
+    let R = recorder_of s.args.r.now in
     let valid = s.requires.1.0.tabled.valid in
     let held = s.requires.1.1.1.0 in
     let known = s.requires.1.1.1.1.1.1.0 in
     let one = s.requires.1.1.1.1.1.1.1.0 in
     let p-is = s.requires.1.1.1.1.1.1.1.1 in
-    omega (arith, p-is, has-le s.args.set s.args.j one)
+    omega (arith, p-is, has_le s.args.set s.args.j one)
 
 tries-last-of-requires : (t : ℕ) → tries-lts.Need-last-of-requires (tries-calls t) (tries-at t) tries.Post tries-Inv-loop tries-μ-loop
 tries-last-of-requires t c κs =
     let s = c.before.before in
-    let R = recorderOf s.args.r.now in
+    let R = recorder_of s.args.r.now in
     let valid = s.requires.1.0.tabled.valid in
     let held = s.requires.1.1.1.0 in
     let known = s.requires.1.1.1.1.1.1.0 in
     let one = s.requires.1.1.1.1.1.1.1.0 in
     let p-is = s.requires.1.1.1.1.1.1.1.1 in
-    (omega (arith, known, valid.few-jobs), omega (arith, (held-few R valid s.args.v.now s.args.set s.args.time held).1))
+    (omega (arith, known, valid.few_jobs), omega (arith, (held_few R valid s.args.v.now s.args.set s.args.time held).1))
 
 tries-falls-of-requires : (t : ℕ) → tries-lts.Need-falls-of-requires (tries-calls t) (tries-at t) tries.Post tries-Inv-loop tries-μ-loop
 tries-falls-of-requires t c κs =
     let s = c.before.before.before.before in
-    let R = recorderOf s.args.r.now in
+    let R = recorder_of s.args.r.now in
     let valid = s.requires.1.0.tabled.valid in
     let held = s.requires.1.1.1.0 in
     let known = s.requires.1.1.1.1.1.1.0 in
     let one = s.requires.1.1.1.1.1.1.1.0 in
     let p-is = s.requires.1.1.1.1.1.1.1.1 in
-    (s.requires.1.0.tabled, omega (arith, known, valid.few-jobs))
+    (s.requires.1.0.tabled, omega (arith, known, valid.few_jobs))
 
 tries-release-of-requires : (t : ℕ) → tries-lts.Need-release-of-requires (tries-calls t) (tries-at t) tries.Post tries-Inv-loop tries-μ-loop
 tries-release-of-requires t c κs =
     let s = c.before.before.before.before.before in
-    let R = recorderOf s.args.r.now in
+    let R = recorder_of s.args.r.now in
     let valid = s.requires.1.0.tabled.valid in
     let held = s.requires.1.1.1.0 in
     let known = s.requires.1.1.1.1.1.1.0 in
     let one = s.requires.1.1.1.1.1.1.1.0 in
     let p-is = s.requires.1.1.1.1.1.1.1.1 in
-    omega (arith, known, valid.few-jobs)
+    omega (arith, known, valid.few_jobs)
 
 tries-loop-holds : (t : ℕ) → tries-lts.Need-loop-init (tries-calls t) (tries-at t) tries.Post tries-Inv-loop tries-μ-loop
 tries-loop-holds t c =
     let s = c.before.before.before.before.before.before.before.before in
-    (s.requires.1.0, s.requires.1.1.0, trial-start _ _ _ _ _ _ _ _ _ _ _ _ s.requires.1.1.1.1.1.0, refl)
+    (s.requires.1.0, s.requires.1.1.0, trial_start _ _ _ _ _ _ _ _ _ _ _ _ s.requires.1.1.1.1.1.0, refl)
 
 tries-lead-of-requires : (t : ℕ) → tries-lts.Need-lead-of-requires (tries-calls t) (tries-at t) tries.Post tries-Inv-loop tries-μ-loop
 tries-lead-of-requires t c κs =
     let s = c.before.before.before.before.before.before.before.before.before.before in
-    let R = recorderOf s.args.r.now in
+    let R = recorder_of s.args.r.now in
     let valid = s.requires.1.0.tabled.valid in
     let held = s.requires.1.1.1.0 in
     let known = s.requires.1.1.1.1.1.1.0 in
@@ -572,13 +572,13 @@ tries-lead-of-requires t c κs =
     let from_is = c.before.before.larger.ensures ∙ ap (max _) (c.before.before.before.wide.ensures.0 ∙ c.before.before.before.before.release-of.ensures) in
     let to_is = c.before.before.before.before.before.before.smaller.ensures in
     let last-is = c.before.before.before.before.before.before.before.last_of.ensures in
-    let late = starts-late R s.args.j _ _ _ _ to_is last-is l.s c.loop-test.true in
-    (s.requires.1.0.tabled, (omega (arith, known, valid.few-jobs), ordered-later R valid _ _ _ (held-ordered R valid _ _ _ held) (omega (arith, l.invariant.2.low, from_is)) (omega (arith, late, valid.ends s.args.j known))))
+    let late = starts_late R s.args.j _ _ _ _ to_is last-is l.s c.loop-test.true in
+    (s.requires.1.0.tabled, (omega (arith, known, valid.few_jobs), ordered_later R valid _ _ _ (held_ordered R valid _ _ _ held) (omega (arith, l.invariant.2.low, from_is)) (omega (arith, late, valid.ends s.args.j known))))
 
 tries-attempt-requires : (t : ℕ) → tries-lts.Need-attempt-requires (tries-calls t) (tries-at t) tries.Post tries-Inv-loop tries-μ-loop
 tries-attempt-requires t c κs =
     let s = c.before.before.before.before.before.before.before.before.before.before.before.before.before.before in
-    let R = recorderOf s.args.r.now in
+    let R = recorder_of s.args.r.now in
     let valid = s.requires.1.0.tabled.valid in
     let held = s.requires.1.1.1.0 in
     let known = s.requires.1.1.1.1.1.1.0 in
@@ -588,13 +588,13 @@ tries-attempt-requires t c κs =
     let from_is = c.before.before.before.before.before.before.larger.ensures ∙ ap (max _) (c.before.before.before.before.before.before.before.wide.ensures.0 ∙ c.before.before.before.before.before.before.before.before.release-of.ensures) in
     let to_is = c.before.before.before.before.before.before.before.before.before.before.smaller.ensures in
     let last-is = c.before.before.before.before.before.before.before.before.before.before.before.last_of.ensures in
-    let late = starts-late R s.args.j _ _ _ _ to_is last-is l.s c.before.before.before.before.loop-test.true in
-    (omega arith, (l.invariant.0, (l.invariant.1, (held-offers R valid _ _ _ held _ _ known one (omega (arith, l.invariant.2.low, from_is)) late, (p-is, (omega (arith, c.before.before.smaller2.ensures, s.requires.1.1.1.1.0), (c.before.before.before.lead-of.ensures.1, l.invariant.2.small-ahead)))))))
+    let late = starts_late R s.args.j _ _ _ _ to_is last-is l.s c.before.before.before.before.loop-test.true in
+    (omega arith, (l.invariant.0, (l.invariant.1, (held_offers R valid _ _ _ held _ _ known one (omega (arith, l.invariant.2.low, from_is)) late, (p-is, (omega (arith, c.before.before.smaller2.ensures, s.requires.1.1.1.1.0), (c.before.before.before.lead-of.ensures.1, l.invariant.2.small_ahead)))))))
 
 tries-returns : (t : ℕ) → tries-lts.Need-returns (tries-calls t) (tries-at t) tries.Post tries-Inv-loop tries-μ-loop
 tries-returns t c =
     let s = c.before.before.before.before.before.before.before.before.before.before.before.before.before.before.before.before.before.before in
-    let R = recorderOf s.args.r.now in
+    let R = recorder_of s.args.r.now in
     let valid = s.requires.1.0.tabled.valid in
     let held = s.requires.1.1.1.0 in
     let known = s.requires.1.1.1.1.1.1.0 in
@@ -605,12 +605,12 @@ tries-returns t c =
     let to_is = c.before.before.before.before.before.before.before.before.before.before.before.before.before.before.smaller.ensures in
     let last-is = c.before.before.before.before.before.before.before.before.before.before.before.before.before.before.before.last_of.ensures in
     let e = c.before.before.before.attempt in
-    (e.ensures.0, λ m u o h q w. trial-stopped R valid _ _ _ _ _ _ _ _ _ _ _ _ _ _ _ l.invariant.2 c.before.before.before.before.before.before.before.before.loop-test.true _ _ _ _ c.before.before.before.before.before.before.smaller2.ensures e.ensures.1 (omega (arith, l.invariant.2.low, from_is)) _ (omega (arith, from_is, to_is)) c.if1.true m u o h q w _)
+    (e.ensures.0, λ m u o h q w. trial_stopped R valid _ _ _ _ _ _ _ _ _ _ _ _ _ _ _ l.invariant.2 c.before.before.before.before.before.before.before.before.loop-test.true _ _ _ _ c.before.before.before.before.before.before.smaller2.ensures e.ensures.1 (omega (arith, l.invariant.2.low, from_is)) _ (omega (arith, from_is, to_is)) c.if1.true m u o h q w _)
 
 tries-add-smaller : (t : ℕ) → tries-lts.Need-overflow-add-smaller (tries-calls t) (tries-at t) tries.Post tries-Inv-loop tries-μ-loop
 tries-add-smaller t c =
     let s = c.before.before.before.before.before.before.before.before.before.before.before.before.before.before.before.before.before.before in
-    let R = recorderOf s.args.r.now in
+    let R = recorder_of s.args.r.now in
     let valid = s.requires.1.0.tabled.valid in
     let held = s.requires.1.1.1.0 in
     let known = s.requires.1.1.1.1.1.1.0 in
@@ -621,13 +621,13 @@ tries-add-smaller t c =
     let to_is = c.before.before.before.before.before.before.before.before.before.before.before.before.before.before.smaller.ensures in
     let last-is = c.before.before.before.before.before.before.before.before.before.before.before.before.before.before.before.last_of.ensures in
     let e = c.before.before.before.attempt in
-    let o = held-open R valid _ _ _ held (omega (arith, has-le s.args.set s.args.j one, pow_pos s.args.j)) in
-    omega (arith, c.before.before.before.before.before.before.before.lead-of.ensures.1, came-small (e.ensures.1 o.left o.vertex o.shows (omega (arith, o.time, l.invariant.2.low, from_is))) c.if1.false)
+    let o = held_open R valid _ _ _ held (omega (arith, has_le s.args.set s.args.j one, pow_pos s.args.j)) in
+    omega (arith, c.before.before.before.before.before.before.before.lead-of.ensures.1, came_small (e.ensures.1 o.left o.vertex o.shows (omega (arith, o.time, l.invariant.2.low, from_is))) c.if1.false)
 
 tries-loop-again : (t : ℕ) → tries-lts.Need-loop-preserved (tries-calls t) (tries-at t) tries.Post tries-Inv-loop tries-μ-loop
 tries-loop-again t c =
     let s = c.before.before.before.before.before.before.before.before.before.before.before.before.before.before.before.before.before.before.before.before in
-    let R = recorderOf s.args.r.now in
+    let R = recorder_of s.args.r.now in
     let valid = s.requires.1.0.tabled.valid in
     let held = s.requires.1.1.1.0 in
     let known = s.requires.1.1.1.1.1.1.0 in
@@ -640,8 +640,8 @@ tries-loop-again t c =
     let e = c.before.before.before.before.before.attempt in (
       e.ensures.0.0,
       e.ensures.0.1,
-      trial-as _ _ _ _ _ _ _ _ _ _ _ _ _ _ _ _ _ _ _
-          (trial-next R valid _ _ _ _ _ _ _ _ _ _ _ _ _ _ _ l.invariant.2 c.before.before.before.before.before.before.before.before.before.before.loop-test.true _ _ _ _ c.before.before.before.before.before.before.before.before.smaller2.ensures e.ensures.1 (omega (arith, l.invariant.2.low, from_is)) _ s.requires.1.0.tabled held known one (omega (arith, from_is)) (starts-late R s.args.j _ _ _ _ to_is last-is) c.before.before.before.before.before.before.before.before.before.before.before.before.before.before.before.Falls-of.ensures c.before.before.before.before.before.before.before.before.before.lead-of.ensures.0 c.before.before.if1.false)
+      trial_as _ _ _ _ _ _ _ _ _ _ _ _ _ _ _ _ _ _ _
+          (trial_next R valid _ _ _ _ _ _ _ _ _ _ _ _ _ _ _ l.invariant.2 c.before.before.before.before.before.before.before.before.before.before.loop-test.true _ _ _ _ c.before.before.before.before.before.before.before.before.smaller2.ensures e.ensures.1 (omega (arith, l.invariant.2.low, from_is)) _ s.requires.1.0.tabled held known one (omega (arith, from_is)) (starts_late R s.args.j _ _ _ _ to_is last-is) c.before.before.before.before.before.before.before.before.before.before.before.before.before.before.before.Falls-of.ensures c.before.before.before.before.before.before.before.before.before.lead-of.ensures.0 c.before.before.if1.false)
           refl c.before.smaller3.ensures c.lessened.ensures,
       omega arith,
     )
@@ -652,7 +652,7 @@ tries-same-length-2 t c = c.before.loop.invariant.3
 tries-returns-2 : (t : ℕ) → tries-lts.Need-returns-2 (tries-calls t) (tries-at t) tries.Post tries-Inv-loop tries-μ-loop
 tries-returns-2 t c =
     let s = c.before.before.before.before.before.before.before.before.before.before in
-    let R = recorderOf s.args.r.now in
+    let R = recorder_of s.args.r.now in
     let valid = s.requires.1.0.tabled.valid in
     let held = s.requires.1.1.1.0 in
     let known = s.requires.1.1.1.1.1.1.0 in
@@ -662,7 +662,7 @@ tries-returns-2 t c =
     let from_is = c.before.before.larger.ensures ∙ ap (max _) (c.before.before.before.wide.ensures.0 ∙ c.before.before.before.before.release-of.ensures) in
     let to_is = c.before.before.before.before.before.before.smaller.ensures in
     let last-is = c.before.before.before.before.before.before.before.last_of.ensures in
-    ((l.invariant.0, l.invariant.1), λ m u o h q w. trial-end R valid _ _ _ _ _ _ _ _ _ _ _ _ known one from_is (starts-to R _ s.requires.1.0.laid _ _ _ _ _ _ (held-few R valid _ _ _ held).0 p-is to_is last-is) _ _ _ _ l.invariant.2 (omega (arith, c.loop-test.false)) m u o h q w)
+    ((l.invariant.0, l.invariant.1), λ m u o h q w. trial_end R valid _ _ _ _ _ _ _ _ _ _ _ _ known one from_is (starts_to_lem R _ s.requires.1.0.laid _ _ _ _ _ _ (held_few R valid _ _ _ held).0 p-is to_is last-is) _ _ _ _ l.invariant.2 (omega (arith, c.loop-test.false)) m u o h q w)
 
 pub +attempt-choices-enter-examine-learn-least-tries-spec : {M : Type 1} → statement M
 +attempt-choices-enter-examine-learn-least-tries-spec = close μ-attempt μ-choices μ-enter μ-examine μ-learn μ-least μ-tries

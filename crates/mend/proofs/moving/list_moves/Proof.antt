@@ -3,8 +3,8 @@ use Prim.Native.Nat.{◌≤◌, ◌-◌}
 use mathlib.Core.Path.{◌≡◌}
 use native.Mathlib.Omega.{arith}
 use lib.ListN.{length}
-use Rattle.base.proofs.Filling.{filled-length}
-use Rattle.mend.proofs.Moves.{Listed, listed-none, listed_more, listed-few}
+use Rattle.base.proofs.Filling.{filled_length}
+use Rattle.mend.proofs.Moves.{Listed, listed_none, listed_more, listed_few}
 use Rattle.mend.proofs.moving.list_moves.Statement.{statement}
 use Rattle.mend.proofs.moving.list_moves.Tie as tie
 
@@ -15,7 +15,7 @@ abbrev decreases-loop : tie.decreases-loop
 decreases-loop given moved₀ new count₀ job₀ moved count job = length given - job
 
 loop-holds : tie.Need-loop-init invariant-loop decreases-loop
-loop-holds c = (omega arith, listed-none _ _ _)
+loop-holds c = (omega arith, listed_none _ _ _)
 
 list-move-requires : tie.Need-list-move-requires invariant-loop decreases-loop
 list-move-requires c κs =
@@ -26,8 +26,8 @@ list-move-requires c κs =
       omega arith,
       omega (
         arith,
-        listed-few g s.args.t2 m l.job l.count l.moved l.invariant.1,
-        filled-length l.invariant.1.listed (omega (arith, listed-few g s.args.t2 m l.job l.count l.moved l.invariant.1)),
+        listed_few g s.args.t2 m l.job l.count l.moved l.invariant.1,
+        filled_length l.invariant.1.listed (omega (arith, listed_few g s.args.t2 m l.job l.count l.moved l.invariant.1)),
       ),
     )
 
@@ -40,15 +40,15 @@ loop-again c =
     let w = c.before.before.list-move.ensures in (
       omega arith,
       rw (w.0, w.1) (listed_more g s.args.t2 m l.job l.count l.moved l.invariant.1
-          (omega (arith, listed-few g s.args.t2 m l.job l.count l.moved l.invariant.1))),
+          (omega (arith, listed_few g s.args.t2 m l.job l.count l.moved l.invariant.1))),
     )
 
 same_length : tie.Need-same-length invariant-loop decreases-loop
 same_length c =
     let s = c.before.before.before.before in
     let l = c.before.loop in
-    let few = listed-few s.args.given.now s.args.t2 s.args.moved.now l.job l.count l.moved l.invariant.1 in
-    filled-length l.invariant.1.listed (omega arith)
+    let few = listed_few s.args.given.now s.args.t2 s.args.moved.now l.job l.count l.moved l.invariant.1 in
+    filled_length l.invariant.1.listed (omega arith)
 
 returns : tie.Need-returns invariant-loop decreases-loop
 returns c =

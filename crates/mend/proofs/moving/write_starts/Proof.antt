@@ -4,7 +4,7 @@ use Prim.Native.Nat.{◌≤◌, ◌-◌}
 use native.Mathlib.Omega.{arith}
 use lib.ListN.{length}
 use Rattle.base.specs.Lists.{up_to}
-use Rattle.base.proofs.Filling.{Filled, filled-start, filled-value, filled-length}
+use Rattle.base.proofs.Filling.{Filled, filled_start, filled_value, filled_length}
 use Rattle.schedule.specs.Listing.{start}
 use Rattle.mend.proofs.moving.write_starts.Statement.{statement}
 use Rattle.mend.proofs.moving.write_starts.Tie as tie
@@ -16,16 +16,16 @@ abbrev decreases-loop : tie.decreases-loop
 decreases-loop n starts₀ new j₀ starts j = n - j
 
 loop-holds : tie.Need-loop-init invariant-loop decreases-loop
-loop-holds c = (omega arith, omega arith, filled-start _ _)
+loop-holds c = (omega arith, omega arith, filled_start _ _)
 
 slice-write-starts : tie.Need-slice-write-starts invariant-loop decreases-loop
-slice-write-starts c = let i = c.before.loop.invariant in omega (arith, filled-length i.2 (omega arith))
+slice-write-starts c = let i = c.before.loop.invariant in omega (arith, filled_length i.2 (omega arith))
 
 loop-again : tie.Need-loop-preserved invariant-loop decreases-loop
-loop-again c = let i = c.before.loop.invariant in (omega arith, i.1, filled-value _ i.2 (omega arith) _ refl)
+loop-again c = let i = c.before.loop.invariant in (omega arith, i.1, filled_value _ i.2 (omega arith) _ refl)
 
 same_length : tie.Need-same-length invariant-loop decreases-loop
-same_length c = let i = c.before.loop.invariant in filled-length i.2 (omega arith)
+same_length c = let i = c.before.loop.invariant in filled_length i.2 (omega arith)
 
 returns : tie.Need-returns invariant-loop decreases-loop
 returns c = let e : c.before.loop.j ≡ c.before.before.args.n = omega arith in rw (c.before.loop.invariant.2.is, e)

@@ -8,11 +8,11 @@ use borrow.Author.Rules.{rules}
 use borrow.Author.Tests.{ltb-false}
 use Rattle.schedule.specs.Quantities.{jobs, deadline, run}
 use Rattle.schedule.specs.inside.Ordering.{number}
-use Rattle.schedule.proofs.InOrder.{order-at}
+use Rattle.schedule.proofs.InOrder.{order_at}
 use Rattle.mend.specs.inside.Settling.{latest}
 use Rattle.mend.specs.inside.Settling as S
-use Rattle.mend.proofs.Outcome.{mended-comes-out, none-late, some-late}
-use Rattle.mend.proofs.Standing.{Stands, stands-first, Turn, turn, stands-last}
+use Rattle.mend.proofs.Outcome.{mended_comes_out, none_late, some_late}
+use Rattle.mend.proofs.Standing.{Stands, stands_first, Turn, turn, stands_last}
 use Rattle.mend.proofs.settling.settle.Statement.{statement}
 use Rattle.mend.proofs.settling.settle.Tie as tie
 
@@ -31,13 +31,13 @@ turned c =
     let s = c.before.before.before.before.before.before in
     let l = c.before.before.loop in
     turn s.args.r s.args.given.now s.requires.0 l.starts l.end l.done l.invariant c.if1.true (hand c)
-    (order-at s.args.r s.args.given.now s.requires.1 c.before.before.before.running-order.result c.before.before.before.running-order.ensures l.done)
+    (order_at s.args.r s.args.given.now s.requires.1 c.before.before.before.running-order.result c.before.before.before.running-order.ensures l.done)
 
 running-order-requires : tie.Need-running-order-requires invariant-loop decreases-loop
 running-order-requires c κs = let p = c.before.before.requires in omega (arith, p.0, p.1)
 
 loop-holds : tie.Need-loop-init invariant-loop decreases-loop
-loop-holds c = let s = c.before.before.before in stands-first s.args.r s.args.given.now s.requires.0
+loop-holds c = let s = c.before.before.before in stands_first s.args.r s.args.given.now s.requires.0
 
 mul_next : tie.Need-overflow-mul-next invariant-loop decreases-loop
 mul_next c = omega (arith, c.if1.true, c.before.before.before.before.before.before.requires.0)
@@ -68,8 +68,8 @@ returns c =
     let s = c.before.before.before.before.before.before.before.before.before.before.before.before in
     let R = s.args.r in
     let g = s.args.given.now in
-    S.Settles.late (mended-comes-out R g s.requires.0)
-    (some-late R g s.requires.0 (hand c.before.before.before.before.before.before) ((turned c.before.before.before.before.before.before).late (sym (tested c.before) ∙ c.if2.true)))
+    S.Settles.late (mended_comes_out R g s.requires.0)
+    (some_late R g s.requires.0 (hand c.before.before.before.before.before.before) ((turned c.before.before.before.before.before.before).late (sym (tested c.before) ∙ c.if2.true)))
 
 mul-starts : tie.Need-overflow-mul-starts invariant-loop decreases-loop
 mul-starts c = omega (arith, (turned c.before.before.before.before.before.before).known, c.before.before.before.before.before.before.before.before.before.before.before.before.requires.0)
@@ -100,8 +100,8 @@ returns-2 c =
     let l = c.before.before.loop in
     let R = s.args.r in
     let g = s.args.given.now in
-    let e = stands-last R g s.requires.0 l.starts l.end l.done l.invariant c.if1.false in
-    rw e.1 (S.Settles.done (none-late R g s.requires.0 e.0))
+    let e = stands_last R g s.requires.0 l.starts l.end l.done l.invariant c.if1.false in
+    rw e.1 (S.Settles.done (none_late R g s.requires.0 e.0))
 
 pub settle-spec : {M : Type 1} → statement M
 settle-spec =

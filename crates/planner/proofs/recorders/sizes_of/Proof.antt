@@ -6,7 +6,7 @@ use native.Mathlib.Omega.{arith}
 use lib.ListN.{length, set, drop}
 use lib.Seq.{lt-length-set}
 use Rattle.planner.specs.Promises.{stops, gives}
-use Rattle.planner.proofs.Refusing.{unless-enough}
+use Rattle.planner.proofs.Refusing.{unless_enough}
 use borrow.Author.Rules.{rules}
 use Rattle.planner.proofs.recorders.sizes_of.Statement.{statement}
 use Rattle.planner.proofs.recorders.sizes_of.Tie as tie
@@ -30,7 +30,7 @@ slice-write-out-2 c = let a = c.before.before.before.args in lt-length-set a.out
 returns-2 : tie.Need-returns-2
 returns-2 c =
     let l = c.before.before.before.before.before.args.out.now in
-    rw (c.success.ensures, three l _ _ _ c.before.before.before.if1.false) (unless-enough c.before.before.before.if1.false gives)
+    rw (c.success.ensures, three l _ _ _ c.before.before.before.if1.false) (unless_enough c.before.before.before.if1.false gives)
 
 pub sizes-of-spec : {M : Type 1} → statement M
 sizes-of-spec =

@@ -3,16 +3,16 @@ use borrow.Author.Rules.{rules}
 use mathlib.Core.Path.{◌≡◌}
 use mathlib.Core.Bool.{false, cond}
 use lib.Dec.{eqb}
-use Rattle.base.specs.Refusals.{firstThat}
+use Rattle.base.specs.Refusals.{first_that}
 use Rattle.base.proofs.Paths.{paths}
 use Rattle.tables.specs.declared.DeviceRecord.{DeviceRecord}
-use Rattle.request.specs.Format.{powersTable, deviceTable}
+use Rattle.request.specs.Format.{powers_table, device_table}
 use Rattle.request.proofs.checks.device_check.Statement.{statement}
 use Rattle.request.proofs.checks.device_check.Tie as tie
 
 -- With one level.
-one : (d : DeviceRecord) → d.levels ≡ 1 → firstThat (deviceTable false d) ≡ cond (eqb d.wake 0) 4 (cond (eqb d.shut 0) 4 (firstThat (powersTable d)))
-unfolding deviceTable
+one : (d : DeviceRecord) → d.levels ≡ 1 → first_that (device_table false d) ≡ cond (eqb d.wake 0) 4 (cond (eqb d.shut 0) 4 (first_that (powers_table d)))
+unfolding device_table
 one d e = rw e
 
 returns : tie.Need-returns

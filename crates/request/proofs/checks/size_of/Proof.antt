@@ -4,7 +4,7 @@ use Rattle.request.proofs.checks.size_of.Statement.{statement}
 use Rattle.request.proofs.checks.size_of.Tie as tie
 
 returns : tie.Need-returns
-returns c = rw c.before.before.k.given.1 c.device-size.ensures
+returns c = rw c.before.before.k.given.1 c.device_size.ensures
 
 pub size-of-spec : {M : Type 1} → statement M
 size-of-spec =

@@ -8,12 +8,12 @@ use native.Mathlib.Omega.{arith}
 use lib.Dec.{eqb, ltb}
 use lib.ListN.{length}
 use Rattle.base.specs.Bytes.{byte_at}
-use Rattle.base.specs.Refusals.{firstThat}
-use Rattle.base.proofs.Paths.{lt-then, lt-else, paths}
+use Rattle.base.specs.Refusals.{first_that}
+use Rattle.base.proofs.Paths.{lt_then, lt_else, paths}
 use Rattle.tables.specs.declared.Kind.TheVariants.{Third}
 use Rattle.tables.specs.declared.DeviceRecord.{DeviceRecord}
-use Rattle.tables.specs.Records.{deviceAt, deviceSize}
-use Rattle.request.specs.Format.{powersTable, deviceTable}
+use Rattle.tables.specs.Records.{device_at, device_size}
+use Rattle.request.specs.Format.{powers_table, device_table}
 use Rattle.request.proofs.checks.third_fault.Statement.{statement}
 use Rattle.request.proofs.checks.third_fault.Tie as tie
 
@@ -22,11 +22,11 @@ module _ (s : List ℕ) (at : ℕ) where
   levels = byte_at s (at + 5)
 
   abbrev short : Bool
-  short = ltb (length s - at) (deviceSize Third s at)
+  short = ltb (length s - at) (device_size Third s at)
 
   -- The table from its last lines on.
   abbrev powers : ℕ
-  powers = firstThat (powersTable (deviceAt Third s at))
+  powers = first_that (powers_table (device_at Third s at))
 
   abbrev there : ℕ
   there = cond short 1 powers
@@ -38,10 +38,10 @@ module _ (s : List ℕ) (at : ℕ) where
   some = cond (eqb levels 0) 26 few
 
   abbrev whole : ℕ
-  whole = firstThat (deviceTable short (deviceAt Third s at))
+  whole = first_that (device_table short (device_at Third s at))
 
   table : cond (eqb (byte_at s at) 0) 4 some ≡ whole
-  unfolding deviceTable
+  unfolding device_table
   table = go (eqb (byte_at s at) 0) some
     where
       go : (a : Bool) (n : ℕ) → ◌≡◌ {A = ℕ} (cond a 4 n) (cond a 4 (cond a 4 n))
@@ -52,12 +52,12 @@ module _ (s : List ℕ) (at : ℕ) where
   by e = e ∙ table
 
   -- After the level count: how much of the record is there.
-  module _ (size : ℕ) (e : size ≡ deviceSize Third s at) where
+  module _ (size : ℕ) (e : size ≡ device_size Third s at) where
     lacking : length s - at < size → 1 ≡ there
-    lacking h = lt-then (length s - at) (deviceSize Third s at) 1 powers (rw e at h) refl
+    lacking h = lt_then (length s - at) (device_size Third s at) 1 powers (rw e at h) refl
 
     judged : {r : ℕ} → size ≤ length s - at → r ≡ powers → r ≡ there
-    judged h f = lt-else (length s - at) (deviceSize Third s at) 1 powers (rw e at h) f
+    judged h f = lt_else (length s - at) (device_size Third s at) 1 powers (rw e at h) f
 
 returns : tie.Need-returns
 returns c = let a = c.before.before.before.before.before.args in by a.s.now a.at (search paths)
@@ -71,16 +71,16 @@ returns-3 c = let a = c.before.before.before.before.before.before.before.args in
 returns-4 : tie.Need-returns-4
 returns-4 c =
     let a = c.before.before.before.before.before.before.before.before.args in
-    by a.s.now a.at (search (paths, lacking a.s.now a.at _ c.before.before.before.before.device-size.ensures c.if4.true) depth 9)
+    by a.s.now a.at (search (paths, lacking a.s.now a.at _ c.before.before.before.before.device_size.ensures c.if4.true) depth 9)
 
 device-at-requires : tie.Need-device-at-requires
-device-at-requires c κs = omega (arith, c.before.before.before.before.device-size.ensures)
+device-at-requires c κs = omega (arith, c.before.before.before.before.device_size.ensures)
 
 returns-5 : tie.Need-returns-5
 returns-5 c =
     let a = c.before.before.before.before.before.before.before.before.before.before.args in
-    let powers = c.powers-check.ensures ∙ ap (λ (d : DeviceRecord). firstThat (powersTable d)) c.before.device-at.ensures in
-    by a.s.now a.at (search (paths, judged a.s.now a.at _ c.before.before.before.before.before.before.device-size.ensures c.before.before.if4.false powers) depth 9)
+    let powers = c.powers-check.ensures ∙ ap (λ (d : DeviceRecord). first_that (powers_table d)) c.before.device_at.ensures in
+    by a.s.now a.at (search (paths, judged a.s.now a.at _ c.before.before.before.before.before.before.device_size.ensures c.before.before.if4.false powers) depth 9)
 
 pub third-fault-spec : {M : Type 1} → statement M
 third-fault-spec =

@@ -3,7 +3,7 @@ use mathlib.Core.Path.{sym, ◌∙◌}
 use Prim.Native.Nat.{ℕ, ◌<◌, ◌%◌}
 use native.Mathlib.Omega.{arith}
 use native.Mathlib.Nat.{mod-lt, pos_of_ne-zero}
-use Rattle.request.proofs.Multiples.{gcd-zero, gcd-step}
+use Rattle.request.proofs.Multiples.{gcd_zero, gcd_step}
 use borrow.Fn.Kinds.{In}
 use borrow.Fn.PlainCycle.{Measures, is, falls, and}
 use Rattle.request.proofs.euclid.gcd.Reads as gcd
@@ -31,10 +31,10 @@ gcd-gcd-requires t c κs =
     (omega arith, tt)
 
 gcd-returns : (t : ℕ) → gcd-lts.Need-returns (gcd-below t, gcd.Post) (gcd-at t) gcd.Post
-gcd-returns t c = gcd-zero _ _ c.if1.true
+gcd-returns t c = gcd_zero _ _ c.if1.true
 
 gcd-returns-2 : (t : ℕ) → gcd-lts.Need-returns-2 (gcd-below t, gcd.Post) (gcd-at t) gcd.Post
-gcd-returns-2 t c = c.gcd.ensures ∙ sym (gcd-step _ _ c.before.if1.false)
+gcd-returns-2 t c = c.gcd.ensures ∙ sym (gcd_step _ _ c.before.if1.false)
 
 pub +gcd-spec : {M : Type 1} → statement M
 +gcd-spec =

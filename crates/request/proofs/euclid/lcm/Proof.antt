@@ -2,12 +2,12 @@
 use borrow.Author.Rules.{rules}
 use native.Mathlib.Omega.{arith}
 use native.Mathlib.Nat.{mul-le-mul, div-le_self, le_trans}
-use Rattle.request.proofs.Multiples.{gcd-pos}
+use Rattle.request.proofs.Multiples.{gcd_pos}
 use Rattle.request.proofs.euclid.lcm.Statement.{statement}
 use Rattle.request.proofs.euclid.lcm.Tie as tie
 
 div-result : tie.Need-nonzero-div-result
-div-result c = rw c.gcd.ensures (gcd-pos _ _ c.before.requires.2)
+div-result c = rw c.gcd.ensures (gcd_pos _ _ c.before.requires.2)
 
 mul-result : tie.Need-overflow-mul-result
 mul-result c =

@@ -4,10 +4,10 @@ use mathlib.Core.Path.{◌≡◌}
 use Prim.Native.Nat.{◌≤◌, ◌-◌}
 use native.Mathlib.Omega.{arith}
 use Rattle.base.specs.Lists.{up_to}
-use Rattle.base.proofs.Arrays.{upTo-more}
+use Rattle.base.proofs.Arrays.{up_to_more}
 use Rattle.request.specs.Format.{listed}
 use Rattle.request.specs.inside.Held.{packed}
-use Rattle.request.proofs.Packed.{packed-push}
+use Rattle.request.proofs.Packed.{packed_push}
 use Rattle.request.proofs.jobs.listed_jobs.Statement.{statement}
 use Rattle.request.proofs.jobs.listed_jobs.Tie as tie
 
@@ -24,7 +24,7 @@ loop-holds c = (omega arith, c.no-jobs.ensures)
 loop-again : tie.Need-loop-preserved invariant-loop decreases-loop
 loop-again c =
     let l = c.before.before.before.loop in
-    (omega arith, rw (c.push.ensures, c.before.listed-job.ensures, l.invariant.1, packed-push, upTo-more))
+    (omega arith, rw (c.push.ensures, c.before.listed-job.ensures, l.invariant.1, packed_push, up_to_more))
 
 returns : tie.Need-returns invariant-loop decreases-loop
 returns c =

@@ -3,7 +3,7 @@ use borrow.Author.Rules.{rules}
 use borrow.Author.Tests.{eq-eqb, ne_eqb}
 use mathlib.Core.Path.{◌≡◌, ap, ◌∙◌}
 use Rattle.tables.specs.declared.TaskRecord.{TaskRecord}
-use Rattle.request.specs.inside.Held.{releasedTo}
+use Rattle.request.specs.inside.Held.{released_to}
 use Rattle.request.proofs.jobs.release.Statement.{statement}
 use Rattle.request.proofs.jobs.release.Tie as tie
 
@@ -14,20 +14,20 @@ job-of-requires : tie.Need-job-of-requires
 job-of-requires c κs = rw c.before.before.task-of.ensures c.before.before.before.before.requires.2
 
 returns : tie.Need-returns
-unfolding releasedTo
+unfolding released_to
 returns c =
     let a = c.before.before.before.before.before.before.args in
     let k = c.before.before.before.before.task-of in
-    let here : c.push.result ≡ releasedTo a.js k.result a.t = rw (c.push.ensures, c.before.Job-of.ensures, eq-eqb _ _ c.before.before.if1.true) in
-    here ∙ ap (λ (x : TaskRecord). releasedTo a.js x a.t) k.ensures
+    let here : c.push.result ≡ released_to a.js k.result a.t = rw (c.push.ensures, c.before.Job-of.ensures, eq-eqb _ _ c.before.before.if1.true) in
+    here ∙ ap (λ (x : TaskRecord). released_to a.js x a.t) k.ensures
 
 returns-2 : tie.Need-returns-2
-unfolding releasedTo
+unfolding released_to
 returns-2 c =
     let a = c.before.before.before.before.args in
     let k = c.before.before.task-of in
-    let here : a.js ≡ releasedTo a.js k.result a.t = rw (ne_eqb _ _ c.if1.false) in
-    here ∙ ap (λ (x : TaskRecord). releasedTo a.js x a.t) k.ensures
+    let here : a.js ≡ released_to a.js k.result a.t = rw (ne_eqb _ _ c.if1.false) in
+    here ∙ ap (λ (x : TaskRecord). released_to a.js x a.t) k.ensures
 
 pub release_spec : {M : Type 1} → statement M
 release_spec =

@@ -4,20 +4,20 @@ use mathlib.Core.Path.{◌≡◌}
 use mathlib.Core.List.{◌++◌, append-nil}
 use Prim.Native.Nat.{◌≤◌, ◌-◌}
 use native.Mathlib.Omega.{arith}
-use Rattle.request.specs.Format.{unfolded, releasedAt}
+use Rattle.request.specs.Format.{unfolded, released_at}
 use Rattle.request.specs.inside.Held.{packed}
-use Rattle.request.proofs.Packed.{tick-more, unfolded-more}
+use Rattle.request.proofs.Packed.{tick_more, unfolded_more}
 use Rattle.request.proofs.jobs.tick.Statement.{statement}
 use Rattle.request.proofs.jobs.tick.Tie as tie
 
 abbrev invariant-loop : tie.invariant-loop
-invariant-loop s tasks from t js₀ i₀ js i = (i ≤ tasks) × (js ≡ packed (unfolded s tasks from t ++ releasedAt s i from t))
+invariant-loop s tasks from t js₀ i₀ js i = (i ≤ tasks) × (js ≡ packed (unfolded s tasks from t ++ released_at s i from t))
 
 abbrev decreases-loop : tie.decreases-loop
 decreases-loop s tasks from t js₀ i₀ js i = tasks - i
 
 loop-holds : tie.Need-loop-init invariant-loop decreases-loop
-unfolding releasedAt
+unfolding released_at
 loop-holds c = (omega arith, rw append-nil c.before.requires.2)
 
 release-requires : tie.Need-release-requires invariant-loop decreases-loop
@@ -30,13 +30,13 @@ loop-again : tie.Need-loop-preserved invariant-loop decreases-loop
 loop-again c =
     let l = c.before.before.loop in
     let a = c.before.before.before.before.args in
-    (omega arith, rw (c.release.ensures, l.invariant.1) (tick-more a.s.now a.from a.t (unfolded a.s.now a.tasks a.from a.t) l.i))
+    (omega arith, rw (c.release.ensures, l.invariant.1) (tick_more a.s.now a.from a.t (unfolded a.s.now a.tasks a.from a.t) l.i))
 
 returns : tie.Need-returns invariant-loop decreases-loop
 returns c =
     let l = c.before.loop in
     let all : l.i ≡ c.before.before.before.args.tasks = omega arith in
-    rw (l.invariant.1, all, unfolded-more)
+    rw (l.invariant.1, all, unfolded_more)
 
 pub tick-spec : {M : Type 1} → statement M
 tick-spec =

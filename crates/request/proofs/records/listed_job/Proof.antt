@@ -4,7 +4,7 @@ use Rattle.request.proofs.records.listed_job.Statement.{statement}
 use Rattle.request.proofs.records.listed_job.Tie as tie
 
 returns : tie.Need-returns
-returns c = rw (c.set-of.ensures, c.before.job-at.ensures)
+returns c = rw (c.set-of.ensures, c.before.job_at.ensures)
 
 pub listed-job-spec : {M : Type 1} → statement M
 listed-job-spec =

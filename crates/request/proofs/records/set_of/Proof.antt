@@ -5,7 +5,7 @@ use mathlib.Core.Bool.{false}
 use Prim.Native.Nat.{◌≤◌, ◌-◌, ◌/◌, ◌^◌}
 use native.Mathlib.Omega.{arith}
 use Rattle.base.specs.Lists.{up_to, padded}
-use Rattle.base.proofs.Arrays.{upTo-fill}
+use Rattle.base.proofs.Arrays.{up_to_fill}
 use Rattle.request.specs.Format.{bit}
 use Rattle.base.proofs.Numbers.{halved}
 use Rattle.request.proofs.records.set_of.Statement.{statement}
@@ -24,7 +24,7 @@ loop-holds c = (omega arith, omega arith, refl)
 loop-again : tie.Need-loop-preserved invariant-loop decreases-loop
 loop-again c =
     let l = c.before.loop in
-    let here = upTo-fill 8 false (bit c.before.before.args.set) l.k c.loop-test.true in
+    let here = up_to_fill 8 false (bit c.before.before.args.set) l.k c.loop-test.true in
     (omega arith, rw l.invariant.1 (halved _ _), rw (l.invariant.1, l.invariant.2) here)
 
 returns : tie.Need-returns invariant-loop decreases-loop

@@ -2,7 +2,7 @@
 use borrow.Author.Rules.{rules}
 use native.Mathlib.Omega.{arith}
 use Rattle.base.proofs.Paths.{paths}
-use Rattle.request.specs.Format.{jobRecords}
+use Rattle.request.specs.Format.{job_records}
 use Rattle.request.proofs.Limits.{limits}
 use Rattle.request.proofs.sections.job_records.Statement.{statement}
 use Rattle.request.proofs.sections.job_records.Tie as tie
@@ -11,11 +11,11 @@ cast-count : tie.Need-overflow-cast-count
 cast-count c = omega (arith, c.shared-slice-known2.given c.before.before.args.at)
 
 returns : tie.Need-returns
-unfolding jobRecords
+unfolding job_records
 returns c = search (paths, limits)
 
 returns-2 : tie.Need-returns-2
-unfolding jobRecords
+unfolding job_records
 returns-2 c = search (paths, limits)
 
 mul-if3 : tie.Need-overflow-mul-if3
@@ -25,11 +25,11 @@ add-if3-2 : tie.Need-overflow-add-if3-2
 add-if3-2 c = omega (arith, c.before.before.before.before.shared-slice-known2.given c.before.before.before.before.before.before.args.at)
 
 returns-3 : tie.Need-returns-3
-unfolding jobRecords
+unfolding job_records
 returns-3 c = search (paths, limits)
 
 returns-4 : tie.Need-returns-4
-unfolding jobRecords
+unfolding job_records
 returns-4 c = search (paths, limits)
 
 pub job-records-spec : {M : Type 1} → statement M

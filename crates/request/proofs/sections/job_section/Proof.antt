@@ -1,29 +1,29 @@
 -- `request::sections::job_section` meets its contract.
 use borrow.Author.Rules.{rules}
 use Rattle.base.proofs.Paths.{paths}
-use Rattle.request.specs.Format.{jobSection}
+use Rattle.request.specs.Format.{job_section}
 use Rattle.request.proofs.Limits.{limits}
 use Rattle.request.proofs.sections.job_section.Statement.{statement}
 use Rattle.request.proofs.sections.job_section.Tie as tie
 
 returns : tie.Need-returns
-unfolding jobSection
+unfolding job_section
 returns c = search paths
 
 returns-2 : tie.Need-returns-2
-unfolding jobSection
+unfolding job_section
 returns-2 c = search (paths, limits) depth 8
 
 returns-3 : tie.Need-returns-3
-unfolding jobSection
+unfolding job_section
 returns-3 c = search (paths, limits) depth 8
 
 returns-4 : tie.Need-returns-4
-unfolding jobSection
+unfolding job_section
 returns-4 c = search (paths, limits) depth 8
 
 returns-5 : tie.Need-returns-5
-unfolding jobSection
+unfolding job_section
 returns-5 c = search (paths, limits) depth 8
 
 pub job-section-spec : {M : Type 1} → statement M

@@ -6,7 +6,7 @@ use borrow.Author.Rules.{rules}
 use Rattle.schedule.specs.Quantities.{jobs}
 use Rattle.schedule.specs.Listing.{Met}
 use Rattle.schedule.specs.inside.Judging.{missed, met}
-use Rattle.schedule.proofs.Judgements.{holding, window-missed, window-met}
+use Rattle.schedule.proofs.Judgements.{holding, window_missed, window_met}
 use Rattle.schedule.proofs.judging.first_missed.Statement.{statement}
 use Rattle.schedule.proofs.judging.first_missed.Tie as tie
 
@@ -32,10 +32,10 @@ shared-slice-read-window-fault : tie.Need-shared-slice-read-window-fault invaria
 shared-slice-read-window-fault c = omega (arith, c.before.before.before.before.before.before.requires)
 
 returns : tie.Need-returns invariant-loop decreases-loop
-returns c = let l = c.before.before.before.before.before.loop in missed (window-missed _ _ _ _ (omega arith) l.invariant.1 c.before.window-fault.ensures (λ e. omega arith))
+returns c = let l = c.before.before.before.before.before.loop in missed (window_missed _ _ _ _ (omega arith) l.invariant.1 c.before.window-fault.ensures (λ e. omega arith))
 
 loop-again : tie.Need-loop-preserved invariant-loop decreases-loop
-loop-again c = let l = c.before.before.before.before.before.loop in (omega arith, below_more _ _ l.invariant.1 (window-met c.before.before.before.before.before.before.before.before.args.r c.before.before.before.before.before.before.before.before.args.starts.now l.j (omega (arith, c.before.window-fault.ensures))))
+loop-again c = let l = c.before.before.before.before.before.loop in (omega arith, below_more _ _ l.invariant.1 (window_met c.before.before.before.before.before.before.before.before.args.r c.before.before.before.before.before.before.before.before.args.starts.now l.j (omega (arith, c.before.window-fault.ensures))))
 
 returns-2 : tie.Need-returns-2 invariant-loop decreases-loop
 returns-2 c = met (λ i h. c.before.loop.invariant.1 i (omega arith))

@@ -5,7 +5,7 @@ use borrow.Author.Count.{below_none, below_more}
 use Rattle.schedule.specs.Quantities.{jobs}
 use Rattle.schedule.specs.Listing.{Overlaps, overlap}
 use Rattle.schedule.specs.inside.Judging.{faulty, feasible}
-use Rattle.schedule.proofs.Judgements.{decided, denied, none-feasible}
+use Rattle.schedule.proofs.Judgements.{decided, denied, none_feasible}
 use Rattle.schedule.proofs.judging.first_overlap.Statement.{statement}
 use Rattle.schedule.proofs.judging.first_overlap.Tie as tie
 
@@ -31,7 +31,7 @@ loop-again : tie.Need-loop-preserved invariant-loop decreases-loop
 loop-again c = (omega arith, below_more _ _ c.before.before.before.before.loop.invariant.1 (denied c.before.overlaps.ensures c.if2.false))
 
 returns-2 : tie.Need-returns-2 invariant-loop decreases-loop
-returns-2 c = let p = c.before.before.before.before.requires in let l = c.before.before.loop in feasible (none-feasible _ _ p.1 p.2 (λ j h. l.invariant.1 j (omega arith)))
+returns-2 c = let p = c.before.before.before.before.requires in let l = c.before.before.loop in feasible (none_feasible _ _ p.1 p.2 (λ j h. l.invariant.1 j (omega arith)))
 
 pub first-overlap-spec : {M : Type 1} → statement M
 first-overlap-spec =

@@ -6,7 +6,7 @@ use borrow.Author.Count.{below_none, below_more}
 use borrow.Author.Rules.{rules}
 use Rattle.schedule.specs.Quantities.{jobs}
 use Rattle.schedule.specs.inside.Judging.{holds, fails}
-use Rattle.schedule.proofs.Judgements.{holding, Apart, apart_none, clash-overlaps, clash-apart}
+use Rattle.schedule.proofs.Judgements.{holding, Apart, apart_none, clash_overlaps, clash_apart}
 use Rattle.schedule.proofs.judging.overlaps.Statement.{statement}
 use Rattle.schedule.proofs.judging.overlaps.Tie as tie
 
@@ -44,13 +44,13 @@ shared-slice-read-clash-2 : tie.Need-shared-slice-read-clash-2 invariant-loop de
 shared-slice-read-clash-2 c = omega (arith, c.before.before.before.before.before.before.before.before.requires)
 
 returns : tie.Need-returns invariant-loop decreases-loop
-returns c = let p = c.before.before.before.before.before.before.before.before.before.before.requires in let l = c.before.before.before.before.before.before.loop in let i : l.i < jobs c.before.before.before.before.before.before.before.before.before.before.args.r = omega arith in holds (clash-overlaps c.before.before.before.before.before.before.before.before.before.before.args.r c.before.before.before.before.before.before.before.before.before.before.args.starts.now l.i c.before.before.before.before.before.before.before.before.before.before.args.job.0 i (p.0.runs _ i) (p.0.runs _ p.2) (sym c.before.clash.ensures ∙ c.if1.true))
+returns c = let p = c.before.before.before.before.before.before.before.before.before.before.requires in let l = c.before.before.before.before.before.before.loop in let i : l.i < jobs c.before.before.before.before.before.before.before.before.before.before.args.r = omega arith in holds (clash_overlaps c.before.before.before.before.before.before.before.before.before.before.args.r c.before.before.before.before.before.before.before.before.before.before.args.starts.now l.i c.before.before.before.before.before.before.before.before.before.before.args.job.0 i (p.0.runs _ i) (p.0.runs _ p.2) (sym c.before.clash.ensures ∙ c.if1.true))
 
 add-i : tie.Need-overflow-add-i invariant-loop decreases-loop
 add-i c = omega (arith, c.before.before.before.before.before.before.before.before.before.before.requires.0)
 
 loop-again : tie.Need-loop-preserved invariant-loop decreases-loop
-loop-again c = let l = c.before.before.before.before.before.before.loop in (omega arith, below_more _ _ l.invariant.1 (clash-apart c.before.before.before.before.before.before.before.before.before.before.args.r c.before.before.before.before.before.before.before.before.before.before.args.starts.now l.i c.before.before.before.before.before.before.before.before.before.before.args.job.0 (sym c.before.clash.ensures ∙ c.if1.false)))
+loop-again c = let l = c.before.before.before.before.before.before.loop in (omega arith, below_more _ _ l.invariant.1 (clash_apart c.before.before.before.before.before.before.before.before.before.before.args.r c.before.before.before.before.before.before.before.before.before.before.args.starts.now l.i c.before.before.before.before.before.before.before.before.before.before.args.job.0 (sym c.before.clash.ensures ∙ c.if1.false)))
 
 returns-2 : tie.Need-returns-2 invariant-loop decreases-loop
 returns-2 c = fails (apart_none _ _ _ (λ i h. c.before.loop.invariant.1 i (omega arith)))

@@ -1,20 +1,20 @@
 -- `schedule::judging::window_fault` meets its contract.
 use borrow.Author.Rules.{rules}
 use Rattle.base.proofs.Paths.{paths}
-use Rattle.schedule.specs.inside.Judging.{windowFault}
+use Rattle.schedule.specs.inside.Judging.{window_fault}
 use Rattle.schedule.proofs.judging.window_fault.Statement.{statement}
 use Rattle.schedule.proofs.judging.window_fault.Tie as tie
 
 returns : tie.Need-returns
-unfolding windowFault
+unfolding window_fault
 returns c = search paths
 
 returns-2 : tie.Need-returns-2
-unfolding windowFault
+unfolding window_fault
 returns-2 c = search paths
 
 returns-3 : tie.Need-returns-3
-unfolding windowFault
+unfolding window_fault
 returns-3 c = search paths
 
 pub window-fault-spec : {M : Type 1} → statement M

@@ -3,7 +3,7 @@ use mathlib.Core.Path.{◌∙◌}
 use Prim.Native.Nat.{◌+◌, ◌<◌, ◌^◌}
 use native.Mathlib.Omega.{arith}
 use mir.Facts.{to_z-of_z}
-use Rattle.schedule.proofs.Signs.{difference, difference-fits}
+use Rattle.schedule.proofs.Signs.{difference, difference_fits}
 use borrow.Author.Rules.{rules}
 use Rattle.schedule.proofs.margins.margin_of.Statement.{statement}
 use Rattle.schedule.proofs.margins.margin_of.Tie as tie
@@ -12,7 +12,7 @@ sub-result : tie.Need-overflow-sub-result
 sub-result c =
     let d : c.args.deadline < 2 ^ 31 = omega arith in
     let e : c.args.start + c.args.run < 2 ^ 31 = omega arith in
-    rw (difference c.args.deadline (c.args.start + c.args.run) d e) (difference-fits c.args.deadline (c.args.start + c.args.run) d e)
+    rw (difference c.args.deadline (c.args.start + c.args.run) d e) (difference_fits c.args.deadline (c.args.start + c.args.run) d e)
 
 returns : tie.Need-returns
 returns c =

@@ -8,11 +8,11 @@ use mir.Syntax.{w32}
 use mir.Val.{to_z, of_z}
 use mir.Facts.{to_z-of_z}
 use Rattle.base.specs.Lists.{up_to}
-use Rattle.base.proofs.Filling.{Filled, filled-start, filled-value, filled-length}
+use Rattle.base.proofs.Filling.{Filled, filled_start, filled_value, filled_length}
 use Rattle.schedule.specs.Quantities.{jobs, deadline, run}
 use Rattle.schedule.specs.Listing.{start, margin}
 use Rattle.schedule.proofs.Judgements.{holding}
-use Rattle.schedule.proofs.Signs.{difference-fits}
+use Rattle.schedule.proofs.Signs.{difference_fits}
 use Rattle.schedule.proofs.margins.write_margins.Statement.{statement}
 use Rattle.schedule.proofs.margins.write_margins.Tie as tie
 
@@ -32,10 +32,10 @@ stored c =
     let l : j < jobs R = omega arith in
     let d : deadline R j < 2 ^ 31 = omega (arith, valid.ends j l) in
     let e : start s j + run R j < 2 ^ 31 = omega (arith, valid.fits j l, valid.ends j l, c.before.shared-slice-known2.given j) in
-    rw c.margin-of.ensures (to_z-of_z (difference-fits (deadline R j) (start s j + run R j) d e))
+    rw c.margin-of.ensures (to_z-of_z (difference_fits (deadline R j) (start s j + run R j) d e))
 
 loop-holds : tie.Need-loop-init invariant-loop decreases-loop
-loop-holds c = (omega arith, c.before.before.requires.2, filled-start _ _)
+loop-holds c = (omega arith, c.before.before.requires.2, filled_start _ _)
 
 mul-job : tie.Need-overflow-mul-job invariant-loop decreases-loop
 mul-job c = omega (arith, c.before.before.before.before.requires.0)
@@ -53,16 +53,16 @@ mul-t15 : tie.Need-overflow-mul-t15 invariant-loop decreases-loop
 mul-t15 c = omega (arith, c.before.before.before.before.before.before.before.requires.0)
 
 slice-set-from-out : tie.Need-slice-set-from-out invariant-loop decreases-loop
-slice-set-from-out c = let i = c.before.before.before.before.loop.invariant in omega (arith, filled-length i.2 (omega arith))
+slice-set-from-out c = let i = c.before.before.before.before.loop.invariant in omega (arith, filled_length i.2 (omega arith))
 
 add-j : tie.Need-overflow-add-j invariant-loop decreases-loop
 add-j c = omega (arith, c.before.before.before.before.before.before.before.requires.0)
 
 loop-again : tie.Need-loop-preserved invariant-loop decreases-loop
-loop-again c = let i = c.before.before.before.before.loop.invariant in (omega arith, i.1, filled-value _ i.2 (omega arith) _ (stored c))
+loop-again c = let i = c.before.before.before.before.loop.invariant in (omega arith, i.1, filled_value _ i.2 (omega arith) _ (stored c))
 
 same_length : tie.Need-same-length invariant-loop decreases-loop
-same_length c = let i = c.before.loop.invariant in filled-length i.2 (omega arith)
+same_length c = let i = c.before.loop.invariant in filled_length i.2 (omega arith)
 
 returns : tie.Need-returns invariant-loop decreases-loop
 returns c = let i = c.before.loop.invariant in let e : c.before.loop.j ≡ jobs c.before.before.before.before.args.r = omega arith in i.2.is ∙ rw e

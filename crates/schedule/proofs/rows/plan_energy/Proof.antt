@@ -2,7 +2,7 @@
 use mathlib.Core.Path.{◌≡◌, subst}
 use Prim.Native.Nat.{ℕ, ◌+◌, ◌≤◌, ◌-◌}
 use native.Mathlib.Omega.{arith}
-use Rattle.schedule.proofs.Summing.{Summed, summed-none, summed-more, summed-all}
+use Rattle.schedule.proofs.Summing.{Summed, summed_none, summed_more, summed_all}
 use Rattle.schedule.proofs.rows.plan_energy.Statement.{statement}
 use Rattle.schedule.proofs.rows.plan_energy.Tie as tie
 
@@ -16,7 +16,7 @@ running-order-requires : tie.Need-running-order-requires invariant-loop decrease
 running-order-requires c κs = let p = c.before.before.requires in omega (arith, p.0, p.1)
 
 loop-holds : tie.Need-loop-init invariant-loop decreases-loop
-loop-holds c = (omega arith, summed-none _ _)
+loop-holds c = (omega arith, summed_none _ _)
 
 uses-of-requires : tie.Need-uses-of-requires invariant-loop decreases-loop
 uses-of-requires c κs = let p = c.before.before.before.before.before.requires in (p.0, p.1, c.before.before.running-order.ensures, omega arith)
@@ -38,7 +38,7 @@ more : (c : tie.After-energy-of invariant-loop decreases-loop) → let l = c.bef
     (l.sum + c.energy-of.result ≤ 2147450880) × Summed a.r a.starts.now (l.k + 1) (l.sum + c.energy-of.result)
 more c =
     let l = c.before.before.before.before.loop in
-    summed-more _ _ c.before.before.before.before.before.before.before.before.requires.0 l.k l.sum _ _ l.invariant.1 c.before.before.before.loop-test.true
+    summed_more _ _ c.before.before.before.before.before.before.before.before.requires.0 l.k l.sum _ _ l.invariant.1 c.before.before.before.loop-test.true
     c.before.before.uses-of.ensures c.energy-of.ensures
 
 add-sum : tie.Need-overflow-add-sum invariant-loop decreases-loop
@@ -54,7 +54,7 @@ returns : tie.Need-returns invariant-loop decreases-loop
 returns c =
     let a = c.before.before.before.before.before.args in
     let all : c.before.loop.k ≡ a.r.devices.count = omega arith in
-    summed-all a.r a.starts.now c.before.loop.sum (subst (λ (n : ℕ). Summed a.r a.starts.now n c.before.loop.sum) all c.before.loop.invariant.1)
+    summed_all a.r a.starts.now c.before.loop.sum (subst (λ (n : ℕ). Summed a.r a.starts.now n c.before.loop.sum) all c.before.loop.invariant.1)
 
 pub plan-energy-spec : {M : Type 1} → statement M
 plan-energy-spec =

@@ -6,20 +6,20 @@ use Prim.Native.Nat.{ℕ, ◌≤◌, ◌+◌, ◌-◌, ◌*◌}
 use native.Mathlib.Nat.{mul-le-mul_right, mul-le-mul}
 use native.Mathlib.Omega.{arith}
 use lib.ListN.{length, take, drop, length-take, length-drop}
-use Rattle.base.proofs.Filling.{Filled, filled-length}
+use Rattle.base.proofs.Filling.{Filled, filled_length}
 use Rattle.device.specs.Row.{byte_of, row_of}
 use Rattle.schedule.specs.Quantities.{device}
 use Rattle.schedule.specs.Listing.{laid}
-use Rattle.schedule.specs.Visiting.{planRow}
-use Rattle.schedule.proofs.Laying.{laid_none, laid-row}
-use Rattle.schedule.proofs.Summing.{Summed, summed-none, summed-more, summed-all}
-use Rattle.schedule.proofs.Usage.{pattern-uses}
+use Rattle.schedule.specs.Visiting.{plan_row}
+use Rattle.schedule.proofs.Laying.{laid_none, laid_row}
+use Rattle.schedule.proofs.Summing.{Summed, summed_none, summed_more, summed_all}
+use Rattle.schedule.proofs.Usage.{pattern_uses}
 use Rattle.schedule.proofs.rows.write_rows.Statement.{statement}
 use Rattle.schedule.proofs.rows.write_rows.Tie as tie
 
 abbrev invariant-loop : tie.invariant-loop
 invariant-loop r starts out₀ devices sleeps h order sum₀ k₀ out sum k =
-    (k ≤ r.devices.count) × Summed r starts k sum × Filled out₀ (k * r.horizon) (laid r.sleeps (planRow r starts) k) out
+    (k ≤ r.devices.count) × Summed r starts k sum × Filled out₀ (k * r.horizon) (laid r.sleeps (plan_row r starts) k) out
 
 abbrev decreases-loop : tie.decreases-loop
 decreases-loop r starts out₀ devices sleeps h order sum₀ k₀ out sum k = r.devices.count - k
@@ -33,9 +33,9 @@ roomy c =
     let h = s.args.r.horizon in
     let k = c.before.loop.k in
     let next : (k + 1) * h ≤ s.args.r.devices.count * h = mul-le-mul_right h (omega arith) in
-    let size = filled-length c.before.loop.invariant.2 (omega (arith, s.requires.2)) in
+    let size = filled_length c.before.loop.invariant.2 (omega (arith, s.requires.2)) in
     let few : k ≤ 8 = omega (arith, s.requires.0) in
-    let most : k * h ≤ 8 * 4096 = mul-le-mul few s.requires.0.few-ticks in
+    let most : k * h ≤ 8 * 4096 = mul-le-mul few s.requires.0.few_ticks in
     omega (arith, s.requires.2)
 
 -- The sum with the energy of the device at hand.
@@ -44,7 +44,7 @@ more : (c : tie.After-energy-of invariant-loop decreases-loop) → let l = c.bef
     (l.sum + c.energy-of.result ≤ 2147450880) × Summed a.r a.starts.now (l.k + 1) (l.sum + c.energy-of.result)
 more c =
     let l = c.before.before.before.before.loop in
-    summed-more _ _ c.before.before.before.before.before.before.before.before.before.before.requires.0 l.k l.sum _ _ l.invariant.1 c.before.before.before.loop-test.true c.before.before.uses-of.ensures c.energy-of.ensures
+    summed_more _ _ c.before.before.before.before.before.before.before.before.before.before.requires.0 l.k l.sum _ _ l.invariant.1 c.before.before.before.loop-test.true c.before.before.uses-of.ensures c.energy-of.ensures
 
 cast-h : tie.Need-overflow-cast-h invariant-loop decreases-loop
 cast-h c = omega (arith, c.before.before.before.before.requires.0)
@@ -53,7 +53,7 @@ running-order-requires : tie.Need-running-order-requires invariant-loop decrease
 running-order-requires c κs = let p = c.before.before.before.before.requires in omega (arith, p.0, p.1)
 
 loop-holds : tie.Need-loop-init invariant-loop decreases-loop
-loop-holds c = let a = c.before.before.before.before.before.args in (omega arith, summed-none _ _, laid_none a.r a.starts.now a.out.now)
+loop-holds c = let a = c.before.before.before.before.before.args in (omega arith, summed_none _ _, laid_none a.r a.starts.now a.out.now)
 
 uses-of-requires : tie.Need-uses-of-requires invariant-loop decreases-loop
 uses-of-requires c κs = let p = c.before.before.before.before.before.before.before.requires in (p.0, p.1, c.before.before.running-order.ensures, omega arith)
@@ -102,20 +102,20 @@ loop-again c =
     let l = c.before.before.before.before.before.before.before.before.before.loop in (
       omega arith,
       (more c.before.before.before.before.before).1,
-      laid-row R c.before.before.before.before.before.before.before.before.before.before.before.before.before.before.before.args.starts.now l.k l.invariant.2 (roomy c.before.before.before.before.before.before.before.before).0 c.before.before.write-row.new.1.1.1.1.1.0
-          (c.before.before.write-row.ensures ∙ ap (λ (u : List Bool). map (byte_of R.sleeps) (row_of R.round (device R l.k) u) ++ drop R.horizon (take (length l.out - l.k * R.horizon) (drop (l.k * R.horizon) l.out))) (pattern-uses c.before.before.before.before.before.before.before.uses-of.ensures)),
+      laid_row R c.before.before.before.before.before.before.before.before.before.before.before.before.before.before.before.args.starts.now l.k l.invariant.2 (roomy c.before.before.before.before.before.before.before.before).0 c.before.before.write-row.new.1.1.1.1.1.0
+          (c.before.before.write-row.ensures ∙ ap (λ (u : List Bool). map (byte_of R.sleeps) (row_of R.round (device R l.k) u) ++ drop R.horizon (take (length l.out - l.k * R.horizon) (drop (l.k * R.horizon) l.out))) (pattern_uses c.before.before.before.before.before.before.before.uses-of.ensures)),
     )
 
 same_length : tie.Need-same-length invariant-loop decreases-loop
-same_length c = let s = c.before.before.before.before.before.before.before in filled-length c.before.loop.invariant.2 (omega (arith, mul-le-mul_right s.args.r.horizon c.before.loop.invariant.0, s.requires.2))
+same_length c = let s = c.before.before.before.before.before.before.before in filled_length c.before.loop.invariant.2 (omega (arith, mul-le-mul_right s.args.r.horizon c.before.loop.invariant.0, s.requires.2))
 
 returns : tie.Need-returns invariant-loop decreases-loop
 returns c =
     let a = c.before.before.before.before.before.before.before.args in
     let l = c.before.loop in
     let all : l.k ≡ a.r.devices.count = omega arith in (
-      summed-all a.r a.starts.now l.sum (subst (λ (n : ℕ). Summed a.r a.starts.now n l.sum) all l.invariant.1),
-      l.invariant.2.is ∙ ap (λ (n : ℕ). laid a.r.sleeps (planRow a.r a.starts.now) n ++ drop (n * a.r.horizon) a.out.now) all,
+      summed_all a.r a.starts.now l.sum (subst (λ (n : ℕ). Summed a.r a.starts.now n l.sum) all l.invariant.1),
+      l.invariant.2.is ∙ ap (λ (n : ℕ). laid a.r.sleeps (plan_row a.r a.starts.now) n ++ drop (n * a.r.horizon) a.out.now) all,
     )
 
 pub write-rows-spec : {M : Type 1} → statement M

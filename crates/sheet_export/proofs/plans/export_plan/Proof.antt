@@ -5,9 +5,9 @@ use lib.IntN.{ℤ, pos, nat_abs}
 use lib.ListN.{replicate}
 use lib.Seq.{length-take-le}
 use Rattle.planner.specs.Promises.{Margined}
-use Rattle.text.proofs.Puts.{put-size, put_front}
+use Rattle.text.proofs.Puts.{put_size, put_front}
 use Rattle.sheet.specs.Promises as P
-use Rattle.sheet.proofs.Answers.{filled-as}
+use Rattle.sheet.proofs.Answers.{filled_as}
 use Rattle.sheet_export.proofs.Spares.{planned, spares}
 use borrow.Author.Rules.{rules}
 use Rattle.sheet_export.proofs.plans.export_plan.Statement.{statement}
@@ -46,7 +46,7 @@ returns-2 c =
     let found = c.before.before.before.before.before.before.before.before.before.before.margins.result in
     let put = c.before.before.before.before.before.before.put-plan-lines.ensures.1 in
     P.ExportedPlan.planned (map nat_abs after) judged zero (subst (λ (x : List ℤ). Margined file starts (replicate 16 (pos 0)) found x) sp.naturals margined)
-    (filled-as refl (put-size put) (put_front put) c.before.before.give.ensures)
+    (filled_as refl (put_size put) (put_front put) c.before.before.give.ensures)
 
 pub export-plan-spec : {M : Type 1} → statement M
 export-plan-spec =

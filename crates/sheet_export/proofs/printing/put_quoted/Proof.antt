@@ -5,8 +5,8 @@ use native.Mathlib.Omega.{arith}
 use lib.ListN.{length}
 use lib.Seq.{length-take-le}
 use Rattle.catalogue.proofs.Scanning.{front_fits}
-use Rattle.text.proofs.Puts.{put-more}
-use Rattle.sheet_export.proofs.Printed.{take-front}
+use Rattle.text.proofs.Puts.{put_more}
+use Rattle.sheet_export.proofs.Printed.{take_front}
 use borrow.Author.Rules.{rules}
 use Rattle.sheet_export.proofs.printing.put_quoted.Statement.{statement}
 use Rattle.sheet_export.proofs.printing.put_quoted.Tie as tie
@@ -63,9 +63,9 @@ returns c =
     let number = c.before.before.before.before.before.before.before.before.before.before.put-bytes.ensures in
     let close = c.before.before.before.before.before.before.put-byte2.ensures in
     let comma = c.before.before.put-byte3.ensures in
-    let tail = put-more close comma (omega (arith, start.requires, first.next, number.next, close.next, comma.next)) in
-    let rest = put-more number tail (omega (arith, start.requires, first.next, number.next, close.next, comma.next)) in
-    rw (take-front n c.before.before.before.before.before.before.before.before.before.before.before.before.before.before.before.before.before.signs_of.result signs) at (put-more first rest (omega (arith, start.requires, first.next, number.next, close.next, comma.next)))
+    let tail = put_more close comma (omega (arith, start.requires, first.next, number.next, close.next, comma.next)) in
+    let rest = put_more number tail (omega (arith, start.requires, first.next, number.next, close.next, comma.next)) in
+    rw (take_front n c.before.before.before.before.before.before.before.before.before.before.before.before.before.before.before.before.before.signs_of.result signs) at (put_more first rest (omega (arith, start.requires, first.next, number.next, close.next, comma.next)))
 
 pub put-quoted-spec : {M : Type 1} → statement M
 put-quoted-spec =

@@ -9,28 +9,28 @@ use Rattle.catalogue.specs.Parts.{parts_of, unfit}
 use Rattle.text.specs.Grammar.{lines_of}
 use Rattle.text.proofs.Puts.{put_front}
 use Rattle.sheet.specs.declared.SheetKind.TheVariants.{Devices}
-use Rattle.sheet.specs.Sheets.{linesFault}
-use Rattle.sheet_import.specs.inside.Reading.{devicesRaw}
-use Rattle.sheet_import.proofs.Tables.{sound-lines, fit-lines}
-use Rattle.sheet_import.proofs.Outcomes.{rows-parts}
-use Rattle.sheet_import.proofs.Only.{judged-passed, judged-refused, again-told, none_told}
+use Rattle.sheet.specs.Sheets.{lines_fault}
+use Rattle.sheet_import.specs.inside.Reading.{devices_raw}
+use Rattle.sheet_import.proofs.Tables.{sound_lines, fit_lines}
+use Rattle.sheet_import.proofs.Outcomes.{rows_parts}
+use Rattle.sheet_import.proofs.Only.{judged_passed, judged_refused, again_told, none_told}
 use borrow.Author.Rules.{rules}
 use Rattle.sheet_import.proofs.judging.put_devices.Statement.{statement}
 use Rattle.sheet_import.proofs.judging.put_devices.Tie as tie
 
 -- No line is at fault, and 21 passes.
 passed : (c : tie.Else1)
-    → (let ls = lines_of c.before.before.before.before.before.args.text.now in (linesFault Devices ls ≡ 0) × (unfit (devicesRaw ls) ≡ false))
-passed c = judged-passed _ c.before.before.judge-devices.ensures c.if1.false
+    → (let ls = lines_of c.before.before.before.before.before.args.text.now in (lines_fault Devices ls ≡ 0) × (unfit (devices_raw ls) ≡ false))
+passed c = judged_passed _ c.before.before.judge-devices.ensures c.if1.false
 
 -- So that there are no more lines than there is room for.
 few : (c : tie.After-count-lines) → (c.count-lines.result ≤ 64) × (c.count-lines.result ≡ length (lines_of c.before.before.before.before.before.before.args.text.now))
 few c =
-    let f = (fit-lines c.before.before.before.before.before.before.args.text.now (passed c.before).1).0 in
+    let f = (fit_lines c.before.before.before.before.before.before.args.text.now (passed c.before).1).0 in
     (omega (arith, f, c.count-lines.ensures), c.count-lines.ensures)
 
 returns : tie.Need-returns
-returns c = (judged-refused _ c.before.before.judge-devices.ensures c.if1.true, λ z. absurd (c.if1.true z))
+returns c = (judged_refused _ c.before.before.judge-devices.ensures c.if1.true, λ z. absurd (c.if1.true z))
 
 mul-size : tie.Need-overflow-mul-size
 mul-size c = omega (arith, (few c).0)
@@ -40,7 +40,7 @@ put-rows-requires c κs =
     let s = c.before.before.before.before.before.before.before.args.text.now in
     let p = passed c.before.before in
     let n = few c.before in
-    (n.1, omega (arith, n.0, c.before.before.before.before.before.before.before.requires), λ k h. (sound-lines Devices s p.0 k h, (fit-lines s p.1).1 k h))
+    (n.1, omega (arith, n.0, c.before.before.before.before.before.before.before.requires), λ k h. (sound_lines Devices s p.0 k h, (fit_lines s p.1).1 k h))
 
 slice-reshare-prefix-repeated-at : tie.Need-slice-reshare-prefix-repeated-at
 slice-reshare-prefix-repeated-at c = omega (arith, (few c.before.before.before.before).0, c.before.before.before.before.before.before.before.before.before.before.requires, c.before.before.put-rows.auto)
@@ -52,21 +52,21 @@ repeated-at-requires : tie.Need-repeated-at-requires
 repeated-at-requires c κs =
     let s = c.before.before.before.before.before.before.before.before.before.before.before.args.text.now in
     let p = passed c.before.before.before.before.before.before in
-    ap unfit (ap parts_of (put_front c.before.before.before.put-rows.ensures) ∙ rows-parts s p.1) ∙ p.1
+    ap unfit (ap parts_of (put_front c.before.before.before.put-rows.ensures) ∙ rows_parts s p.1) ∙ p.1
 
 returns-2 : tie.Need-returns-2
 returns-2 c =
     let s = c.before.before.before.before.before.before.before.before.before.before.before.before.before.args.text.now in
     let p = passed c.before.before.before.before.before.before.before.before in
-    let same = ap parts_of (put_front c.before.before.before.before.before.put-rows.ensures) ∙ rows-parts s p.1 in
-    (again-told s p.0 p.1 _ same c.before.repeated-at.result c.before.repeated-at.ensures (omega (arith, (few c.before.before.before.before.before.before.before).1, c.if2.true)), λ z. absurd (omega (arith, z)))
+    let same = ap parts_of (put_front c.before.before.before.before.before.put-rows.ensures) ∙ rows_parts s p.1 in
+    (again_told s p.0 p.1 _ same c.before.repeated-at.result c.before.repeated-at.ensures (omega (arith, (few c.before.before.before.before.before.before.before).1, c.if2.true)), λ z. absurd (omega (arith, z)))
 
 returns-3 : tie.Need-returns-3
 returns-3 c =
     let s = c.before.before.before.before.before.before.before.before.before.before.before.before.before.args.text.now in
     let p = passed c.before.before.before.before.before.before.before.before in
     let n = (few c.before.before.before.before.before.before.before).1 in
-    let same = ap parts_of (put_front c.before.before.before.before.before.put-rows.ensures) ∙ rows-parts s p.1 in
+    let same = ap parts_of (put_front c.before.before.before.before.before.put-rows.ensures) ∙ rows_parts s p.1 in
     (none_told s p.0 p.1 _ same c.before.repeated-at.result c.before.repeated-at.ensures (omega (arith, n, c.if2.false)), λ z. rw (← n) c.before.before.before.before.before.put-rows.ensures)
 
 pub put-devices-spec : {M : Type 1} → statement M

@@ -5,17 +5,17 @@ use native.Mathlib.Omega.{arith}
 use Prim.Native.Nat.{ℕ, ◌-◌, ◌≤◌, ◌<◌}
 use borrow.Author.Count.{below_more}
 use borrow.Author.Tests.{not-true, not-false}
-use Rattle.catalogue.specs.Faults.{unfitAt}
+use Rattle.catalogue.specs.Faults.{unfit_at}
 use Rattle.text.specs.Grammar.{lines_of}
-use Rattle.sheet_import.specs.inside.Reading.{devicesRaw}
-use Rattle.sheet_import.proofs.Places.{raw-many, raw-badly, raw-fit}
+use Rattle.sheet_import.specs.inside.Reading.{devices_raw}
+use Rattle.sheet_import.proofs.Places.{raw_many, raw_badly, raw_fit}
 use borrow.Author.Rules.{rules}
 use Rattle.sheet_import.proofs.parts.unfit_line.Statement.{statement}
 use Rattle.sheet_import.proofs.parts.unfit_line.Tie as tie
 
 -- No line so far is at fault.
 abbrev invariant-loop : tie.invariant-loop
-invariant-loop text lines k₀ k = (k ≤ lines) × ((i : ℕ) → i < k → unfitAt (devicesRaw (lines_of text)) i ≡ false)
+invariant-loop text lines k₀ k = (k ≤ lines) × ((i : ℕ) → i < k → unfit_at (devices_raw (lines_of text)) i ≡ false)
 
 abbrev decreases-loop : tie.decreases-loop
 decreases-loop text lines k₀ k = lines - k
@@ -30,7 +30,7 @@ returns c =
     record {
       within = l.invariant.0;
       before = l.invariant.1;
-      here = λ h. raw-many (lines_of start.args.text.now) l.k (omega (arith, h, start.requires.0)) (omega (arith, c.if1.true));
+      here = λ h. raw_many (lines_of start.args.text.now) l.k (omega (arith, h, start.requires.0)) (omega (arith, c.if1.true));
     }
 
 is-bad-requires : tie.Need-is-bad-requires invariant-loop decreases-loop
@@ -46,7 +46,7 @@ returns-2 c =
     record {
       within = l.invariant.0;
       before = l.invariant.1;
-      here = λ h. raw-badly (lines_of start.args.text.now) l.k (omega (arith, h, start.requires.0)) (not-true _ bad);
+      here = λ h. raw_badly (lines_of start.args.text.now) l.k (omega (arith, h, start.requires.0)) (not-true _ bad);
     }
 
 loop-again : tie.Need-loop-preserved invariant-loop decreases-loop
@@ -55,7 +55,7 @@ loop-again c =
     let start = c.before.before.before.before.before.before.before in
     let ls = lines_of start.args.text.now in
     let good = rw c.before.before.line.ensures at (sym c.before.is-bad.ensures ∙ c.if2.false) in
-    (omega arith, below_more (λ i. unfitAt (devicesRaw ls) i ≡ false) l.k l.invariant.1 (raw-fit ls l.k (omega (arith, start.requires.0)) (omega (arith, c.before.before.before.if1.false)) (not-false _ good)))
+    (omega arith, below_more (λ i. unfit_at (devices_raw ls) i ≡ false) l.k l.invariant.1 (raw_fit ls l.k (omega (arith, start.requires.0)) (omega (arith, c.before.before.before.if1.false)) (not-false _ good)))
 
 returns-3 : tie.Need-returns-3 invariant-loop decreases-loop
 returns-3 c = let l = c.before.loop in record { within = omega arith; before = λ i h. l.invariant.1 i (omega arith); here = λ h. absurd (omega arith) }

@@ -1,6 +1,6 @@
 -- `sheet_import::reading::put_device` meets its contract.
 use native.Mathlib.Omega.{arith}
-use Rattle.text.proofs.Puts.{put-more}
+use Rattle.text.proofs.Puts.{put_more}
 use borrow.Author.Rules.{rules}
 use Rattle.sheet_import.proofs.reading.put_device.Statement.{statement}
 use Rattle.sheet_import.proofs.reading.put_device.Tie as tie
@@ -21,9 +21,9 @@ returns c =
     let pw = c.before.before.before.before.before.before.before.before.before.before.put-pair.ensures in
     let ps = c.before.before.before.before.before.before.put-pair2.ensures in
     let p0 = c.before.before.put-pair3.ensures in
-    let two = put-more ps p0 (omega (arith, start.requires, t.next, pw.next, ps.next, p0.next)) in
-    let three = put-more pw two (omega (arith, start.requires, t.next, pw.next, ps.next, p0.next)) in
-    put-more t three (omega (arith, start.requires, t.next, pw.next, ps.next, p0.next))
+    let two = put_more ps p0 (omega (arith, start.requires, t.next, pw.next, ps.next, p0.next)) in
+    let three = put_more pw two (omega (arith, start.requires, t.next, pw.next, ps.next, p0.next)) in
+    put_more t three (omega (arith, start.requires, t.next, pw.next, ps.next, p0.next))
 
 pub put-device-spec : {M : Type 1} → statement M
 put-device-spec =

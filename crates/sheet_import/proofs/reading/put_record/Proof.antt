@@ -1,6 +1,6 @@
 -- `sheet_import::reading::put_record` meets its contract.
 use native.Mathlib.Omega.{arith}
-use Rattle.text.proofs.Puts.{put-more}
+use Rattle.text.proofs.Puts.{put_more}
 use borrow.Author.Rules.{rules}
 use Rattle.sheet_import.proofs.reading.put_record.Statement.{statement}
 use Rattle.sheet_import.proofs.reading.put_record.Tie as tie
@@ -36,10 +36,10 @@ returns c =
     let d = c.before.before.before.before.before.before.before.before.before.before.before.before.put-pair2.ensures in
     let r = c.before.before.before.before.before.before.before.put-pair3.ensures in
     let s = c.before.before.put_byte.ensures in
-    let two = put-more r s (omega (arith, start.requires.0, a.next, d.next, r.next, s.next)) in
-    let three = put-more d two (omega (arith, start.requires.0, a.next, d.next, r.next, s.next)) in
-    rw (← c.before.before.before.before.before.before.before.before.before.before.before.before.before.before.before.before.before.before.number-at.ensures, ← c.before.before.before.before.before.before.before.before.before.before.before.before.before.number-at2.ensures, ← c.before.before.before.before.before.before.before.before.number-at3.ensures, ← c.before.before.before.byte_at.ensures)
-    (put-more a three (omega (arith, start.requires.0, a.next, d.next, r.next, s.next)))
+    let two = put_more r s (omega (arith, start.requires.0, a.next, d.next, r.next, s.next)) in
+    let three = put_more d two (omega (arith, start.requires.0, a.next, d.next, r.next, s.next)) in
+    rw (← c.before.before.before.before.before.before.before.before.before.before.before.before.before.before.before.before.before.before.number_at.ensures, ← c.before.before.before.before.before.before.before.before.before.before.before.before.before.number-at2.ensures, ← c.before.before.before.before.before.before.before.before.number-at3.ensures, ← c.before.before.before.byte_at.ensures)
+    (put_more a three (omega (arith, start.requires.0, a.next, d.next, r.next, s.next)))
 
 pub put-record-spec : {M : Type 1} → statement M
 put-record-spec =

@@ -4,7 +4,7 @@ use native.Mathlib.Omega.{arith}
 use lib.ListN.{get_or}
 use borrow.Author.Count.{below_none, below_more}
 use Rattle.schedule.specs.declared.Recorder.{Recorder}
-use Rattle.schedule.specs.Quantities.{noJob, jobs, run}
+use Rattle.schedule.specs.Quantities.{no_job, jobs, run}
 use Rattle.schedule.specs.inside.Judging.{holds, fails}
 use Rattle.schedule.proofs.Judgements.{decided, denied}
 use Rattle.stepper.specs.Promises.{Brief, shorter}
@@ -13,7 +13,7 @@ use Rattle.stepper.proofs.fitness.has_brief.Statement.{statement}
 use Rattle.stepper.proofs.fitness.has_brief.Tie as tie
 
 abbrev invariant-loop : tie.invariant-loop
-invariant-loop devices jobs j₀ j = (j ≤ jobs.count) × ((i : ℕ) → i < j → Outrun devices (get_or jobs.list i noJob).run → ⊥)
+invariant-loop devices jobs j₀ j = (j ≤ jobs.count) × ((i : ℕ) → i < j → Outrun devices (get_or jobs.list i no_job).run → ⊥)
 
 abbrev decreases-loop : tie.decreases-loop
 decreases-loop devices jobs j₀ j = jobs.count - j
@@ -28,13 +28,13 @@ loop-holds : tie.Need-loop-init invariant-loop decreases-loop
 loop-holds c = (omega arith, below_none _)
 
 mul-job : tie.Need-overflow-mul-job invariant-loop decreases-loop
-mul-job c = omega (arith, c.loop-test.true, c.before.before.before.before.requires.few-jobs)
+mul-job c = omega (arith, c.loop-test.true, c.before.before.before.before.requires.few_jobs)
 
 element-copy-out-job : tie.Need-element-copy-out-job invariant-loop decreases-loop
-element-copy-out-job c = omega (arith, c.loop-test.true, c.before.before.before.before.requires.few-jobs)
+element-copy-out-job c = omega (arith, c.loop-test.true, c.before.before.before.before.requires.few_jobs)
 
 is-outrun-requires : tie.Need-is-outrun-requires invariant-loop decreases-loop
-is-outrun-requires c κs = c.before.before.before.before.before.requires.few-devices
+is-outrun-requires c κs = c.before.before.before.before.before.requires.few_devices
 
 returns : tie.Need-returns invariant-loop decreases-loop
 returns c =
@@ -42,7 +42,7 @@ returns c =
     holds (outrun-brief l.before.before.before.before.args.r l.before.loop.j l.loop-test.true (decided c.before.is-outrun.ensures c.if1.true))
 
 add-j : tie.Need-overflow-add-j invariant-loop decreases-loop
-add-j c = let l = c.before.before.before in omega (arith, l.loop-test.true, l.before.before.before.before.requires.few-jobs)
+add-j c = let l = c.before.before.before in omega (arith, l.loop-test.true, l.before.before.before.before.requires.few_jobs)
 
 loop-less : tie.Need-loop-smaller invariant-loop decreases-loop
 loop-less c = omega (arith, c.before.before.before.loop-test.true)

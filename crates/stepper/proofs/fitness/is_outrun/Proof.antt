@@ -4,14 +4,14 @@ use native.Mathlib.Omega.{arith}
 use lib.ListN.{get_or}
 use borrow.Author.Count.{below_none, below_more}
 use borrow.Author.Rules.{rules}
-use Rattle.device.specs.Row.{noDevice}
+use Rattle.device.specs.Row.{no_device}
 use Rattle.schedule.specs.inside.Judging.{holds, fails}
-use Rattle.steps.specs.Stepping.{moveTime}
+use Rattle.steps.specs.Stepping.{move_time}
 use Rattle.stepper.proofs.fitness.is_outrun.Statement.{statement}
 use Rattle.stepper.proofs.fitness.is_outrun.Tie as tie
 
 abbrev invariant-loop : tie.invariant-loop
-invariant-loop job devices k₀ k = (k ≤ devices.count) × ((i : ℕ) → i < k → moveTime (get_or devices.list i noDevice) ≤ job.run)
+invariant-loop job devices k₀ k = (k ≤ devices.count) × ((i : ℕ) → i < k → move_time (get_or devices.list i no_device) ≤ job.run)
 
 abbrev decreases-loop : tie.decreases-loop
 decreases-loop job devices k₀ k = devices.count - k

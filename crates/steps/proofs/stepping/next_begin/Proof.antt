@@ -1,15 +1,15 @@
 -- `steps::stepping::next_begin` meets its contract.
 use borrow.Author.Rules.{rules}
 use mathlib.Core.Path.{refl}
-use Rattle.base.proofs.Paths.{lt-then, lt-else}
+use Rattle.base.proofs.Paths.{lt_then, lt_else}
 use Rattle.steps.proofs.stepping.next_begin.Statement.{statement}
 use Rattle.steps.proofs.stepping.next_begin.Tie as tie
 
 returns : tie.Need-returns
-returns c = lt-then _ _ _ _ c.before.if1.true refl
+returns c = lt_then _ _ _ _ c.before.if1.true refl
 
 returns-2 : tie.Need-returns-2
-returns-2 c = lt-else _ _ _ _ c.if1.false refl
+returns-2 c = lt_else _ _ _ _ c.if1.false refl
 
 pub next-begin-spec : {M : Type 1} → statement M
 next-begin-spec = tie.close (tie.spec (λ c. search rules) (λ c. search rules) returns returns-2)

@@ -6,7 +6,7 @@ use native.Mathlib.Omega.{arith}
 use Rattle.base.specs.Loops.{each}
 use Rattle.base.proofs.Turns.{each_start, each_step}
 use Rattle.steps.specs.inside.Running.{begin, end, after, fresh, turn, stepped}
-use Rattle.steps.proofs.Bounds.{Most, sound-most, alone-most, after-within, end-within, end-next, jobs-most, stepped-most, turn_is}
+use Rattle.steps.proofs.Bounds.{Most, sound_most, alone_most, after_within, end_within, end_next, jobs_most, stepped_most, turn_is}
 use Rattle.steps.proofs.stepping.run.Statement.{statement}
 use Rattle.steps.proofs.stepping.run.Tie as tie
 
@@ -20,7 +20,7 @@ loop-holds : tie.Need-loop-init invariant-loop decreases-loop
 loop-holds c = (omega arith, refl, each_start (turn c.args.d c.args.h c.args.t3) 0 fresh refl)
 
 small : (c : tie.Start invariant-loop decreases-loop) → Most c.args.d 65535
-small c = sound-most c.args.d c.requires.0 (omega (arith, c.well-formed.0)) (omega (arith, c.well-formed.0)) (omega (arith, c.well-formed.0))
+small c = sound_most c.args.d c.requires.0 (omega (arith, c.well-formed.0)) (omega (arith, c.well-formed.0)) (omega (arith, c.well-formed.0))
 
 few : (c : tie.Start invariant-loop decreases-loop) → c.args.t3.count ≤ 16
 few c = c.requires.1.few
@@ -28,7 +28,7 @@ few c = c.requires.1.few
 -- The energy so far.
 most : (c : tie.At-loop invariant-loop decreases-loop) → c.loop.x.energy ≤ 65535 * after c.before.args.t3 c.loop.i
 most c =
-    rw c.loop.invariant.2 (jobs-most c.before.args.t3 c.before.args.h c.before.requires.1 c.before.args.d (small c.before) c.loop.i c.loop.invariant.0)
+    rw c.loop.invariant.2 (jobs_most c.before.args.t3 c.before.args.h c.before.requires.1 c.before.args.d (small c.before) c.loop.i c.loop.invariant.0)
 
 -- The job at hand.
 rising : (c : tie.In-loop invariant-loop decreases-loop) → after c.before.before.args.t3 c.before.loop.i ≤ begin c.before.before.args.t3 c.before.loop.i
@@ -74,13 +74,13 @@ sub-job-over-3 : tie.Need-overflow-sub-job-over-3 invariant-loop decreases-loop
 sub-job-over-3 c =
     let l = c.before.before.before.before.before in
     let s = l.before.before in
-    rw c.before.before.next-begin.ensures (end-next s.args.t3 s.args.h s.requires.1 l.before.loop.i l.loop-test.true)
+    rw c.before.before.next-begin.ensures (end_next s.args.t3 s.args.h s.requires.1 l.before.loop.i l.loop-test.true)
 
 job-over-requires : tie.Need-job-over-requires invariant-loop decreases-loop
 job-over-requires c κs =
     let l = c.before.before.before.before.before in
     let s = l.before.before in
-    (s.requires.0, omega (arith, l.before.loop.invariant.1, rising l, lasting l, most l.before, s.ranges, end-within s.args.t3 s.args.h s.requires.1 l.before.loop.i l.loop-test.true))
+    (s.requires.0, omega (arith, l.before.loop.invariant.1, rising l, lasting l, most l.before, s.ranges, end_within s.args.t3 s.args.h s.requires.1 l.before.loop.i l.loop-test.true))
 
 add-i : tie.Need-overflow-add-i invariant-loop decreases-loop
 add-i c = let l = c.before.before.before.before.before.before in omega (arith, l.loop-test.true, few l.before.before)
@@ -107,12 +107,12 @@ over c = omega (arith, c.loop-test.false, c.before.loop.invariant.0)
 sub-pass : tie.Need-overflow-sub-pass invariant-loop decreases-loop
 sub-pass c =
     let s = c.before.before in
-    omega (arith, c.before.loop.invariant.1, after-within s.args.t3 s.args.h s.requires.1 c.before.loop.i c.before.loop.invariant.0)
+    omega (arith, c.before.loop.invariant.1, after_within s.args.t3 s.args.h s.requires.1 c.before.loop.i c.before.loop.invariant.0)
 
 pass-requires : tie.Need-pass-requires invariant-loop decreases-loop
 pass-requires c κs =
     let s = c.before.before in
-    (s.requires.0, omega (arith, c.before.loop.invariant.1, most c.before, s.ranges, after-within s.args.t3 s.args.h s.requires.1 c.before.loop.i c.before.loop.invariant.0, alone-most s.args.d (small s) (s.args.h - c.before.loop.at) c.before.loop.x.state))
+    (s.requires.0, omega (arith, c.before.loop.invariant.1, most c.before, s.ranges, after_within s.args.t3 s.args.h s.requires.1 c.before.loop.i c.before.loop.invariant.0, alone_most s.args.d (small s) (s.args.h - c.before.loop.at) c.before.loop.x.state))
 
 made : (c : tie.After-pass invariant-loop decreases-loop) → c.pass.result ≡ stepped c.before.before.before.args.d c.before.before.before.args.h c.before.before.before.args.t3
 unfolding stepped
@@ -123,7 +123,7 @@ made c =
 returns : tie.Need-returns invariant-loop decreases-loop
 returns c =
     let s = c.before.before.before in
-    (made c, rw (made c) (stepped-most s.args.t3 s.args.h s.requires.1 s.args.d (small s)))
+    (made c, rw (made c) (stepped_most s.args.t3 s.args.h s.requires.1 s.args.d (small s)))
 
 pub run_spec : {M : Type 1} → statement M
 run_spec =

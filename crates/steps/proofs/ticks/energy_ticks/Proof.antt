@@ -2,7 +2,7 @@
 use borrow.Author.Rules.{rules}
 use mathlib.Core.Path.{◌∙◌}
 use native.Mathlib.Omega.{arith}
-use Rattle.steps.proofs.Passing.{energy-work, energy-sleep, energy-down, energy-up}
+use Rattle.steps.proofs.Passing.{energy_work, energy_sleep, energy_down, energy_up}
 use Rattle.steps.proofs.Bounds.{product}
 use Rattle.steps.proofs.ticks.energy_ticks.Statement.{statement}
 use Rattle.steps.proofs.ticks.energy_ticks.Tie as tie
@@ -16,16 +16,16 @@ mul-result-2 c =
     record { fits = product (omega (arith, s.requires.falls 0 s.requires.some_level, s.well-formed.0)) (omega arith) }
 
 returns : tie.Need-returns
-returns c = rw c.enum_told.given.1 (energy-work c.before.before.before.args.t1 c.before.before.before.args.n)
+returns c = rw c.enum_told.given.1 (energy_work c.before.before.before.args.t1 c.before.before.before.args.n)
 
 returns-2 : tie.Need-returns-2
-returns-2 c = rw c.enum-told2.given.1 (energy-sleep c.before.before.before.args.t1 c.before.before.before.args.n)
+returns-2 c = rw c.enum-told2.given.1 (energy_sleep c.before.before.before.args.t1 c.before.before.before.args.n)
 
 returns-3 : tie.Need-returns-3
-returns-3 c = rw c.before.before.st.given.1 (c.moving-energy.ensures ∙ energy-down c.before.before.before.before.before.args.t1 c.before.before.before.before.before.args.n c.before.before.st.given.0.0)
+returns-3 c = rw c.before.before.st.given.1 (c.moving-energy.ensures ∙ energy_down c.before.before.before.before.before.args.t1 c.before.before.before.before.before.args.n c.before.before.st.given.0.0)
 
 returns-4 : tie.Need-returns-4
-returns-4 c = rw c.before.before.st2.given.1 (c.moving-energy2.ensures ∙ energy-up c.before.before.before.before.before.args.t1 c.before.before.before.before.before.args.n c.before.before.st2.given.0.0)
+returns-4 c = rw c.before.before.st2.given.1 (c.moving-energy2.ensures ∙ energy_up c.before.before.before.before.before.args.t1 c.before.before.before.before.before.args.n c.before.before.st2.given.0.0)
 
 pub energy-ticks-spec : {M : Type 1} → statement M
 energy-ticks-spec =

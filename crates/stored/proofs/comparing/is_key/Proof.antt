@@ -21,11 +21,11 @@ returns-4 c = λ e. absurd (let z : ◌≡◌ {A = ℕ} 0 1 = cc in omega arith)
 
 returns-5 : tie.Need-returns-5
 returns-5 c = λ e. record {
-  head-is = omega arith;
-  idle-is = omega arith;
-  idle4-is = omega arith;
-  first-is = omega arith;
-  first4-is = eqb-true _ _ e;
+  head_is = omega arith;
+  idle_is = omega arith;
+  idle4_is = omega arith;
+  first_is = omega arith;
+  first4_is = eqb-true _ _ e;
 }
 
 pub is-key-spec : {M : Type 1} → statement M

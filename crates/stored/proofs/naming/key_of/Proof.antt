@@ -1,11 +1,11 @@
 -- `stored::naming::key_of` meets its contract.
 use borrow.Author.Rules.{rules}
-use Rattle.stored.specs.inside.Naming.{keyBy}
+use Rattle.stored.specs.inside.Naming.{key_by}
 use Rattle.stored.proofs.naming.key_of.Statement.{statement}
 use Rattle.stored.proofs.naming.key_of.Tie as tie
 
 returns : tie.Need-returns
-unfolding keyBy
+unfolding key_by
 returns c =
     rw (
       c.before.before.before.four-idle.ensures,

@@ -5,13 +5,13 @@ use Prim.Native.Nat.{◌-◌, ◌≤◌}
 use native.Mathlib.Omega.{arith}
 use native.Mathlib.Numerals.{add-one}
 use Rattle.base.proofs.Records.{after_more, after_one}
-use Rattle.tables.specs.Records.{deviceSize}
-use Rattle.tables.specs.Layout.{devicePlace}
+use Rattle.tables.specs.Records.{device_size}
+use Rattle.tables.specs.Layout.{device_place}
 use Rattle.tables.proofs.kinds.device_place.Statement.{statement}
 use Rattle.tables.proofs.kinds.device_place.Tie as tie
 
 abbrev invariant-loop : tie.invariant-loop
-invariant-loop s kind n at₀ k₀ at k = (k ≤ n) × (at ≡ devicePlace kind s k)
+invariant-loop s kind n at₀ k₀ at k = (k ≤ n) × (at ≡ device_place kind s k)
 
 abbrev decreases-loop : tie.decreases-loop
 decreases-loop s kind n at₀ k₀ at k = n - k
@@ -23,13 +23,13 @@ add_at : tie.Need-overflow-add-at invariant-loop decreases-loop
 add_at c =
     let l = c.before.before.loop in
     let a = c.before.before.before.before.args in
-    rw (c.device-size.ensures, l.invariant.1) (omega (arith, after_one (deviceSize a.kind a.s.now) l.k a.n 3 c.before.loop-test.true, c.before.before.before.before.requires))
+    rw (c.device_size.ensures, l.invariant.1) (omega (arith, after_one (device_size a.kind a.s.now) l.k a.n 3 c.before.loop-test.true, c.before.before.before.before.requires))
 
 loop-again : tie.Need-loop-preserved invariant-loop decreases-loop
 loop-again c =
     let l = c.before.before.loop in
     let a = c.before.before.before.before.args in
-    (omega arith, rw (c.device-size.ensures, l.invariant.1, add-one l.k) (sym (after_more (deviceSize a.kind a.s.now) l.k 3)))
+    (omega arith, rw (c.device_size.ensures, l.invariant.1, add-one l.k) (sym (after_more (device_size a.kind a.s.now) l.k 3)))
 
 returns : tie.Need-returns invariant-loop decreases-loop
 returns c =

@@ -6,7 +6,7 @@ use Prim.Native.Nat.{ℕ, zero, suc, ◌<◌}
 use native.Mathlib.Omega.{arith}
 use lib.ListN.{length, get_or, length-map, get_or-eq_default}
 use Rattle.tables.specs.declared.DeviceRecord.{DeviceRecord}
-use Rattle.tables.specs.Records.{blankDevice}
+use Rattle.tables.specs.Records.{blank_device}
 use Rattle.tables.specs.contracts.DeviceRecord.{the_field as device-field}
 use Rattle.tables.proofs.laying.device_of.Statement.{statement}
 use Rattle.tables.proofs.laying.device_of.Tie as tie
@@ -21,13 +21,13 @@ returns : tie.Need-returns
 returns c =
     let a = c.before.before.args in
     let long : length a.t1.list ≡ 8 = sym (length-map a.t1.list device-field.into) ∙ c.before.before.well-formed.0.1.1.1.0.1.0.1 in
-    within a.t1.list _ blankDevice a.k (omega arith)
+    within a.t1.list _ blank_device a.k (omega arith)
 
 returns-2 : tie.Need-returns-2
 returns-2 c =
     let a = c.before.before.args in
     let long : length a.t1.list ≡ 8 = sym (length-map a.t1.list device-field.into) ∙ c.before.before.well-formed.0.1.1.1.0.1.0.1 in
-    c.blank-device.ensures ∙ sym (get_or-eq_default a.t1.list blankDevice {n = a.k} (omega arith))
+    c.blank-device.ensures ∙ sym (get_or-eq_default a.t1.list blank_device {n = a.k} (omega arith))
 
 pub device-of-spec : {M : Type 1} → statement M
 device-of-spec =

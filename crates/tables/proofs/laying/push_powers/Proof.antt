@@ -6,16 +6,16 @@ use native.Mathlib.Omega.{arith}
 use lib.ListN.{length, length-append}
 use Rattle.tables.specs.declared.File.{File}
 use Rattle.tables.specs.declared.DeviceRecord.{DeviceRecord}
-use Rattle.tables.specs.Records.{powerBytes, powersBytes}
+use Rattle.tables.specs.Records.{power_bytes, powers_bytes}
 use Rattle.tables.specs.inside.Held.{appended}
-use Rattle.tables.proofs.Appending.{appended-count, appended-more}
+use Rattle.tables.proofs.Appending.{appended_count, appended_more}
 use Rattle.tables.proofs.laying.push_powers.Statement.{statement}
 use Rattle.tables.proofs.laying.push_powers.Tie as tie
 
 -- Each has room where all have.
 module _ (d : DeviceRecord) where
   abbrev p : ℕ → ℕ → List ℕ
-  p i power = powerBytes d.levels i power
+  p i power = power_bytes d.levels i power
 
   abbrev p₀ : List ℕ
   p₀ = p 0 d.ps
@@ -29,11 +29,11 @@ module _ (d : DeviceRecord) where
   abbrev p₃ : List ℕ
   p₃ = p 3 d.ps4
 
-  long : length (powersBytes d) ≡ length p₀ + length p₁ + length p₂ + length p₃
+  long : length (powers_bytes d) ≡ length p₀ + length p₁ + length p₂ + length p₃
   long = omega (arith, length-append p₀ (p₁ ++ (p₂ ++ p₃)), length-append p₁ (p₂ ++ p₃), length-append p₂ p₃)
 
   counted : (f g : File) (l : List ℕ) → g ≡ appended f l → g.count ≡ f.count + length l
-  counted f g l e = ap (λ (x : File). x.count) e ∙ appended-count f l
+  counted f g l e = ap (λ (x : File). x.count) e ∙ appended_count f l
 
 push-power-requires : tie.Need-push-power-requires
 push-power-requires c κs = omega (arith, long c.args.d, c.requires)
@@ -60,7 +60,7 @@ returns : tie.Need-returns
 returns c =
     let d = c.before.before.before.before.args.d in
     rw (c.push-power4.ensures, c.before.push-power3.ensures, c.before.before.push-power2.ensures, c.before.before.before.push-power.ensures)
-    (appended-more _ (p₂ d) (p₃ d) ∙ appended-more _ (p₁ d) _ ∙ appended-more _ (p₀ d) _)
+    (appended_more _ (p₂ d) (p₃ d) ∙ appended_more _ (p₁ d) _ ∙ appended_more _ (p₀ d) _)
 
 pub push-powers-spec : {M : Type 1} → statement M
 push-powers-spec =

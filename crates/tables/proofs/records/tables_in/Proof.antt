@@ -7,21 +7,21 @@ use Prim.Native.Nat.{ℕ, ◌-◌, ◌≤◌}
 use lib.ListN.{length, take, drop}
 use Rattle.tables.specs.declared.Kind.{Kind}
 use Rattle.tables.specs.declared.Tables.{Tables}
-use Rattle.tables.specs.Layout.{marker, kind_of, body_of, tablesAs, tables_of}
+use Rattle.tables.specs.Layout.{marker, kind_of, body_of, tables_as, tables_of}
 use Rattle.tables.specs.inside.Held.{Whole}
-use Rattle.base.proofs.Pieces.{part-rest}
-use Rattle.tables.proofs.Back.{mark-fits}
+use Rattle.base.proofs.Pieces.{part_rest}
+use Rattle.tables.proofs.Back.{mark_fits}
 use Rattle.tables.proofs.records.tables_in.Statement.{statement}
 use Rattle.tables.proofs.records.tables_in.Tie as tie
 
 fits : (c : tie.After-marker-size) → c.marker-size.result ≤ length c.before.before.before.args.s.now
-fits c = rw (c.marker-size.ensures, c.before.kind-of.ensures) (mark-fits _)
+fits c = rw (c.marker-size.ensures, c.before.kind-of.ensures) (mark_fits _)
 
 whole_part : (s : List ℕ) (k : Kind) (n : ℕ) → k ≡ kind_of s → n ≡ length (marker k) → Whole (kind_of s) (body_of s) → Whole k (take (length s - n) (drop n s))
-whole_part s k n e m w = rw (part-rest s n, m, e) w
+whole_part s k n e m w = rw (part_rest s n, m, e) w
 
-by-its-own : (s : List ℕ) (k : Kind) (n : ℕ) (r : Tables) → k ≡ kind_of s → n ≡ length (marker k) → r ≡ tablesAs k (take (length s - n) (drop n s)) → r ≡ tables_of s
-by-its-own s k n r e m h = rw (part-rest s n, m, e) at h
+by-its-own : (s : List ℕ) (k : Kind) (n : ℕ) (r : Tables) → k ≡ kind_of s → n ≡ length (marker k) → r ≡ tables_as k (take (length s - n) (drop n s)) → r ≡ tables_of s
+by-its-own s k n r e m h = rw (part_rest s n, m, e) at h
 
 sub-tables-as : tie.Need-overflow-sub-tables-as
 sub-tables-as c = fits c

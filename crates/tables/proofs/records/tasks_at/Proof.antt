@@ -4,13 +4,13 @@ use mathlib.Core.Path.{◌≡◌}
 use Prim.Native.Nat.{ℕ, ◌≤◌, ◌+◌, ◌-◌, ◌*◌}
 use native.Mathlib.Omega.{arith}
 use Rattle.base.specs.Lists.{up_to, padded}
-use Rattle.base.proofs.Arrays.{upTo-fill}
-use Rattle.tables.specs.Records.{taskAt, blankTask}
+use Rattle.base.proofs.Arrays.{up_to_fill}
+use Rattle.tables.specs.Records.{task_at, blank_task}
 use Rattle.tables.proofs.records.tasks_at.Statement.{statement}
 use Rattle.tables.proofs.records.tasks_at.Tie as tie
 
 abbrev invariant-loop : tie.invariant-loop
-invariant-loop s n from list₀ i₀ list i = (i ≤ n) × (list ≡ padded 8 blankTask (up_to (λ x. taskAt s (from + x * 5)) i))
+invariant-loop s n from list₀ i₀ list i = (i ≤ n) × (list ≡ padded 8 blank_task (up_to (λ x. task_at s (from + x * 5)) i))
 
 abbrev decreases-loop : tie.decreases-loop
 decreases-loop s n from list₀ i₀ list i = n - i
@@ -23,7 +23,7 @@ loop-again : tie.Need-loop-preserved invariant-loop decreases-loop
 loop-again c =
     let l = c.before.before.loop in
     let a = c.before.before.before.before.before.args in
-    (omega arith, rw (c.task-at.ensures, l.invariant.1) (upTo-fill 8 blankTask (λ (x : ℕ). taskAt a.s.now (a.from + x * 5)) l.i (omega arith)))
+    (omega arith, rw (c.task-at.ensures, l.invariant.1) (up_to_fill 8 blank_task (λ (x : ℕ). task_at a.s.now (a.from + x * 5)) l.i (omega arith)))
 
 returns : tie.Need-returns invariant-loop decreases-loop
 returns c =

@@ -5,10 +5,10 @@ use native.Mathlib.Omega.{arith}
 use lib.ListN.{length, drop, length-drop}
 use lib.Seq.{drop-drop}
 use Rattle.text.specs.Grammar.{lines_of}
-use Rattle.text.specs.inside.Cursors.{nextLine}
-use Rattle.text.proofs.Scanning.{next-within, next-some, line_first, lines-past}
+use Rattle.text.specs.inside.Cursors.{next_line}
+use Rattle.text.proofs.Scanning.{next_within, next_some, line_first, lines_past}
 use borrow.Author.Rules.{rules}
-use Rattle.base.proofs.Pieces.{part-rest}
+use Rattle.base.proofs.Pieces.{part_rest}
 use Rattle.text.proofs.lines.count_lines.Statement.{statement}
 use Rattle.text.proofs.lines.count_lines.Tie as tie
 
@@ -25,8 +25,8 @@ add_at : tie.Need-overflow-add-at invariant-loop decreases-loop
 add_at c =
     let l = c.before.before.before.loop in
     let s = c.before.before.before.before.before.args.text.now in
-    let e = c.next-line.ensures ∙ ap nextLine (part-rest s l.at) in
-    let within = next-within (drop l.at s) in
+    let e = c.next-line.ensures ∙ ap next_line (part_rest s l.at) in
+    let within = next_within (drop l.at s) in
     let long = length-drop l.at s in
     omega arith
 
@@ -34,8 +34,8 @@ add-count : tie.Need-overflow-add-count invariant-loop decreases-loop
 add-count c =
     let l = c.before.before.before.loop in
     let s = c.before.before.before.before.before.args.text.now in
-    let e = c.next-line.ensures ∙ ap nextLine (part-rest s l.at) in
-    let within = next-within (drop l.at s) in
+    let e = c.next-line.ensures ∙ ap next_line (part_rest s l.at) in
+    let within = next_within (drop l.at s) in
     let long = length-drop l.at s in
     omega arith
 
@@ -43,29 +43,29 @@ loop-less : tie.Need-loop-smaller invariant-loop decreases-loop
 loop-less c =
     let l = c.before.before.before.loop in
     let s = c.before.before.before.before.before.args.text.now in
-    let e = c.next-line.ensures ∙ ap nextLine (part-rest s l.at) in
-    let within = next-within (drop l.at s) in
+    let e = c.next-line.ensures ∙ ap next_line (part_rest s l.at) in
+    let within = next_within (drop l.at s) in
     let long = length-drop l.at s in
-    let some = next-some (drop l.at s) (omega arith) in
+    let some = next_some (drop l.at s) (omega arith) in
     omega arith
 
 loop-again : tie.Need-loop-preserved invariant-loop decreases-loop
 loop-again c =
     let l = c.before.before.before.loop in
     let s = c.before.before.before.before.before.args.text.now in
-    let e = c.next-line.ensures ∙ ap nextLine (part-rest s l.at) in
-    let within = next-within (drop l.at s) in
+    let e = c.next-line.ensures ∙ ap next_line (part_rest s l.at) in
+    let within = next_within (drop l.at s) in
     let long = length-drop l.at s in
-    let some = next-some (drop l.at s) (omega arith) in
+    let some = next_some (drop l.at s) (omega arith) in
     let first = ap length (line_first (drop l.at s) (omega arith)) in
-    let rest = drop-drop (nextLine (drop l.at s)) l.at s in
+    let rest = drop-drop (next_line (drop l.at s)) l.at s in
     (omega arith, omega arith, rw (e, ← rest) (omega arith))
 
 returns : tie.Need-returns invariant-loop decreases-loop
 returns c =
     let l = c.before.loop in
     let s = c.before.before.before.args.text.now in
-    omega (arith, ap length (lines-past s l.at (omega arith)), l.invariant.2)
+    omega (arith, ap length (lines_past s l.at (omega arith)), l.invariant.2)
 
 pub count-lines-spec : {M : Type 1} → statement M
 count-lines-spec =

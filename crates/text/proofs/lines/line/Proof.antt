@@ -6,10 +6,10 @@ use lib.ListN.{length, drop, get_or, length-drop}
 use lib.Seq.{drop-drop}
 use mathlib.Core.List.{[]}
 use Rattle.text.specs.Grammar.{lines_of}
-use Rattle.text.specs.inside.Cursors.{lineLength, nextLine}
-use Rattle.text.proofs.Scanning.{next-within, line-within, line-zero, line-later}
+use Rattle.text.specs.inside.Cursors.{line_length, next_line}
+use Rattle.text.proofs.Scanning.{next_within, line_within, line_zero, line_later}
 use borrow.Author.Rules.{rules}
-use Rattle.base.proofs.Pieces.{part-rest}
+use Rattle.base.proofs.Pieces.{part_rest}
 use Rattle.text.proofs.lines.line.Statement.{statement}
 use Rattle.text.proofs.lines.line.Tie as tie
 
@@ -26,8 +26,8 @@ add_at : tie.Need-overflow-add-at invariant-loop decreases-loop
 add_at c =
     let l = c.before.before.before.loop in
     let s = c.before.before.before.before.before.args.text.now in
-    let e = c.next-line.ensures ∙ ap nextLine (part-rest s l.at) in
-    let within = next-within (drop l.at s) in
+    let e = c.next-line.ensures ∙ ap next_line (part_rest s l.at) in
+    let within = next_within (drop l.at s) in
     let long = length-drop l.at s in
     omega arith
 
@@ -35,21 +35,21 @@ loop-again : tie.Need-loop-preserved invariant-loop decreases-loop
 loop-again c =
     let l = c.before.before.before.loop in
     let s = c.before.before.before.before.before.args.text.now in
-    let e = c.next-line.ensures ∙ ap nextLine (part-rest s l.at) in
-    let within = next-within (drop l.at s) in
+    let e = c.next-line.ensures ∙ ap next_line (part_rest s l.at) in
+    let within = next_within (drop l.at s) in
     let long = length-drop l.at s in
     let k = c.before.before.before.before.before.args.k in
     let one : k - l.i ≡ suc (k - (l.i + 1)) = omega arith in
-    let rest = drop-drop (nextLine (drop l.at s)) l.at s in
-    let later = line-later (drop l.at s) (k - (l.i + 1)) in
+    let rest = drop-drop (next_line (drop l.at s)) l.at s in
+    let later = line_later (drop l.at s) (k - (l.i + 1)) in
     (omega arith, omega arith, rw (e, ← rest) (l.invariant.2 ∙ ap (λ (x : ℕ). get_or (lines_of (drop l.at s)) x []) one ∙ later))
 
 add-end : tie.Need-overflow-add-end invariant-loop decreases-loop
 add-end c =
     let l = c.before.before.before.loop in
     let s = c.before.before.before.before.before.args.text.now in
-    let e = c.line-end.ensures ∙ ap lineLength (part-rest s l.at) in
-    let within = line-within (drop l.at s) in
+    let e = c.line-end.ensures ∙ ap line_length (part_rest s l.at) in
+    let within = line_within (drop l.at s) in
     let long = length-drop l.at s in
     omega arith
 
@@ -57,8 +57,8 @@ sub-result : tie.Need-overflow-sub-result invariant-loop decreases-loop
 sub-result c =
     let l = c.before.before.before.loop in
     let s = c.before.before.before.before.before.args.text.now in
-    let e = c.line-end.ensures ∙ ap lineLength (part-rest s l.at) in
-    let within = line-within (drop l.at s) in
+    let e = c.line-end.ensures ∙ ap line_length (part_rest s l.at) in
+    let within = line_within (drop l.at s) in
     let long = length-drop l.at s in
     omega arith
 
@@ -66,8 +66,8 @@ part-result-end : tie.Need-slice-bounds-result-end invariant-loop decreases-loop
 part-result-end c =
     let l = c.before.before.before.loop in
     let s = c.before.before.before.before.before.args.text.now in
-    let e = c.line-end.ensures ∙ ap lineLength (part-rest s l.at) in
-    let within = line-within (drop l.at s) in
+    let e = c.line-end.ensures ∙ ap line_length (part_rest s l.at) in
+    let within = line_within (drop l.at s) in
     let long = length-drop l.at s in
     omega arith
 
@@ -75,12 +75,12 @@ returns : tie.Need-returns invariant-loop decreases-loop
 returns c =
     let l = c.before.before.before.before.loop in
     let s = c.before.before.before.before.before.before.args.text.now in
-    let e = c.before.line-end.ensures ∙ ap lineLength (part-rest s l.at) in
-    let within = line-within (drop l.at s) in
+    let e = c.before.line-end.ensures ∙ ap line_length (part_rest s l.at) in
+    let within = line_within (drop l.at s) in
     let long = length-drop l.at s in
     let zero : c.before.before.before.before.before.before.args.k - l.i ≡ 0 = omega arith in
-    let size : l.at + c.before.line-end.result - l.at ≡ lineLength (drop l.at s) = omega arith in
-    rw size (sym (l.invariant.2 ∙ ap (λ (x : ℕ). get_or (lines_of (drop l.at s)) x []) zero ∙ line-zero (drop l.at s)))
+    let size : l.at + c.before.line-end.result - l.at ≡ line_length (drop l.at s) = omega arith in
+    rw size (sym (l.invariant.2 ∙ ap (λ (x : ℕ). get_or (lines_of (drop l.at s)) x []) zero ∙ line_zero (drop l.at s)))
 
 pub line-spec : {M : Type 1} → statement M
 line-spec =

@@ -4,14 +4,14 @@ use Prim.Native.Nat.{◌+◌, ◌-◌, ◌≤◌}
 use native.Mathlib.Omega.{arith}
 use lib.ListN.{drop}
 use borrow.Author.Rules.{rules}
-use Rattle.text.specs.inside.Cursors.{lineLength}
-use Rattle.text.proofs.Scanning.{line-stops, line-goes, line-done}
+use Rattle.text.specs.inside.Cursors.{line_length}
+use Rattle.text.proofs.Scanning.{line_stops, line_goes, line_done}
 use Rattle.text.proofs.lines.line_end.Statement.{statement}
 use Rattle.text.proofs.lines.line_end.Tie as tie
 
 -- The line has the bytes so far, and as many as it has from here on.
 abbrev invariant-loop : tie.invariant-loop
-invariant-loop s n i₀ i = (i ≤ n) × (lineLength s ≡ i + lineLength (drop i s))
+invariant-loop s n i₀ i = (i ≤ n) × (line_length s ≡ i + line_length (drop i s))
 
 abbrev decreases-loop : tie.decreases-loop
 decreases-loop s n i₀ i = n - i
@@ -23,19 +23,19 @@ returns : tie.Need-returns invariant-loop decreases-loop
 returns c =
     let l = c.before.before.before.loop in
     let s = c.before.before.before.before.before.args.s.now in
-    omega (arith, line-stops s l.i (omega arith) (sym c.before.is-break.ensures ∙ c.if1.true), l.invariant.1)
+    omega (arith, line_stops s l.i (omega arith) (sym c.before.is-break.ensures ∙ c.if1.true), l.invariant.1)
 
 loop-again : tie.Need-loop-preserved invariant-loop decreases-loop
 loop-again c =
     let l = c.before.before.before.loop in
     let s = c.before.before.before.before.before.args.s.now in
-    (omega arith, omega (arith, line-goes s l.i (omega arith) (sym c.before.is-break.ensures ∙ c.if1.false), l.invariant.1))
+    (omega arith, omega (arith, line_goes s l.i (omega arith) (sym c.before.is-break.ensures ∙ c.if1.false), l.invariant.1))
 
 returns-2 : tie.Need-returns-2 invariant-loop decreases-loop
 returns-2 c =
     let l = c.before.loop in
     let s = c.before.before.before.args.s.now in
-    omega (arith, line-done s l.i (omega arith), l.invariant.1)
+    omega (arith, line_done s l.i (omega arith), l.invariant.1)
 
 pub line-end-spec : {M : Type 1} → statement M
 line-end-spec =

@@ -5,9 +5,9 @@ use Prim.Native.Nat.{ℕ, ◌<◌, ◌+◌, ◌/◌, ◌%◌}
 use native.Mathlib.Omega.{arith}
 use lib.ListN.{length, length-append}
 use borrow.Author.Rules.{rules}
-use Rattle.text.specs.Numerals.{digitsOf}
-use Rattle.text.proofs.Digits.{digits-one, digits_more}
-use Rattle.text.proofs.Puts.{put-more}
+use Rattle.text.specs.Numerals.{digits_of}
+use Rattle.text.proofs.Digits.{digits_one, digits_more}
+use Rattle.text.proofs.Puts.{put_more}
 use borrow.Fn.Kinds.{In}
 use borrow.Fn.PlainCycle.{Measures, is, falls, and}
 use Rattle.text.proofs.putting.put_number.Reads as put-number
@@ -52,7 +52,7 @@ put-number-put-byte-requires : (t : ℕ) → put-number-lts.Need-put-byte-requir
 ) (put-number-at t) put-number.Post
 put-number-put-byte-requires t c κs =
     let start = c.before.before.before in
-    let one = ap length (digits-one start.args.number (omega arith)) in
+    let one = ap length (digits_one start.args.number (omega arith)) in
     omega (arith, start.requires.1)
 
 put-number-same-length : (t : ℕ) → put-number-lts.Need-same-length (
@@ -71,7 +71,7 @@ put-number-returns : (t : ℕ) → put-number-lts.Need-returns (
 ) (put-number-at t) put-number.Post
 put-number-returns t c =
     let a = c.before.before.before.before.before.before.args in
-    rw (digits-one a.number (omega arith)) c.before.before.put_byte.ensures
+    rw (digits_one a.number (omega arith)) c.before.before.put_byte.ensures
 
 put-number-put-number-requires : (t : ℕ) → put-number-lts.Need-put-number-requires (
   put-byte-reads.Asked,
@@ -82,7 +82,7 @@ put-number-put-number-requires : (t : ℕ) → put-number-lts.Need-put-number-re
 put-number-put-number-requires t c κs =
     let start = c.before.before.before in
     let n = start.args.number in
-    let more = ap length (digits_more n (omega arith) (omega arith)) ∙ length-append (digitsOf (n / 10)) ((48 + n % 10) ∷ []) in
+    let more = ap length (digits_more n (omega arith) (omega arith)) ∙ length-append (digits_of (n / 10)) ((48 + n % 10) ∷ []) in
     (omega arith, omega (arith, start.requires.1))
 
 put-number-cast-put-byte-2 : (t : ℕ) → put-number-lts.Need-overflow-cast-put-byte-2 (
@@ -110,7 +110,7 @@ put-number-put-byte-requires-2 : (t : ℕ) → put-number-lts.Need-put-byte-requ
 put-number-put-byte-requires-2 t c κs =
     let start = c.before.before.before.before.before.before.before in
     let n = start.args.number in
-    let more = ap length (digits_more n (omega arith) (omega arith)) ∙ length-append (digitsOf (n / 10)) ((48 + n % 10) ∷ []) in
+    let more = ap length (digits_more n (omega arith) (omega arith)) ∙ length-append (digits_of (n / 10)) ((48 + n % 10) ∷ []) in
     omega (arith, start.requires.1, c.before.before.before.put-number.ensures.next)
 
 put-number-same-length-2 : (t : ℕ) → put-number-lts.Need-same-length-2 (
@@ -131,10 +131,10 @@ put-number-returns-2 t c =
     let start = c.before.before.before.before.before.before.before.before.before.before in
     let n = start.args.number in
     let e = digits_more n (omega arith) (omega arith) in
-    let more = ap length e ∙ length-append (digitsOf (n / 10)) ((48 + n % 10) ∷ []) in
+    let more = ap length e ∙ length-append (digits_of (n / 10)) ((48 + n % 10) ∷ []) in
     let first = c.before.before.before.before.before.before.put-number.ensures in
     let second = c.before.before.put-byte2.ensures in
-    rw e (put-more first second (omega (arith, start.requires.1, first.next, second.next)))
+    rw e (put_more first second (omega (arith, start.requires.1, first.next, second.next)))
 
 pub +put-number-spec : {M : Type 1} → statement M
 +put-number-spec = close μ-put-number λ t. put-number-lts.spec (

@@ -1,7 +1,7 @@
 -- `text::putting::put_four` meets its contract.
 use mathlib.Core.List.{[], ◌∷◌}
 use native.Mathlib.Omega.{arith}
-use Rattle.text.proofs.Puts.{put-more, length_more, line-more}
+use Rattle.text.proofs.Puts.{put_more, length_more, line_more}
 use borrow.Author.Rules.{rules}
 use Rattle.text.proofs.putting.put_four.Statement.{statement}
 use Rattle.text.proofs.putting.put_four.Tie as tie
@@ -25,7 +25,7 @@ returns c =
     let first = c.before.before.before.before.before.before.put-field.ensures in
     let second = c.before.before.put_three.ensures in
     let all = length_more a.a a.b (a.c ∷ a.d ∷ []) in
-    rw (line-more a.a a.b (a.c ∷ a.d ∷ [])) (put-more first second (omega (arith, start.requires, first.next, second.next)))
+    rw (line_more a.a a.b (a.c ∷ a.d ∷ [])) (put_more first second (omega (arith, start.requires, first.next, second.next)))
 
 pub put-four-spec : {M : Type 1} → statement M
 put-four-spec = tie.close (tie.spec put-field-requires put-three-requires (λ c. search rules) returns)

@@ -1,6 +1,6 @@
 -- `text::putting::put_last` meets its contract.
 use native.Mathlib.Omega.{arith}
-use Rattle.text.proofs.Puts.{put-more, length_last, line-last}
+use Rattle.text.proofs.Puts.{put_more, length_last, line_last}
 use borrow.Author.Rules.{rules}
 use Rattle.text.proofs.putting.put_last.Statement.{statement}
 use Rattle.text.proofs.putting.put_last.Tie as tie
@@ -25,7 +25,7 @@ returns c =
     let second = c.before.before.before.before.before.before.put_byte.ensures in
     let third = c.before.before.put-byte2.ensures in
     let long = length_last start.args.number in
-    rw (line-last start.args.number) (put-more (put-more first second (omega (arith, start.requires, first.next, second.next))) third (omega (arith, start.requires, first.next, second.next, third.next)))
+    rw (line_last start.args.number) (put_more (put_more first second (omega (arith, start.requires, first.next, second.next))) third (omega (arith, start.requires, first.next, second.next, third.next)))
 
 pub put-last-spec : {M : Type 1} → statement M
 put-last-spec =

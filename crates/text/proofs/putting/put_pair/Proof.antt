@@ -1,6 +1,6 @@
 -- `text::putting::put_pair` meets its contract.
 use native.Mathlib.Omega.{arith}
-use Rattle.text.proofs.Puts.{put-more}
+use Rattle.text.proofs.Puts.{put_more}
 use borrow.Author.Rules.{rules}
 use Rattle.text.proofs.putting.put_pair.Statement.{statement}
 use Rattle.text.proofs.putting.put_pair.Tie as tie
@@ -9,7 +9,7 @@ put-byte-requires-2 : tie.Need-put-byte-requires-2
 put-byte-requires-2 c κs = omega (arith, c.before.before.before.put_byte.ensures.next)
 
 returns : tie.Need-returns
-returns c = put-more c.before.before.before.before.before.before.put_byte.ensures c.before.before.put-byte2.ensures (omega arith)
+returns c = put_more c.before.before.before.before.before.before.put_byte.ensures c.before.before.put-byte2.ensures (omega arith)
 
 pub put-pair-spec : {M : Type 1} → statement M
 put-pair-spec =

@@ -1,7 +1,7 @@
 -- `text::putting::put_three` meets its contract.
 use mathlib.Core.List.{[], ◌∷◌}
 use native.Mathlib.Omega.{arith}
-use Rattle.text.proofs.Puts.{put-more, length_more, line-more}
+use Rattle.text.proofs.Puts.{put_more, length_more, line_more}
 use borrow.Author.Rules.{rules}
 use Rattle.text.proofs.putting.put_three.Statement.{statement}
 use Rattle.text.proofs.putting.put_three.Tie as tie
@@ -33,8 +33,8 @@ returns c =
     let third = c.before.before.put_last.ensures in
     let all = length_more a.a a.b (a.c ∷ []) in
     let two = length_more a.b a.c [] in
-    let rest = put-more second third (omega (arith, start.requires, first.next, second.next, third.next)) in
-    rw (line-more a.a a.b (a.c ∷ []), line-more a.b a.c []) (put-more first rest (omega (arith, start.requires, first.next, second.next, third.next)))
+    let rest = put_more second third (omega (arith, start.requires, first.next, second.next, third.next)) in
+    rw (line_more a.a a.b (a.c ∷ []), line_more a.b a.c []) (put_more first rest (omega (arith, start.requires, first.next, second.next, third.next)))
 
 pub put-three-spec : {M : Type 1} → statement M
 put-three-spec =

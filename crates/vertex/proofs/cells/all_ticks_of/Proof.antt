@@ -6,12 +6,12 @@ use borrow.Author.Rules.{rules}
 use Rattle.base.specs.Sums.{sum}
 use Rattle.base.proofs.Additions.{sum_more}
 use Rattle.schedule.specs.Visiting.{ticks}
-use Rattle.flat.specs.inside.Flat.{recorderOf}
+use Rattle.flat.specs.inside.Flat.{recorder_of}
 use Rattle.vertex.proofs.cells.all_ticks_of.Statement.{statement}
 use Rattle.vertex.proofs.cells.all_ticks_of.Tie as tie
 
 abbrev invariant-loop : tie.invariant-loop
-invariant-loop r k n made₀ j₀ made j = (j ≤ n) × (n ≤ 16) × (made ≡ sum j (ticks (recorderOf r) k)) × (made ≤ 65535 * j)
+invariant-loop r k n made₀ j₀ made j = (j ≤ n) × (n ≤ 16) × (made ≡ sum j (ticks (recorder_of r) k)) × (made ≤ 65535 * j)
 
 abbrev decreases-loop : tie.decreases-loop
 decreases-loop r k n made₀ j₀ made j = n - j
@@ -27,7 +27,7 @@ add-sum c = omega (arith, c.ticks-of.ensures.1)
 
 loop-again : tie.Need-loop-preserved invariant-loop decreases-loop
 loop-again c =
-    let R = recorderOf c.before.before.before.before.before.before.args.r.now in
+    let R = recorder_of c.before.before.before.before.before.before.args.r.now in
     let k = c.before.before.before.before.before.before.args.k in
     let l = c.before.before.before.before.loop in
     let here : c.ticks-of.result ≡ ticks R k l.j = rw (← c.before.before.is-used.ensures, ← c.before.run_of.ensures) c.ticks-of.ensures.0 in

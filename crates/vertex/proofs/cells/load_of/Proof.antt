@@ -6,12 +6,12 @@ use borrow.Author.Rules.{rules}
 use Rattle.base.specs.Sums.{sum}
 use Rattle.base.proofs.Additions.{sum_more}
 use Rattle.schedule.specs.Quantities.{run}
-use Rattle.flat.specs.inside.Flat.{recorderOf}
+use Rattle.flat.specs.inside.Flat.{recorder_of}
 use Rattle.vertex.proofs.cells.load_of.Statement.{statement}
 use Rattle.vertex.proofs.cells.load_of.Tie as tie
 
 abbrev invariant-loop : tie.invariant-loop
-invariant-loop r n load₀ j₀ load j = (j ≤ n) × (n ≤ 16) × (load ≡ sum j (run (recorderOf r))) × (load ≤ 65535 * j)
+invariant-loop r n load₀ j₀ load j = (j ≤ n) × (n ≤ 16) × (load ≡ sum j (run (recorder_of r))) × (load ≤ 65535 * j)
 
 abbrev decreases-loop : tie.decreases-loop
 decreases-loop r n load₀ j₀ load j = n - j
@@ -24,7 +24,7 @@ add-load c = omega (arith, c.wide.ensures.1)
 
 loop-again : tie.Need-loop-preserved invariant-loop decreases-loop
 loop-again c =
-    let R = recorderOf c.before.before.before.before.before.args.r.now in
+    let R = recorder_of c.before.before.before.before.before.args.r.now in
     let l = c.before.before.before.loop in
     (omega arith, l.invariant.1, omega (arith, (c.wide.ensures.0 ∙ c.before.run_of.ensures), l.invariant.2, sum_more l.j (run R)), omega (arith, c.wide.ensures.1))
 

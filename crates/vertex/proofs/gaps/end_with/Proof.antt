@@ -7,10 +7,10 @@ use Rattle.vertex.proofs.gaps.end_with.Statement.{statement}
 use Rattle.vertex.proofs.gaps.end_with.Tie as tie
 
 is-used-requires : tie.Need-is-used-requires
-is-used-requires c κs = (omega (arith, c.before.requires.1.0, c.before.requires.0.valid.few-devices), c.before.requires.1.1.0)
+is-used-requires c κs = (omega (arith, c.before.requires.1.0, c.before.requires.0.valid.few_devices), c.before.requires.1.1.0)
 
 add-chosen : tie.Need-overflow-add-chosen
-add-chosen c = let s = c.before.before.before.before in omega (arith, s.requires.1.1.1.1.1.0, s.requires.1.1.1.1.1.1, s.requires.0.valid.few-ticks)
+add-chosen c = let s = c.before.before.before.before in omega (arith, s.requires.1.1.1.1.1.0, s.requires.1.1.1.1.1.1, s.requires.0.valid.few_ticks)
 
 -- The first use begins before the last ends, and that by the horizon.
 within : (u z : Bool) (s c e f h : ℕ) → f ≤ e → e ≤ s → s + c ≤ h → (cond u (cond z s f) f ≤ cond u (s + c) e) × (cond u (s + c) e ≤ h)

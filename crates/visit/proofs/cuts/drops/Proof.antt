@@ -4,7 +4,7 @@ use Prim.Native.Nat.{ℕ, suc, ◌+◌, ◌-◌}
 use native.Mathlib.Omega.{arith}
 use borrow.Author.Rules.{rules}
 use Rattle.schedule.specs.Quantities.{deadline, run}
-use Rattle.flat.specs.inside.Flat.{recorderOf}
+use Rattle.flat.specs.inside.Flat.{recorder_of}
 use Rattle.visit.specs.inside.Lent.{Added}
 use Rattle.visit.proofs.cuts.drops.Statement.{statement}
 use Rattle.visit.proofs.cuts.drops.Tie as tie
@@ -17,7 +17,7 @@ returns c =
     let a = w.before.before.args in
     let run_is = w.wide.ensures.0 ∙ w.before.run_of.ensures in
     let due-is = d.wide2.ensures.0 ∙ d.before.deadline-of.ensures in
-    let same : k.lessened.result ≡ suc (deadline (recorderOf a.r.now) a.j.0) - (a.start + run (recorderOf a.r.now) a.j.0) = omega (arith, k.lessened.ensures, run_is, due-is) in
+    let same : k.lessened.result ≡ suc (deadline (recorder_of a.r.now) a.j.0) - (a.start + run (recorder_of a.r.now) a.j.0) = omega (arith, k.lessened.ensures, run_is, due-is) in
     subst (λ (n : ℕ). Added a.budget n a.tally.now c.add-count.new.0 c.add-count.result) same c.add-count.ensures
 
 pub drops-spec : {M : Type 1} → statement M

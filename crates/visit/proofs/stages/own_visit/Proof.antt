@@ -1,11 +1,11 @@
 -- `visit::stages::own_visit` meets its contract.
 use borrow.Author.Rules.{rules}
-use Rattle.visit.proofs.Finding.{lends-clear, getD-zeros}
+use Rattle.visit.proofs.Finding.{lends_clear, get_d_zeros}
 use Rattle.visit.proofs.stages.own_visit.Statement.{statement}
 use Rattle.visit.proofs.stages.own_visit.Tie as tie
 
 whole-visit-requires : tie.Need-whole-visit-requires
-whole-visit-requires c κs = let s = c.before.before.before in (lends-clear _ _ _ s.requires.0 (getD-zeros 12288), s.requires.1)
+whole-visit-requires c κs = let s = c.before.before.before in (lends_clear _ _ _ s.requires.0 (get_d_zeros 12288), s.requires.1)
 
 returns : tie.Need-returns
 returns c = c.before.whole-visit.ensures.1

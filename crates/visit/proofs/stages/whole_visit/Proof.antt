@@ -1,6 +1,6 @@
 -- `visit::stages::whole_visit` meets its contract.
 use borrow.Author.Rules.{rules}
-use Rattle.visit.proofs.Rooted.{came-ran}
+use Rattle.visit.proofs.Rooted.{came_ran}
 use Rattle.visit.proofs.stages.whole_visit.Statement.{statement}
 use Rattle.visit.proofs.stages.whole_visit.Tie as tie
 
@@ -20,7 +20,7 @@ returns : tie.Need-returns
 returns c =
     let v = c.before.before.before.before in
     let b = v.before.before.before in
-    (v.root-visit.ensures.0, came-ran _ _ _ _ _ _ (v.root-visit.ensures.1 b.before.before.before.before.args.stop b.begin.ensures.1.1.1) c.is-over.ensures)
+    (v.root-visit.ensures.0, came_ran _ _ _ _ _ _ (v.root-visit.ensures.1 b.before.before.before.before.args.stop b.begin.ensures.1.1.1) c.is-over.ensures)
 
 pub whole-visit-spec : {M : Type 1} → statement M
 whole-visit-spec =

@@ -6,14 +6,14 @@ use Prim.Native.Nat.{ℕ}
 use lib.Dec.{eqb}
 use borrow.Author.Rules.{rules}
 use borrow.Author.Tests.{not-true, not-false}
-use Rattle.visit.specs.inside.Lent.{energyAt, stop_at, Over, goes, alone, told}
+use Rattle.visit.specs.inside.Lent.{energy_at, stop_at, Over, goes, alone, told}
 use Rattle.visit.proofs.tally.is_over.Statement.{statement}
 use Rattle.visit.proofs.tally.is_over.Tie as tie
 
 over-goes : (l : List ℕ) (b : Bool) → b ≡ false → Over l b false
 over-goes l b e = rw e goes
 
-over-told : (l : List ℕ) (b : Bool) → b ≡ true → stop_at l ≡ 1 → Over l b (eqb (energyAt l) 4294967295)
+over-told : (l : List ℕ) (b : Bool) → b ≡ true → stop_at l ≡ 1 → Over l b (eqb (energy_at l) 4294967295)
 over-told l b e q = rw e (told q _ refl)
 
 over-alone : (l : List ℕ) (b : Bool) → b ≡ true → (stop_at l ≡ 1 → ⊥) → Over l b true

@@ -2,10 +2,10 @@ use mathlib.Core.Path.{◌≡◌, refl, sym, ap, ◌∙◌, subst}
 use Prim.Native.Nat.{ℕ, suc, ◌+◌, ◌-◌, ◌*◌, ◌≤◌, ◌<◌, ◌/◌, ◌^◌, max}
 use native.Mathlib.Omega.{arith}
 use borrow.Author.Rules.{rules}
-use Rattle.flat.specs.inside.Flat.{recorderOf}
+use Rattle.flat.specs.inside.Flat.{recorder_of}
 use Rattle.extras.specs.inside.Tabled.{cap_at}
 use Rattle.recall.specs.inside.Asks.{Asks}
-use Rattle.visit.proofs.Remembering.{added-comes, added-kept, seen-lends, asked-comes}
+use Rattle.visit.proofs.Remembering.{added_comes, added_kept, seen_lends, asked_comes}
 use mathlib.Core.Bool.{Bool, false}
 use mathlib.Core.Logic.{inl, inr, ⊎_elim}
 use mathlib.Core.List.{List, ◌∷◌}
@@ -16,16 +16,16 @@ use Rattle.base.specs.Lists.{up_from}
 use Rattle.schedule.specs.Quantities.{jobs, release, deadline, run}
 use Rattle.schedule.specs.Visiting.{Vertex, Visited, counted, child, starts, earliest}
 use Rattle.schedule.specs.Visiting as order
-use Rattle.visit.specs.inside.Stops.{visitBy}
+use Rattle.visit.specs.inside.Stops.{visit_by}
 use Rattle.latest.specs.inside.Sets.{members, size_of}
-use Rattle.latest.proofs.Tabled.{power-next}
+use Rattle.latest.proofs.Tabled.{power_next}
 use Rattle.vertex.proofs.Lasting.{bit_is}
-use Rattle.vertex.proofs.Showing.{jobs-shown, job-in, load-shown, ticks-shown}
-use Rattle.visit.specs.inside.Lent.{countAt, energyAt, Lends, Tells, Stands, Starts, Tries}
-use Rattle.visit.proofs.Visits.{jobWalk, choices-grow}
-use Rattle.visit.proofs.Telling.{counted-less, noted-less, offered-less}
-use Rattle.visit.proofs.Going.{came-done, start-steady, job-steady, Going, going-from, going-as, going_end, going_next, going-over, up_next, members-one, members-not, members-over, going-rest}
-use Rattle.visit.proofs.Entering.{Cuts, starts-of, starts-known, starts-end, starts-ordered, cuts-less, cuts-at, from-small, load-room, tries_of, visit-over, tells_more, visit-drops, visit-enters, bit-room, size_room, enters-of, left-some, enters-small, enters-noted, enters-complete, stands-child, enters-came, starts-dropped}
+use Rattle.vertex.proofs.Showing.{jobs_shown, job_in_lem, load_shown, ticks_shown}
+use Rattle.visit.specs.inside.Lent.{count_at, energy_at, Lends, Tells, Stands, Starts, Tries}
+use Rattle.visit.proofs.Visits.{job_walk, choices_grow}
+use Rattle.visit.proofs.Telling.{counted_less, noted_less, offered_less}
+use Rattle.visit.proofs.Going.{came_done, start_steady, job_steady, Going, going_from, going_as, going_end, going_next, going_over, up_next, members_one, members_not, members_over, going_rest}
+use Rattle.visit.proofs.Entering.{Cuts, starts_of_lem, starts_known, starts_end, starts_ordered, cuts_less, cuts_at, from_small, load_room, tries_of, visit_over, tells_more, visit_drops, visit_enters, bit_room, size_room, enters_of, left_some, enters_small, enters_noted, enters_complete, stands_child, enters_came, starts_dropped}
 use Rattle.vertex.proofs.gaps.lead_of.Reads as lead-of-reads
 use borrow.Fn.Kinds.{In}
 use borrow.Fn.PlainCycle.{Measures, is, falls, and}
@@ -173,18 +173,18 @@ below-add-count-requires t c κs =
 below-returns-2 : (t : ℕ) → below-lts.Need-returns-2 (below-calls t) (below_at t) below.Post
 below-returns-2 t c =
     let s = c.before.before.before.before.before.before.before.before.before.before.before.before in
-    let R = recorderOf s.args.r.now in
+    let R = recorder_of s.args.r.now in
     let asks = subst (λ (x : ℕ). Asks R (cap_at s.args.extras.now) s.args.v.now s.args.set s.args.time x c.before.before.before.before.ask.result) c.before.before.before.before.before.before.slack-of.ensures c.before.before.before.before.ask.ensures in (
-      (s.requires.1.0, added-kept R s.requires.1.1.1.stop s.args.budget _ _ _ _ s.requires.1.1.1.tells.long c.add-count.ensures),
-      λ stop m u st h q w. added-comes R stop s.args.budget _ _ _ _ c.add-count.ensures u st _
-          (asked-comes R stop s.args.budget s.args.extras.now s.args.v.now s.args.set s.args.from s.args.time c.before.before.before.before.ask.result s.args.tally.now asks
+      (s.requires.1.0, added_kept R s.requires.1.1.1.stop s.args.budget _ _ _ _ s.requires.1.1.1.tells.long c.add-count.ensures),
+      λ stop m u st h q w. added_comes R stop s.args.budget _ _ _ _ c.add-count.ensures u st _
+          (asked_comes R stop s.args.budget s.args.extras.now s.args.v.now s.args.set s.args.from s.args.time c.before.before.before.before.ask.result s.args.tally.now asks
           s.requires.1.1.0 c.before.before.if2.true m u h q st w) w,
     )
 
 below-learn-requires : (t : ℕ) → below-lts.Need-learn-requires (below-calls t) (below_at t) below.Post
 below-learn-requires t c κs =
     let s = c.before.before.before.before.before.before.before.before.before.before.before.before in
-    let R = recorderOf s.args.r.now in
+    let R = recorder_of s.args.r.now in
     let asks = subst (λ (x : ℕ). Asks R (cap_at s.args.extras.now) s.args.v.now s.args.set s.args.time x c.before.before.before.before.ask.result) c.before.before.before.before.before.before.slack-of.ensures c.before.before.before.before.ask.ensures in
     (omega arith, (s.requires.1.0, (s.requires.1.1.0, (asks, s.requires.1.1.1))))
 
@@ -193,10 +193,10 @@ below-returns-3 t c = c.before.before.learn.ensures
 
 abbrev choices-Inv-loop : choices-lts.invariant-loop
 choices-Inv-loop r extras memory₀ v tally₀ budget set from time n dues rest₀ p₀ j₀ memory tally rest p j =
-    (j ≤ n) × (p ≡ 2 ^ j) × (rest ≡ set / 2 ^ j) × (length tally ≡ 35) × (energyAt tally ≤ energyAt tally₀)
-    × ((stop : Bool) (m : ℕ) (u : Vertex) (st : Visited) → Stands (recorderOf r) v set from m u → u.time ≡ time → Tells (recorderOf r) stop budget tally₀ u st
-    → Going (recorderOf r) stop budget u (jobWalk (recorderOf r) stop m u) tally (members j (n - j) rest) (order.choices (recorderOf r) (visitBy (recorderOf r) stop m) u st))
-    × Lends (recorderOf r) extras memory × (length memory ≡ length memory₀)
+    (j ≤ n) × (p ≡ 2 ^ j) × (rest ≡ set / 2 ^ j) × (length tally ≡ 35) × (energy_at tally ≤ energy_at tally₀)
+    × ((stop : Bool) (m : ℕ) (u : Vertex) (st : Visited) → Stands (recorder_of r) v set from m u → u.time ≡ time → Tells (recorder_of r) stop budget tally₀ u st
+    → Going (recorder_of r) stop budget u (job_walk (recorder_of r) stop m u) tally (members j (n - j) rest) (order.choices (recorder_of r) (visit_by (recorder_of r) stop m) u st))
+    × Lends (recorder_of r) extras memory × (length memory ≡ length memory₀)
 
 abbrev choices-μ-loop : choices-lts.decreases-loop
 choices-μ-loop r extras memory₀ v tally₀ budget set from time n dues rest₀ p₀ j₀ memory tally rest p j = n - j
@@ -208,7 +208,7 @@ choices-loop-holds : (t : ℕ) → choices-lts.Need-loop-init (choices-calls t) 
 unfolding order.choices
 choices-loop-holds t c =
     let s = c.before.before.before.before in
-    let R = recorderOf s.args.r.now in
+    let R = recorder_of s.args.r.now in
     let all : jobs R ≡ c.before.job-count.result - 0 = omega (arith, c.before.job-count.ensures) in (
       omega arith,
       refl,
@@ -216,8 +216,8 @@ choices-loop-holds t c =
       s.requires.1.1.tells.long,
       le_refl _,
       (λ stop m u st stands time tells.
-          going-as R stop s.args.budget u (jobWalk R stop m u) s.args.tally.now u.unplaced _ _ (sym (jobs-shown R s.requires.1.0.tabled.valid _ _ _ u stands.shows) ∙ ap (λ (n : ℕ). members 0 n s.args.set) all)
-          (going-from R stop s.args.budget u (jobWalk R stop m u) s.args.tally.now u.unplaced st tells)),
+          going_as R stop s.args.budget u (job_walk R stop m u) s.args.tally.now u.unplaced _ _ (sym (jobs_shown R s.requires.1.0.tabled.valid _ _ _ u stands.shows) ∙ ap (λ (n : ℕ). members 0 n s.args.set) all)
+          (going_from R stop s.args.budget u (job_walk R stop m u) s.args.tally.now u.unplaced st tells)),
       s.requires.1.0,
       refl,
     )
@@ -233,27 +233,27 @@ choices-tries-requires t c κs =
 choices-returns : (t : ℕ) → choices-lts.Need-returns (choices-calls t) (choices-at t) choices.Post choices-Inv-loop choices-μ-loop
 choices-returns t c =
     let s = c.before.before.before.before.before.before.before.before.before.before.before.before.before in
-    let R = recorderOf s.args.r.now in
+    let R = recorder_of s.args.r.now in
     let l = c.before.before.before.before.before.before.before.before.loop in
     let e = c.before.before.before.tries in
     let first : (stop : Bool) (m : ℕ) (u : Vertex) (st : Visited) → Stands R s.args.v.now s.args.set s.args.from m u → u.time ≡ s.args.time → Tells R stop s.args.budget s.args.tally.now u st
-    → Going R stop s.args.budget u (jobWalk R stop m u) l.tally (l.j ∷ members (l.j + 1) (c.before.before.before.before.before.before.before.before.before.before.job-count.result - (l.j + 1)) (l.rest / 2)) (order.choices R (visitBy R stop m) u st)
-    = λ stop m u st a b d. going-as R stop _ u _ _ _ _ _ (members-one l.j _ l.rest c.before.before.before.before.before.before.before.loop-test.true c.before.before.before.before.before.before.if1.true) (l.invariant.5 stop m u st a b d) in (
+    → Going R stop s.args.budget u (job_walk R stop m u) l.tally (l.j ∷ members (l.j + 1) (c.before.before.before.before.before.before.before.before.before.before.job-count.result - (l.j + 1)) (l.rest / 2)) (order.choices R (visit_by R stop m) u st)
+    = λ stop m u st a b d. going_as R stop _ u _ _ _ _ _ (members_one l.j _ l.rest c.before.before.before.before.before.before.before.loop-test.true c.before.before.before.before.before.before.if1.true) (l.invariant.5 stop m u st a b d) in (
       (e.ensures.0.0, (e.ensures.0.1.0, omega (arith, e.ensures.0.1.1, l.invariant.4))),
       λ stop m u st stands time tells.
           let g = first stop m u st stands time tells in
-          going-over R stop _ u (jobWalk R stop m u) _ _ _ _ g _ _ (e.ensures.1 stop m u g.state stands time g.tells) (job-steady R stop _ m u) c.if2.true,
+          going_over R stop _ u (job_walk R stop m u) _ _ _ _ g _ _ (e.ensures.1 stop m u g.state stands time g.tells) (job_steady R stop _ m u) c.if2.true,
     )
 
 choices-mul-p : (t : ℕ) → choices-lts.Need-overflow-mul-p (choices-calls t) (choices-at t) choices.Post choices-Inv-loop choices-μ-loop
 choices-mul-p t c =
     let l = c.before.before.loop in
-    omega (arith, l.invariant.1, power-next l.j (omega (arith, c.before.loop-test.true, c.before.before.before.before.job-count.ensures, c.before.before.before.before.before.before.before.requires.1.0.tabled.valid.few-jobs)))
+    omega (arith, l.invariant.1, power_next l.j (omega (arith, c.before.loop-test.true, c.before.before.before.before.job-count.ensures, c.before.before.before.before.before.before.before.requires.1.0.tabled.valid.few_jobs)))
 
 choices-loop-again : (t : ℕ) → choices-lts.Need-loop-preserved (choices-calls t) (choices-at t) choices.Post choices-Inv-loop choices-μ-loop
 choices-loop-again t c =
     let s = c.before.before.before.before.before.before.before in
-    let R = recorderOf s.args.r.now in
+    let R = recorder_of s.args.r.now in
     let l = c.before.before.loop in
     let n = c.before.before.before.before.job-count.result in
     let test = c.before.loop-test.true in
@@ -263,11 +263,11 @@ choices-loop-again t c =
       rw (add-one l.j) (omega (arith, l.invariant.1)),
       rw l.invariant.2 (halved _ _),
       ap length w.8 ∙ w.3.ensures.0.1.0,
-      omega (arith, ap energyAt w.8, w.3.ensures.0.1.1, l.invariant.4),
+      omega (arith, ap energy_at w.8, w.3.ensures.0.1.1, l.invariant.4),
       (λ stop m u st stands time tells.
-          let g = going-as R stop s.args.budget u (jobWalk R stop m u) l.tally _ _ _ (members-one l.j n l.rest test w.0.taken) (l.invariant.5 stop m u st stands time tells) in
-          subst (λ (x : List ℕ). Going R stop s.args.budget u (jobWalk R stop m u) x (members (l.j + 1) (n - (l.j + 1)) (l.rest / 2)) (order.choices R (visitBy R stop m) u st)) (sym w.8)
-          (going_next R stop s.args.budget u (jobWalk R stop m u) l.tally _ _ _ g _ _ (w.3.ensures.1 stop m u g.state stands time g.tells) w.6.left)),
+          let g = going_as R stop s.args.budget u (job_walk R stop m u) l.tally _ _ _ (members_one l.j n l.rest test w.0.taken) (l.invariant.5 stop m u st stands time tells) in
+          subst (λ (x : List ℕ). Going R stop s.args.budget u (job_walk R stop m u) x (members (l.j + 1) (n - (l.j + 1)) (l.rest / 2)) (order.choices R (visit_by R stop m) u st)) (sym w.8)
+          (going_next R stop s.args.budget u (job_walk R stop m u) l.tally _ _ _ g _ _ (w.3.ensures.1 stop m u g.state stands time g.tells) w.6.left)),
       rw w.7 w.3.ensures.0.0,
       omega (arith, ap length w.7, l.invariant.7),
     ))
@@ -276,10 +276,10 @@ choices-loop-again t c =
       rw (add-one l.j) (omega (arith, l.invariant.1)),
       rw l.invariant.2 (halved _ _),
       ap length w.2 ∙ l.invariant.3,
-      omega (arith, ap energyAt w.2, l.invariant.4),
+      omega (arith, ap energy_at w.2, l.invariant.4),
       (λ stop m u st stands time tells.
-          subst (λ (x : List ℕ). Going R stop s.args.budget u (jobWalk R stop m u) x (members (l.j + 1) (n - (l.j + 1)) (l.rest / 2)) (order.choices R (visitBy R stop m) u st)) (sym w.2)
-          (going-as R stop s.args.budget u (jobWalk R stop m u) l.tally _ _ _ (members-not l.j n l.rest test w.0.left) (l.invariant.5 stop m u st stands time tells))),
+          subst (λ (x : List ℕ). Going R stop s.args.budget u (job_walk R stop m u) x (members (l.j + 1) (n - (l.j + 1)) (l.rest / 2)) (order.choices R (visit_by R stop m) u st)) (sym w.2)
+          (going_as R stop s.args.budget u (job_walk R stop m u) l.tally _ _ _ (members_not l.j n l.rest test w.0.left) (l.invariant.5 stop m u st stands time tells))),
       rw w.1 l.invariant.6,
       omega (arith, ap length w.1, l.invariant.7),
     ))
@@ -291,58 +291,58 @@ choices-same-length-2 t c = c.before.loop.invariant.7
 choices-returns-2 : (t : ℕ) → choices-lts.Need-returns-2 (choices-calls t) (choices-at t) choices.Post choices-Inv-loop choices-μ-loop
 choices-returns-2 t c =
     let s = c.before.before.before.before.before.before in
-    let R = recorderOf s.args.r.now in
+    let R = recorder_of s.args.r.now in
     let l = c.before.loop in (
       (l.invariant.6, (l.invariant.3, l.invariant.4)),
       λ stop m u st stands time tells.
-          going_end R stop s.args.budget u (jobWalk R stop m u) l.tally _ (going-as R stop s.args.budget u (jobWalk R stop m u) l.tally _ _ _ (members-over l.j _ l.rest (omega (arith, c.loop-test.false))) (l.invariant.5 stop m u st stands time tells)),
+          going_end R stop s.args.budget u (job_walk R stop m u) l.tally _ (going_as R stop s.args.budget u (job_walk R stop m u) l.tally _ _ _ (members_over l.j _ l.rest (omega (arith, c.loop-test.false))) (l.invariant.5 stop m u st stands time tells)),
     )
 
 -- The start is noted.
 enter-tells :
-    (t : ℕ) (c : enter-lts.After-note (enter-calls t) (enter-at t) enter.Post) → let s = c.before.before.before.before in let R = recorderOf s.args.r.now in
+    (t : ℕ) (c : enter-lts.After-note (enter-calls t) (enter-at t) enter.Post) → let s = c.before.before.before.before in let R = recorder_of s.args.r.now in
     let o = s.requires.1.1.1 in Tells R o.stop s.args.budget c.note.new.0 (child R o.vertex s.args.j.0 s.args.s) o.state
 enter-tells t c =
     let s = c.before.before.before.before in
     let o = s.requires.1.1.1 in
     let x = s.requires.1.0.tabled in
-    enters-noted (recorderOf s.args.r.now) x.valid x.narrow _ _ _ _ _ _ _ _ _ o.holds _ _ o.tells _ c.note.ensures
+    enters_noted (recorder_of s.args.r.now) x.valid x.narrow _ _ _ _ _ _ _ _ _ o.holds _ _ o.tells _ c.note.ensures
 
 enter-note-requires : (t : ℕ) → enter-lts.Need-note-requires (enter-calls t) (enter-at t) enter.Post
 enter-note-requires t c κs =
     let s = c.before.before.before in
     let o = s.requires.1.1.1 in
     let x = s.requires.1.0.tabled in
-    (o.tells.long, (starts-known (recorderOf s.args.r.now) x.valid x.narrow _ _ _ _ o.holds.starts o.holds.shows.reached).1)
+    (o.tells.long, (starts_known (recorder_of s.args.r.now) x.valid x.narrow _ _ _ _ o.holds.starts o.holds.shows.reached).1)
 
 enter-end-of-requires : (t : ℕ) → enter-lts.Need-end-of-requires (enter-calls t) (enter-at t) enter.Post
 enter-end-of-requires t c κs =
     let s = c.before.before.before.before.before in
     let o = s.requires.1.1.1 in
     let x = s.requires.1.0.tabled in
-    let R = recorderOf s.args.r.now in
-    (x, ((starts-known R x.valid x.narrow _ _ _ _ o.holds.starts o.holds.shows.reached).1, (starts-ordered R x.valid x.narrow _ _ _ _ _ _ o.holds.shows o.holds.starts, starts-end R x.valid x.narrow _ _ _ _ o.holds.starts o.holds.shows.reached)))
+    let R = recorder_of s.args.r.now in
+    (x, ((starts_known R x.valid x.narrow _ _ _ _ o.holds.starts o.holds.shows.reached).1, (starts_ordered R x.valid x.narrow _ _ _ _ _ _ o.holds.shows o.holds.starts, starts_end R x.valid x.narrow _ _ _ _ o.holds.starts o.holds.shows.reached)))
 
 enter-add-e : (t : ℕ) → enter-lts.Need-overflow-add-e (enter-calls t) (enter-at t) enter.Post
 enter-add-e t c =
     let s = c.before.before.before.before.before.before in
     let x = s.requires.1.0.tabled in
-    omega (arith, c.end_of_lem.ensures.1, enters-small (recorderOf s.args.r.now) x.valid x.narrow false 0 _ _ _ _ _ _ _ s.requires.1.1.1.holds)
+    omega (arith, c.end_of_lem.ensures.1, enters_small (recorder_of s.args.r.now) x.valid x.narrow false 0 _ _ _ _ _ _ _ s.requires.1.1.1.holds)
 
 enter-offer-requires : (t : ℕ) → enter-lts.Need-offer-requires (enter-calls t) (enter-at t) enter.Post
 enter-offer-requires t c κs =
     let n = c.before.before.before in
-    (noted-less n.before.before.before.before.args.tally.now _ n.before.before.before.before.args.j.0 n.before.before.before.before.args.s n.before.before.before.before.requires.1.1.1.tells.long n.note.ensures).0
+    (noted_less n.before.before.before.before.args.tally.now _ n.before.before.before.before.args.j.0 n.before.before.before.before.args.s n.before.before.before.before.requires.1.1.1.tells.long n.note.ensures).0
 
 -- The tally that the complete vertex was offered to.
 enter-offered :
     (t : ℕ) (c : enter-lts.After-offer (enter-calls t) (enter-at t) enter.Post) → let n = c.before.before.before.before in
-    (length c.offer.new.0 ≡ 35) × (energyAt c.offer.new.0 ≤ energyAt n.before.before.before.before.args.tally.now)
+    (length c.offer.new.0 ≡ 35) × (energy_at c.offer.new.0 ≤ energy_at n.before.before.before.before.args.tally.now)
 enter-offered t c =
     let n = c.before.before.before.before in
     let s = n.before.before.before.before in
-    let q = noted-less s.args.tally.now _ s.args.j.0 s.args.s s.requires.1.1.1.tells.long n.note.ensures in
-    let k = offered-less _ _ _ q.0 c.offer.ensures in
+    let q = noted_less s.args.tally.now _ s.args.j.0 s.args.s s.requires.1.1.1.tells.long n.note.ensures in
+    let k = offered_less _ _ _ q.0 c.offer.ensures in
     (k.0, omega (arith, k.1, q.1))
 
 enter-stops-requires : (t : ℕ) → enter-lts.Need-stops-requires (enter-calls t) (enter-at t) enter.Post
@@ -353,13 +353,13 @@ enter-returns t c =
     let o = c.before.before in
     let n = o.before.before.before.before in
     let s = n.before.before.before.before in
-    let R = recorderOf s.args.r.now in
+    let R = recorder_of s.args.r.now in
     let x = s.requires.1.0.tabled in
     let e = o.before.before.end_of_lem in
-    let few = enters-small R x.valid x.narrow false 0 _ _ _ _ _ _ _ s.requires.1.1.1.holds in (
+    let few = enters_small R x.valid x.narrow false 0 _ _ _ _ _ _ _ s.requires.1.1.1.holds in (
       (s.requires.1.0, enter-offered t o),
       λ stop m u st enters tells.
-          enters-complete R x.valid x.narrow _ _ _ _ _ _ _ _ _ enters o.before.before.before.if1.true _ _ _ st (enters-noted R x.valid x.narrow _ _ _ _ _ _ _ _ _ enters _ st tells _ n.note.ensures) (ap (λ (y : ℕ). s.args.floor + y) e.ensures.0) (omega (arith, e.ensures.1, few)) o.offer.ensures _ c.stops.ensures,
+          enters_complete R x.valid x.narrow _ _ _ _ _ _ _ _ _ enters o.before.before.before.if1.true _ _ _ st (enters_noted R x.valid x.narrow _ _ _ _ _ _ _ _ _ enters _ st tells _ n.note.ensures) (ap (λ (y : ℕ). s.args.floor + y) e.ensures.0) (omega (arith, e.ensures.1, few)) o.offer.ensures _ c.stops.ensures,
     )
 
 enter-place-requires : (t : ℕ) → enter-lts.Need-place-requires (enter-calls t) (enter-at t) enter.Post
@@ -367,24 +367,24 @@ enter-place-requires t c κs =
     let s = c.before.before.before.before.before.before.before in
     let o = s.requires.1.1.1 in
     let x = s.requires.1.0.tabled in
-    let R = recorderOf s.args.r.now in
+    let R = recorder_of s.args.r.now in
     let h = o.holds.shows in
     let i = o.holds.starts.job in
-    (x.valid, (h.long, ((starts-known R x.valid x.narrow _ _ _ _ o.holds.starts h.reached).1, (omega (arith, starts-end R x.valid x.narrow _ _ _ _ o.holds.starts h.reached, x.valid.few-ticks), (load-shown R x.valid _ _ _ _ h _ i, ticks-shown R x.valid _ _ _ _ h _ i)))))
+    (x.valid, (h.long, ((starts_known R x.valid x.narrow _ _ _ _ o.holds.starts h.reached).1, (omega (arith, starts_end R x.valid x.narrow _ _ _ _ o.holds.starts h.reached, x.valid.few_ticks), (load_shown R x.valid _ _ _ _ h _ i, ticks_shown R x.valid _ _ _ _ h _ i)))))
 
 enter-run-of-requires : (t : ℕ) → enter-lts.Need-run-of-requires (enter-calls t) (enter-at t) enter.Post
 enter-run-of-requires t c κs =
     let s = c.before.before.before.before.before.before.before.before in
     let o = s.requires.1.1.1 in
     let x = s.requires.1.0.tabled in
-    (starts-known (recorderOf s.args.r.now) x.valid x.narrow _ _ _ _ o.holds.starts o.holds.shows.reached).1
+    (starts_known (recorder_of s.args.r.now) x.valid x.narrow _ _ _ _ o.holds.starts o.holds.shows.reached).1
 
 enter-add-time : (t : ℕ) → enter-lts.Need-overflow-add-time (enter-calls t) (enter-at t) enter.Post
 enter-add-time t c =
     let s = c.before.before.before.before.before.before.before.before.before.before in
     let o = s.requires.1.1.1 in
     let x = s.requires.1.0.tabled in
-    omega (arith, c.wide.ensures.0 ∙ c.before.run_of.ensures, starts-end (recorderOf s.args.r.now) x.valid x.narrow _ _ _ _ o.holds.starts o.holds.shows.reached, x.valid.few-ticks)
+    omega (arith, c.wide.ensures.0 ∙ c.before.run_of.ensures, starts_end (recorder_of s.args.r.now) x.valid x.narrow _ _ _ _ o.holds.starts o.holds.shows.reached, x.valid.few_ticks)
 
 enter-below-requires : (t : ℕ) → enter-lts.Need-below-requires (enter-calls t) (enter-at t) enter.Post
 enter-below-requires t c κs =
@@ -392,20 +392,20 @@ enter-below-requires t c κs =
     let n = c.before.before.before.before.before.before.before.before.before in
     let o = s.requires.1.1.1 in
     let x = s.requires.1.0.tabled in
-    let R = recorderOf s.args.r.now in
-    let k = left-some R x.valid x.narrow false 0 _ _ _ _ _ _ _ o.holds c.before.before.before.before.before.before.before.before.if1.false in (
+    let R = recorder_of s.args.r.now in
+    let k = left_some R x.valid x.narrow false 0 _ _ _ _ _ _ _ o.holds c.before.before.before.before.before.before.before.before.if1.false in (
       omega arith,
       (
         s.requires.1.0,
         (
-          omega (arith, s.requires.1.1.0, (noted-less s.args.tally.now _ s.args.j.0 s.args.s o.tells.long n.note.ensures).1),
+          omega (arith, s.requires.1.1.0, (noted_less s.args.tally.now _ s.args.j.0 s.args.s o.tells.long n.note.ensures).1),
           record {
             stop = o.stop;
             left = k.0;
             vertex = child R o.vertex s.args.j.0 s.args.s;
             state = o.state;
-            holds = (stands-child R x.valid x.narrow false 0 _ _ _ _ _ _ _ o.holds _ c.before.before.before.before.before.place.ensures k.0 k.1, ap (λ (y : ℕ). s.args.s + y) (sym (c.before.before.before.wide.ensures.0 ∙ c.before.before.before.before.run_of.ensures)));
-            tells = enters-noted R x.valid x.narrow _ _ _ _ _ _ _ _ _ o.holds _ _ o.tells _ n.note.ensures;
+            holds = (stands_child R x.valid x.narrow false 0 _ _ _ _ _ _ _ o.holds _ c.before.before.before.before.before.place.ensures k.0 k.1, ap (λ (y : ℕ). s.args.s + y) (sym (c.before.before.before.wide.ensures.0 ∙ c.before.before.before.before.run_of.ensures)));
+            tells = enters_noted R x.valid x.narrow _ _ _ _ _ _ _ _ _ o.holds _ _ o.tells _ n.note.ensures;
           },
         ),
       ),
@@ -416,16 +416,16 @@ enter-returns-2 t c =
     let s = c.before.before.before.before.before.before.before.before.before.before.before.before.before.before.before.before in
     let n = c.before.before.before.before.before.before.before.before.before.before.before.before in
     let x = s.requires.1.0.tabled in
-    let R = recorderOf s.args.r.now in
+    let R = recorder_of s.args.r.now in
     let e = c.before.before.below in
-    let q = noted-less s.args.tally.now _ s.args.j.0 s.args.s s.requires.1.1.1.tells.long n.note.ensures in (
+    let q = noted_less s.args.tally.now _ s.args.j.0 s.args.s s.requires.1.1.1.tells.long n.note.ensures in (
       (e.ensures.0.0, (e.ensures.0.1.0, omega (arith, e.ensures.0.1.1, q.1))),
       λ stop m u st enters tells.
-          let k = left-some R x.valid x.narrow false 0 _ _ _ _ _ _ _ enters c.before.before.before.before.before.before.before.before.before.before.before.if1.false in
-          enters-came R x.valid x.narrow _ _ _ _ _ _ _ _ _ enters k.0 k.1 _ st _
-          (e.ensures.1 stop k.0 (child R u s.args.j.0 s.args.s) st (stands-child R x.valid x.narrow false 0 _ _ _ _ _ _ _ enters _ c.before.before.before.before.before.before.before.before.place.ensures k.0 k.1)
+          let k = left_some R x.valid x.narrow false 0 _ _ _ _ _ _ _ enters c.before.before.before.before.before.before.before.before.before.before.before.if1.false in
+          enters_came R x.valid x.narrow _ _ _ _ _ _ _ _ _ enters k.0 k.1 _ st _
+          (e.ensures.1 stop k.0 (child R u s.args.j.0 s.args.s) st (stands_child R x.valid x.narrow false 0 _ _ _ _ _ _ _ enters _ c.before.before.before.before.before.before.before.before.place.ensures k.0 k.1)
           (ap (λ (y : ℕ). s.args.s + y) (sym (c.before.before.before.before.before.before.wide.ensures.0 ∙ c.before.before.before.before.before.before.before.run_of.ensures)))
-          (enters-noted R x.valid x.narrow _ _ _ _ _ _ _ _ _ enters _ st tells _ n.note.ensures)),
+          (enters_noted R x.valid x.narrow _ _ _ _ _ _ _ _ _ enters _ st tells _ n.note.ensures)),
     )
 
 learn-element-copy-out-before : (t : ℕ) → learn-lts.Need-element-copy-out-before (learn-calls t) (learn-at t) learn.Post
@@ -448,29 +448,29 @@ learn-element-copy-out-keep t c = omega (arith, c.before.before.before.before.be
 -- The count was not cut short, and the tally tells what was seen.
 learn-tells :
     (t : ℕ) (c : learn-lts.Then1 (learn-calls t) (learn-at t) learn.Post) → let e = c.before.before.before.before.before in
-    let s = e.before.before.before.before.before.before.before in let R = recorderOf s.args.r.now in let w = s.requires.1.1.1.1 in
-    Tells R w.stop s.args.budget e.choices.new.1.1.1.1.0 w.vertex (order.choices R (visitBy R w.stop w.left) w.vertex w.state)
+    let s = e.before.before.before.before.before.before.before in let R = recorder_of s.args.r.now in let w = s.requires.1.1.1.1 in
+    Tells R w.stop s.args.budget e.choices.new.1.1.1.1.0 w.vertex (order.choices R (visit_by R w.stop w.left) w.vertex w.state)
 learn-tells t c =
     let e = c.before.before.before.before.before in
     let s = e.before.before.before.before.before.before.before in
     let w = s.requires.1.1.1.1 in
-    came-done _ _ _ _ _ _ _ (e.choices.ensures.1 w.stop w.left w.vertex w.state w.holds.0 w.holds.1 w.tells) (c.before.is_whole.ensures c.if1.true).0
+    came_done _ _ _ _ _ _ _ (e.choices.ensures.1 w.stop w.left w.vertex w.state w.holds.0 w.holds.1 w.tells) (c.before.is_whole.ensures c.if1.true).0
 
 learn-sub-keep : (t : ℕ) → learn-lts.Need-overflow-sub-keep (learn-calls t) (learn-at t) learn.Post
 learn-sub-keep t c =
     let s = c.before.before.before.before.before.before.before.before.before.before.before.before.before.before in
     let w = s.requires.1.1.1.1 in
-    omega (arith, w.tells.count, (learn-tells t c.before.before).count, choices-grow (recorderOf s.args.r.now) w.stop w.left w.vertex w.state)
+    omega (arith, w.tells.count, (learn-tells t c.before.before).count, choices_grow (recorder_of s.args.r.now) w.stop w.left w.vertex w.state)
 
 learn-returns : (t : ℕ) → learn-lts.Need-returns (learn-calls t) (learn-at t) learn.Post
 learn-returns t c =
     let k = c.before.before.before.before.before in
     let e = k.before.before.before.before.before in
     let s = e.before.before.before.before.before.before.before in
-    let R = recorderOf s.args.r.now in
+    let R = recorder_of s.args.r.now in
     let w = s.requires.1.1.1.1 in (
       (
-        seen-lends R w.stop s.args.budget s.args.extras.now _ s.args.v.now e.choices.ensures.0.0 s.args.set s.args.from s.args.time s.args.asked s.args.tally.now _
+        seen_lends R w.stop s.args.budget s.args.extras.now _ s.args.v.now e.choices.ensures.0.0 s.args.set s.args.from s.args.time s.args.asked s.args.tally.now _
             s.requires.1.1.1.0 s.requires.1.1.0 w.left w.vertex w.holds.0 w.holds.1 w.state w.tells (learn-tells t k) (k.before.is_whole.ensures k.if1.true).1 _ refl (omega (arith, (learn-tells t k).count, (learn-tells t k).within, s.ranges.budget)) _
             c.before.before.keep.ensures,
         e.choices.ensures.0.1,
@@ -485,50 +485,50 @@ learn-returns-2 t c = c.before.before.before.before.before.choices.ensures
 
 abbrev tries-Inv-loop : tries-lts.invariant-loop
 tries-Inv-loop r extras memory₀ v tally₀ budget set p from time j cut₀ s₀ memory tally cut s =
-    (s₀ ≤ s) × (length tally ≡ 35) × (energyAt tally ≤ energyAt tally₀) × Cuts (recorderOf r) v (energyAt tally) from j.0 cut₀ cut × (cut ≤ cut₀)
-    × ((stop : Bool) (m : ℕ) (u : Vertex) (st : Visited) → Stands (recorderOf r) v set from m u → u.time ≡ time → Tells (recorderOf r) stop budget tally₀ u st
-    → Going (recorderOf r) stop budget u (λ (x : ℕ). visitBy (recorderOf r) stop m (child (recorderOf r) u j.0 x)) tally (up_from s (suc (deadline (recorderOf r) j.0) - (s + run (recorderOf r) j.0))) (jobWalk (recorderOf r) stop m u j.0 st))
-    × (s ≤ 65536) × Lends (recorderOf r) extras memory × (length memory ≡ length memory₀)
+    (s₀ ≤ s) × (length tally ≡ 35) × (energy_at tally ≤ energy_at tally₀) × Cuts (recorder_of r) v (energy_at tally) from j.0 cut₀ cut × (cut ≤ cut₀)
+    × ((stop : Bool) (m : ℕ) (u : Vertex) (st : Visited) → Stands (recorder_of r) v set from m u → u.time ≡ time → Tells (recorder_of r) stop budget tally₀ u st
+    → Going (recorder_of r) stop budget u (λ (x : ℕ). visit_by (recorder_of r) stop m (child (recorder_of r) u j.0 x)) tally (up_from s (suc (deadline (recorder_of r) j.0) - (s + run (recorder_of r) j.0))) (job_walk (recorder_of r) stop m u j.0 st))
+    × (s ≤ 65536) × Lends (recorder_of r) extras memory × (length memory ≡ length memory₀)
 
 abbrev tries-μ-loop : tries-lts.decreases-loop
 tries-μ-loop r extras memory₀ v tally₀ budget set p from time j cut₀ s₀ memory tally cut s = 65536 - s
 
 -- From where on the starts are looked at.
-tries-from : (t : ℕ) (c : tries-lts.After-larger (tries-calls t) (tries-at t) tries.Post tries-Inv-loop tries-μ-loop) → let a = c.before.before.before.before.before.before.args in c.larger.result ≡ max a.time (release (recorderOf a.r.now) a.j.0)
+tries-from : (t : ℕ) (c : tries-lts.After-larger (tries-calls t) (tries-at t) tries.Post tries-Inv-loop tries-μ-loop) → let a = c.before.before.before.before.before.before.args in c.larger.result ≡ max a.time (release (recorder_of a.r.now) a.j.0)
 tries-from t c = c.larger.ensures ∙ ap (max _) (c.before.wide.ensures.0 ∙ c.before.before.release-of.ensures)
 
 -- The start at hand meets the deadline.
-tries-due : (t : ℕ) (c : tries-lts.In-loop (tries-calls t) (tries-at t) tries.Post tries-Inv-loop tries-μ-loop) → let a = c.before.before.before.before.before.before.before.before.args in let R = recorderOf a.r.now in
+tries-due : (t : ℕ) (c : tries-lts.In-loop (tries-calls t) (tries-at t) tries.Post tries-Inv-loop tries-μ-loop) → let a = c.before.before.before.before.before.before.before.before.args in let R = recorder_of a.r.now in
     c.before.loop.s + run R a.j.0 ≤ deadline R a.j.0
-tries-due t c = omega (arith, c.loop-test.true, c.before.loop.invariant.4, c.before.before.before.before.before.first-cut.ensures)
+tries-due t c = omega (arith, c.loop-test.true, c.before.loop.invariant.4, c.before.before.before.before.before.first_cut.ensures)
 
 -- It is one of the job's.
 tries-starts :
     (t : ℕ) (c : tries-lts.In-loop (tries-calls t) (tries-at t) tries.Post tries-Inv-loop tries-μ-loop) → let a = c.before.before.before.before.before.before.before.before.args in
-    (m : ℕ) (u : Vertex) → Stands (recorderOf a.r.now) a.v.now a.set a.from m u → u.time ≡ a.time → Starts (recorderOf a.r.now) u a.j.0 c.before.loop.s
+    (m : ℕ) (u : Vertex) → Stands (recorder_of a.r.now) a.v.now a.set a.from m u → u.time ≡ a.time → Starts (recorder_of a.r.now) u a.j.0 c.before.loop.s
 tries-starts t c m u stands time =
     let l = c.before in
     let s = l.before.before.before.before.before.before.before in
     let x = s.requires.1.0.tabled in
-    starts-of (recorderOf s.args.r.now) x.valid x.narrow _ _ _ m u _ _ _ _ _ _ stands time s.requires.1.1.0 s.requires.1.1.1.0 (tries-from t l.before) l.loop.invariant.0 refl refl (tries-due t c)
+    starts_of_lem (recorder_of s.args.r.now) x.valid x.narrow _ _ _ m u _ _ _ _ _ _ stands time s.requires.1.1.0 s.requires.1.1.1.0 (tries-from t l.before) l.loop.invariant.0 refl refl (tries-due t c)
 
 tries-first-cut-requires : (t : ℕ) → tries-lts.Need-first-cut-requires (tries-calls t) (tries-at t) tries.Post tries-Inv-loop tries-μ-loop
 tries-first-cut-requires t c κs =
     let s = c.before.before in
     let x = s.requires.1.0.tabled in
-    let R = recorderOf s.args.r.now in
+    let R = recorder_of s.args.r.now in
     let o = s.requires.1.1.1.1.1.1 in
     let stands = o.holds.0 in
-    (x.valid, (omega (arith, s.requires.1.1.0, x.valid.few-jobs), (load-shown R x.valid _ _ _ _ stands.shows _ (job-in R x.valid _ _ _ _ stands.shows _ s.requires.1.1.0 s.requires.1.1.1.0), load-room R x.valid x.narrow _ _ _ _ _ stands)))
+    (x.valid, (omega (arith, s.requires.1.1.0, x.valid.few_jobs), (load_shown R x.valid _ _ _ _ stands.shows _ (job_in_lem R x.valid _ _ _ _ stands.shows _ s.requires.1.1.0 s.requires.1.1.1.0), load_room R x.valid x.narrow _ _ _ _ _ stands)))
 
 tries-release-of-requires : (t : ℕ) → tries-lts.Need-release-of-requires (tries-calls t) (tries-at t) tries.Post tries-Inv-loop tries-μ-loop
-tries-release-of-requires t c κs = omega (arith, c.before.before.before.requires.1.1.0, c.before.before.before.requires.1.0.tabled.valid.few-jobs)
+tries-release-of-requires t c κs = omega (arith, c.before.before.before.requires.1.1.0, c.before.before.before.requires.1.0.tabled.valid.few_jobs)
 
 tries-loop-holds : (t : ℕ) → tries-lts.Need-loop-init (tries-calls t) (tries-at t) tries.Post tries-Inv-loop tries-μ-loop
 unfolding starts
 tries-loop-holds t c =
     let s = c.before.before.before.before.before.before in
-    let R = recorderOf s.args.r.now in
+    let R = recorder_of s.args.r.now in
     let j = s.args.j.0 in
     let o = s.requires.1.1.1.1.1.1 in (
       le_refl _,
@@ -537,10 +537,10 @@ tries-loop-holds t c =
       (λ t a b. inl a),
       le_refl _,
       (λ stop m u st stands time tells.
-          going-as R stop s.args.budget u (λ (x : ℕ). visitBy R stop m (child R u j x)) s.args.tally.now (starts R u.time j) _ _
+          going_as R stop s.args.budget u (λ (x : ℕ). visit_by R stop m (child R u j x)) s.args.tally.now (starts R u.time j) _ _
           (rw (time, ← tries-from t c))
-          (going-from R stop s.args.budget u (λ (x : ℕ). visitBy R stop m (child R u j x)) s.args.tally.now (starts R u.time j) st tells)),
-      omega (arith, c.larger.ensures, c.before.wide.ensures.1, o.holds.1, o.holds.0.shows.reached.time, s.requires.1.0.tabled.valid.few-ticks),
+          (going_from R stop s.args.budget u (λ (x : ℕ). visit_by R stop m (child R u j x)) s.args.tally.now (starts R u.time j) st tells)),
+      omega (arith, c.larger.ensures, c.before.wide.ensures.1, o.holds.1, o.holds.0.shows.reached.time, s.requires.1.0.tabled.valid.few_ticks),
       s.requires.1.0,
       refl,
     )
@@ -549,15 +549,15 @@ tries-lead-of-requires : (t : ℕ) → tries-lts.Need-lead-of-requires (tries-ca
 tries-lead-of-requires t c κs =
     let s = c.before.before.before.before.before.before.before.before in
     let x = s.requires.1.0.tabled in
-    let R = recorderOf s.args.r.now in
+    let R = recorder_of s.args.r.now in
     let o = s.requires.1.1.1.1.1.1 in
-    (x, (omega (arith, s.requires.1.1.0, x.valid.few-jobs), starts-ordered R x.valid x.narrow _ _ _ _ _ _ o.holds.0.shows (tries-starts t c _ _ o.holds.0 o.holds.1)))
+    (x, (omega (arith, s.requires.1.1.0, x.valid.few_jobs), starts_ordered R x.valid x.narrow _ _ _ _ _ _ o.holds.0.shows (tries-starts t c _ _ o.holds.0 o.holds.1)))
 
 tries-add-floor : (t : ℕ) → tries-lts.Need-overflow-add-floor (tries-calls t) (tries-at t) tries.Post tries-Inv-loop tries-μ-loop
 tries-add-floor t c =
     let s = c.before.before.before.before.before.before.before.before.before in
     let x = s.requires.1.0.tabled in
-    omega (arith, c.lead-of.ensures.1, from-small (recorderOf s.args.r.now) x.valid x.narrow _ _ _ _ _ s.requires.1.1.1.1.1.1.holds.0)
+    omega (arith, c.lead-of.ensures.1, from_small (recorder_of s.args.r.now) x.valid x.narrow _ _ _ _ _ s.requires.1.1.1.1.1.1.holds.0)
 
 tries-element-copy-out-cut-at : (t : ℕ) → tries-lts.Need-element-copy-out-cut-at (tries-calls t) (tries-at t) tries.Post tries-Inv-loop tries-μ-loop
 tries-element-copy-out-cut-at t c = omega (arith, c.before.before.loop.invariant.1)
@@ -566,35 +566,35 @@ tries-cut-at-requires : (t : ℕ) → tries-lts.Need-cut-at-requires (tries-call
 tries-cut-at-requires t c κs =
     let s = c.before.before.before.before.before.before.before.before.before.before in
     let x = s.requires.1.0.tabled in
-    let R = recorderOf s.args.r.now in
+    let R = recorder_of s.args.r.now in
     let o = s.requires.1.1.1.1.1.1 in
-    (x, (from-small R x.valid x.narrow _ _ _ _ _ o.holds.0, (omega (arith, s.requires.1.1.0, x.valid.few-jobs), starts-ordered R x.valid x.narrow _ _ _ _ _ _ o.holds.0.shows (tries-starts t c.before.before _ _ o.holds.0 o.holds.1))))
+    (x, (from_small R x.valid x.narrow _ _ _ _ _ o.holds.0, (omega (arith, s.requires.1.1.0, x.valid.few_jobs), starts_ordered R x.valid x.narrow _ _ _ _ _ _ o.holds.0.shows (tries-starts t c.before.before _ _ o.holds.0 o.holds.1))))
 
 -- From where on all are dropped.
 tries-cuts :
     (t : ℕ) (c : tries-lts.After-cut-at (tries-calls t) (tries-at t) tries.Post tries-Inv-loop tries-μ-loop) → let l = c.before.before.before.before in
-    let a = l.before.before.before.before.before.before.before.args in let R = recorderOf a.r.now in let x = l.before.before.before.before.first-cut.result in
-    Cuts R a.v.now (energyAt l.loop.tally) a.from a.j.0 x c.cut_at.result × (c.cut_at.result ≤ x)
+    let a = l.before.before.before.before.before.before.before.args in let R = recorder_of a.r.now in let x = l.before.before.before.before.first_cut.result in
+    Cuts R a.v.now (energy_at l.loop.tally) a.from a.j.0 x c.cut_at.result × (c.cut_at.result ≤ x)
 tries-cuts t c =
     let l = c.before.before.before.before in
     let s = l.before.before.before.before.before.before.before in
     let x = s.requires.1.0.tabled in
-    cuts-at (recorderOf s.args.r.now) x.valid x.narrow _ _ _ _ _ _ _ _ s.requires.1.1.0 l.loop.invariant.3 c.before.before.before.loop-test.true l.loop.invariant.4 c.cut_at.ensures
+    cuts_at (recorder_of s.args.r.now) x.valid x.narrow _ _ _ _ _ _ _ _ s.requires.1.1.0 l.loop.invariant.3 c.before.before.before.loop-test.true l.loop.invariant.4 c.cut_at.ensures
 
 -- What is asked of the start at hand.
 tries-tries :
     (t : ℕ) (c : tries-lts.After-cut-at (tries-calls t) (tries-at t) tries.Post tries-Inv-loop tries-μ-loop) → let l = c.before.before.before.before in
-    let a = l.before.before.before.before.before.before.before.args in let R = recorderOf a.r.now in
+    let a = l.before.before.before.before.before.before.before.args in let R = recorder_of a.r.now in
     (m : ℕ) (u : Vertex) → Stands R a.v.now a.set a.from m u → u.time ≡ a.time
-    → Tries R a.v.now (energyAt l.loop.tally) a.set a.from c.cut_at.result (a.from + c.before.before.lead-of.result) a.j.0 l.loop.s m u
+    → Tries R a.v.now (energy_at l.loop.tally) a.set a.from c.cut_at.result (a.from + c.before.before.lead-of.result) a.j.0 l.loop.s m u
 tries-tries t c m u stands time =
     let l = c.before.before.before.before in
     let s = l.before.before.before.before.before.before.before in
     let x = s.requires.1.0.tabled in
-    let R = recorderOf s.args.r.now in
+    let R = recorder_of s.args.r.now in
     let o = tries-starts t c.before.before.before m u stands time in
     let k = tries-cuts t c in
-    tries_of R x.valid x.narrow _ _ _ m u stands _ o.job _ s.requires.1.1.1.1.1.0 _ l.before.before.before.before.first-cut.ensures _ o _ _ _ k.0 k.1
+    tries_of R x.valid x.narrow _ _ _ m u stands _ o.job _ s.requires.1.1.1.1.1.0 _ l.before.before.before.before.first_cut.ensures _ o _ _ _ k.0 k.1
     (ap (λ (y : ℕ). s.args.from + y) c.before.before.lead-of.ensures.0)
 
 tries-visit-requires : (t : ℕ) → tries-lts.Need-visit-requires (tries-calls t) (tries-at t) tries.Post tries-Inv-loop tries-μ-loop
@@ -609,26 +609,26 @@ tries-visit-requires t c κs =
 -- The walk with the start at hand in front.
 tries-first :
     (t : ℕ) (c : tries-lts.After-cut-at (tries-calls t) (tries-at t) tries.Post tries-Inv-loop tries-μ-loop) → let l = c.before.before.before.before in
-    let a = l.before.before.before.before.before.before.before.args in let R = recorderOf a.r.now in
+    let a = l.before.before.before.before.before.before.before.args in let R = recorder_of a.r.now in
     (stop : Bool) (m : ℕ) (u : Vertex) (st : Visited) → Stands R a.v.now a.set a.from m u → u.time ≡ a.time → Tells R stop a.budget a.tally.now u st
-    → Going R stop a.budget u (λ (x : ℕ). visitBy R stop m (child R u a.j.0 x)) l.loop.tally
-    (l.loop.s ∷ up_from (l.loop.s + 1) (suc (deadline R a.j.0) - (l.loop.s + 1 + run R a.j.0))) (jobWalk R stop m u a.j.0 st)
+    → Going R stop a.budget u (λ (x : ℕ). visit_by R stop m (child R u a.j.0 x)) l.loop.tally
+    (l.loop.s ∷ up_from (l.loop.s + 1) (suc (deadline R a.j.0) - (l.loop.s + 1 + run R a.j.0))) (job_walk R stop m u a.j.0 st)
 tries-first t c stop m u st stands time tells =
     let l = c.before.before.before.before in
     let a = l.before.before.before.before.before.before.before.args in
-    going-as (recorderOf a.r.now) stop a.budget u _ l.loop.tally _ _ _ (up_next l.loop.s _ _ (tries-due t c.before.before.before)) (l.loop.invariant.5 stop m u st stands time tells)
+    going_as (recorder_of a.r.now) stop a.budget u _ l.loop.tally _ _ _ (up_next l.loop.s _ _ (tries-due t c.before.before.before)) (l.loop.invariant.5 stop m u st stands time tells)
 
 tries-returns : (t : ℕ) → tries-lts.Need-returns (tries-calls t) (tries-at t) tries.Post tries-Inv-loop tries-μ-loop
 tries-returns t c =
     let k = c.before.before.before.before.before.before in
     let l = k.before.before.before.before in
     let a = l.before.before.before.before.before.before.before.args in
-    let R = recorderOf a.r.now in
+    let R = recorder_of a.r.now in
     let e = c.before.before.before.visit in (
       (e.ensures.0.0, (e.ensures.0.1.0, omega (arith, e.ensures.0.1.1, l.loop.invariant.2))),
       λ stop m u st stands time tells.
           let g = tries-first t k stop m u st stands time tells in
-          going-over R stop a.budget u (λ (x : ℕ). visitBy R stop m (child R u a.j.0 x)) l.loop.tally _ _ _ g _ _ (e.ensures.1 stop m u g.state (tries-tries t k m u stands time) g.tells) (start-steady R stop _ m u a.j.0) c.if1.true,
+          going_over R stop a.budget u (λ (x : ℕ). visit_by R stop m (child R u a.j.0 x)) l.loop.tally _ _ _ g _ _ (e.ensures.1 stop m u g.state (tries-tries t k m u stands time) g.tells) (start_steady R stop _ m u a.j.0) c.if1.true,
     )
 
 tries-add-s : (t : ℕ) → tries-lts.Need-overflow-add-s (tries-calls t) (tries-at t) tries.Post tries-Inv-loop tries-μ-loop
@@ -641,7 +641,7 @@ tries-early : (t : ℕ) (c : tries-lts.In-loop (tries-calls t) (tries-at t) trie
 tries-early t c =
     let s = c.before.before.before.before.before.before.before.before in
     let x = s.requires.1.0.tabled in
-    omega (arith, tries-due t c, x.valid.ends s.args.j.0 s.requires.1.1.0, x.valid.few-ticks)
+    omega (arith, tries-due t c, x.valid.ends s.args.j.0 s.requires.1.1.0, x.valid.few_ticks)
 
 tries-loop-less : (t : ℕ) → tries-lts.Need-loop-smaller (tries-calls t) (tries-at t) tries.Post tries-Inv-loop tries-μ-loop
 tries-loop-less t c =
@@ -654,17 +654,17 @@ tries-loop-again t c =
     let s = l.before.before.before.before.before.before.before in
     let a = s.args in
     let x = s.requires.1.0.tabled in
-    let R = recorderOf a.r.now in
+    let R = recorder_of a.r.now in
     let e = c.before.before.before.visit in
     let q = tries-cuts t k in (
       omega (arith, l.loop.invariant.0),
       e.ensures.0.1.0,
       omega (arith, e.ensures.0.1.1, l.loop.invariant.2),
-      cuts-less R x.valid x.narrow _ _ _ _ _ _ _ e.ensures.0.1.1 q.0,
+      cuts_less R x.valid x.narrow _ _ _ _ _ _ _ e.ensures.0.1.1 q.0,
       q.1,
       (λ stop m u st stands time tells.
           let g = tries-first t k stop m u st stands time tells in
-          going_next R stop a.budget u (λ (x : ℕ). visitBy R stop m (child R u a.j.0 x)) l.loop.tally _ _ _ g _ _ (e.ensures.1 stop m u g.state (tries-tries t k m u stands time) g.tells) c.if1.false),
+          going_next R stop a.budget u (λ (x : ℕ). visit_by R stop m (child R u a.j.0 x)) l.loop.tally _ _ _ g _ _ (e.ensures.1 stop m u g.state (tries-tries t k m u stands time) g.tells) c.if1.false),
       omega (arith, tries-early t k.before.before.before),
       e.ensures.0.0,
       omega arith,
@@ -673,7 +673,7 @@ tries-loop-again t c =
 -- What is left starts no earlier than the job may.
 tries-after :
     (t : ℕ) (c : tries-lts.At-loop (tries-calls t) (tries-at t) tries.Post tries-Inv-loop tries-μ-loop) → let a = c.before.before.before.before.before.before.before.args in
-    (u : Vertex) → u.time ≡ a.time → earliest (recorderOf a.r.now) u.time a.j.0 ≤ c.loop.s
+    (u : Vertex) → u.time ≡ a.time → earliest (recorder_of a.r.now) u.time a.j.0 ≤ c.loop.s
 tries-after t c u time = omega (arith, time, tries-from t c.before, c.loop.invariant.0)
 
 tries-drops-requires : (t : ℕ) → tries-lts.Need-drops-requires (tries-calls t) (tries-at t) tries.Post tries-Inv-loop tries-μ-loop
@@ -682,7 +682,7 @@ tries-drops-requires t c κs =
     let s = l.before.before.before.before.before.before.before in
     let o = s.requires.1.1.1.1.1.1 in
     let g = l.loop.invariant.5 o.stop o.left o.vertex o.state o.holds.0 o.holds.1 o.tells in
-    (omega (arith, s.requires.1.1.0, s.requires.1.0.tabled.valid.few-jobs), (l.loop.invariant.6, (l.loop.invariant.1, omega (arith, g.tells.count, g.tells.within))))
+    (omega (arith, s.requires.1.1.0, s.requires.1.0.tabled.valid.few_jobs), (l.loop.invariant.6, (l.loop.invariant.1, omega (arith, g.tells.count, g.tells.within))))
 
 tries-returns-2 : (t : ℕ) → tries-lts.Need-returns-2 (tries-calls t) (tries-at t) tries.Post tries-Inv-loop tries-μ-loop
 tries-returns-2 t c =
@@ -691,14 +691,14 @@ tries-returns-2 t c =
     let s = l.before.before.before.before.before.before.before in
     let a = s.args in
     let x = s.requires.1.0.tabled in
-    let R = recorderOf a.r.now in
-    let kept = added-kept R false a.budget _ _ _ _ l.loop.invariant.1 e.ensures in (
+    let R = recorder_of a.r.now in
+    let kept = added_kept R false a.budget _ _ _ _ l.loop.invariant.1 e.ensures in (
       (l.loop.invariant.7, (kept.0, omega (arith, kept.1, l.loop.invariant.2))),
       λ stop m u st stands time tells.
           let g = l.loop.invariant.5 stop m u st stands time tells in
-          going-rest R stop a.budget u (λ (y : ℕ). visitBy R stop m (child R u a.j.0 y)) l.loop.tally _ _ g _ _
-          (added-comes R stop a.budget _ _ _ _ e.ensures u g.state _
-          (starts-dropped R x.valid x.narrow _ _ _ m u stands _ (job-in R x.valid _ _ _ u stands.shows _ s.requires.1.1.0 s.requires.1.1.1.0) _ s.requires.1.1.1.1.1.0 _ l.before.before.before.before.first-cut.ensures
+          going_rest R stop a.budget u (λ (y : ℕ). visit_by R stop m (child R u a.j.0 y)) l.loop.tally _ _ g _ _
+          (added_comes R stop a.budget _ _ _ _ e.ensures u g.state _
+          (starts_dropped R x.valid x.narrow _ _ _ m u stands _ (job_in_lem R x.valid _ _ _ u stands.shows _ s.requires.1.1.0 s.requires.1.1.1.0) _ s.requires.1.1.1.1.1.0 _ l.before.before.before.before.first_cut.ensures
           stop a.budget _ _ _ g.state l.loop.invariant.3 (omega (arith, c.before.before.loop-test.false)) (tries-after t l u time) g.tells)
           g.tells),
     )
@@ -713,10 +713,10 @@ visit-returns : (t : ℕ) → visit-lts.Need-returns (visit-calls t) (visit-at t
 visit-returns t c =
     let s = c.before.before.before.before in
     let x = s.requires.1.0.tabled in
-    ((s.requires.1.0, (s.requires.1.1.1.tells.long, le_refl _)), λ stop m u st tries tells. visit-over (recorderOf s.args.r.now) x.valid x.narrow _ _ _ _ _ _ _ _ _ _ _ _ _ tries tells c.if1.true)
+    ((s.requires.1.0, (s.requires.1.1.1.tells.long, le_refl _)), λ stop m u st tries tells. visit_over (recorder_of s.args.r.now) x.valid x.narrow _ _ _ _ _ _ _ _ _ _ _ _ _ tries tells c.if1.true)
 
 -- The budget is not used up.
-visit-less : (t : ℕ) (c : visit-lts.Else1 (visit-calls t) (visit-at t) visit.Post) → let a = c.before.before.before.before.args in countAt a.tally.now < a.budget
+visit-less : (t : ℕ) (c : visit-lts.Else1 (visit-calls t) (visit-at t) visit.Post) → let a = c.before.before.before.before.args in count_at a.tally.now < a.budget
 visit-less t c = let o = c.before.before.before.before.requires.1.1.1 in omega (arith, o.tells.count, o.tells.within, c.if1.false)
 
 visit-count-one-requires : (t : ℕ) → visit-lts.Need-count-one-requires (visit-calls t) (visit-at t) visit.Post
@@ -730,14 +730,14 @@ visit-returns-2 t c =
     let b = k.before.before in
     let s = b.before.before.before.before in
     let x = s.requires.1.0.tabled in
-    let q = counted-less s.args.tally.now _ s.requires.1.1.1.tells.long k.count-one.ensures in
-    ((s.requires.1.0, (q.0, omega (arith, q.1))), λ stop m u st tries tells. visit-drops (recorderOf s.args.r.now) x.valid x.narrow _ _ _ _ _ _ _ _ _ _ _ _ _ tries tells (visit-less t b) _ k.count-one.ensures (tries.dropped c.if2.true))
+    let q = counted_less s.args.tally.now _ s.requires.1.1.1.tells.long k.count-one.ensures in
+    ((s.requires.1.0, (q.0, omega (arith, q.1))), λ stop m u st tries tells. visit_drops (recorder_of s.args.r.now) x.valid x.narrow _ _ _ _ _ _ _ _ _ _ _ _ _ tries tells (visit-less t b) _ k.count-one.ensures (tries.dropped c.if2.true))
 
 visit-element-copy-out-if3 : (t : ℕ) → visit-lts.Need-element-copy-out-if3 (visit-calls t) (visit-at t) visit.Post
 visit-element-copy-out-if3 t c =
     let k = c.before in
     let s = k.before.before.before.before.before.before in
-    omega (arith, (counted-less s.args.tally.now _ s.requires.1.1.1.tells.long k.count-one.ensures).0)
+    omega (arith, (counted_less s.args.tally.now _ s.requires.1.1.1.tells.long k.count-one.ensures).0)
 
 visit-returns-3 : (t : ℕ) → visit-lts.Need-returns-3 (visit-calls t) (visit-at t) visit.Post
 visit-returns-3 t c =
@@ -745,10 +745,10 @@ visit-returns-3 t c =
     let b = k.before.before in
     let s = b.before.before.before.before in
     let x = s.requires.1.0.tabled in
-    let q = counted-less s.args.tally.now _ s.requires.1.1.1.tells.long k.count-one.ensures in (
+    let q = counted_less s.args.tally.now _ s.requires.1.1.1.tells.long k.count-one.ensures in (
       (s.requires.1.0, (q.0, omega (arith, q.1))),
       λ stop m u st tries tells.
-          visit-drops (recorderOf s.args.r.now) x.valid x.narrow _ _ _ _ _ _ _ _ _ _ _ _ _ tries tells (visit-less t b) _ k.count-one.ensures
+          visit_drops (recorder_of s.args.r.now) x.valid x.narrow _ _ _ _ _ _ _ _ _ _ _ _ _ tries tells (visit-less t b) _ k.count-one.ensures
           (inr (omega (arith, q.1, c.if3.true, (tries.spared (omega (arith, c.before.before.if2.false))).1))),
     )
 
@@ -757,7 +757,7 @@ visit-sub-enter t c =
     let s = c.before.before.before.before.before.before.before.before.before.before.before in
     let x = s.requires.1.0.tabled in
     let o = s.requires.1.1.1 in
-    omega (arith, bit-room (recorderOf s.args.r.now) x.valid x.narrow _ _ _ _ _ _ o.holds.stands.shows o.holds.starts.job s.requires.1.1.0)
+    omega (arith, bit_room (recorder_of s.args.r.now) x.valid x.narrow _ _ _ _ _ _ o.holds.stands.shows o.holds.starts.job s.requires.1.1.0)
 
 visit-enter-requires : (t : ℕ) → visit-lts.Need-enter-requires (visit-calls t) (visit-at t) visit.Post
 visit-enter-requires t c κs =
@@ -766,9 +766,9 @@ visit-enter-requires t c κs =
     let s = b.before.before.before.before in
     let x = s.requires.1.0.tabled in
     let o = s.requires.1.1.1 in
-    let R = recorderOf s.args.r.now in
+    let R = recorder_of s.args.r.now in
     let fewer = size_room R x.valid x.narrow _ _ _ _ _ _ o.holds.stands.shows o.holds.starts.job s.requires.1.1.0 in
-    let q = counted-less s.args.tally.now k.count-one.new.0 s.requires.1.1.1.tells.long k.count-one.ensures in (
+    let q = counted_less s.args.tally.now k.count-one.new.0 s.requires.1.1.1.tells.long k.count-one.ensures in (
       omega (arith, fewer),
       (
         s.requires.1.0,
@@ -779,7 +779,7 @@ visit-enter-requires t c κs =
             left = o.left;
             vertex = o.vertex;
             state = counted o.state;
-            holds = enters-of R x.valid x.narrow _ _ _ _ _ _ _ _ _ _ _ o.holds s.requires.1.1.0 (omega (arith, c.before.before.before.before.if2.false));
+            holds = enters_of R x.valid x.narrow _ _ _ _ _ _ _ _ _ _ _ o.holds s.requires.1.1.0 (omega (arith, c.before.before.before.before.if2.false));
             tells = tells_more R x.valid x.narrow _ _ _ _ _ _ _ _ _ _ _ _ _ o.holds o.tells (visit-less t b) _ k.count-one.ensures;
           },
         ),
@@ -792,14 +792,14 @@ visit-returns-4 t c =
     let b = k.before.before in
     let s = b.before.before.before.before in
     let x = s.requires.1.0.tabled in
-    let R = recorderOf s.args.r.now in
+    let R = recorder_of s.args.r.now in
     let e = c.before.before.enter in
-    let q = counted-less s.args.tally.now _ s.requires.1.1.1.tells.long k.count-one.ensures in
+    let q = counted_less s.args.tally.now _ s.requires.1.1.1.tells.long k.count-one.ensures in
     let early : s.args.s < s.args.cut = omega (arith, c.before.before.before.before.before.before.before.if2.false) in (
       (e.ensures.0.0, (e.ensures.0.1.0, omega (arith, e.ensures.0.1.1, q.1))),
       λ stop m u st tries tells.
-          visit-enters R x.valid x.narrow _ _ _ _ _ _ _ _ _ _ _ _ _ tries tells early (omega (arith, q.1, c.before.before.before.before.before.if3.false)) _ _
-          (e.ensures.1 stop m u (counted st) (enters-of R x.valid x.narrow _ _ _ _ _ _ _ _ _ _ _ tries s.requires.1.1.0 early)
+          visit_enters R x.valid x.narrow _ _ _ _ _ _ _ _ _ _ _ _ _ tries tells early (omega (arith, q.1, c.before.before.before.before.before.if3.false)) _ _
+          (e.ensures.1 stop m u (counted st) (enters_of R x.valid x.narrow _ _ _ _ _ _ _ _ _ _ _ tries s.requires.1.1.0 early)
           (tells_more R x.valid x.narrow _ _ _ _ _ _ _ _ _ _ _ _ _ tries tells (visit-less t b) _ k.count-one.ensures)),
     )
 

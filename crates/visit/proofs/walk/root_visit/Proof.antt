@@ -5,11 +5,11 @@ use native.Mathlib.Omega.{arith}
 use lib.ListN.{length}
 use borrow.Author.Rules.{rules}
 use Rattle.schedule.specs.Visiting.{root, counted}
-use Rattle.flat.specs.inside.Flat.{recorderOf}
-use Rattle.vertex.specs.inside.Shown.{loadAt}
-use Rattle.vertex.proofs.Showing.{ordered-later, shown-ordered}
-use Rattle.visit.proofs.Rooted.{bare, root-tells, root_over, root-cut, root-aheads, root-complete, root-some, root_stands, root-one, root-came}
-use Rattle.visit.proofs.Telling.{counted-less, offered-less}
+use Rattle.flat.specs.inside.Flat.{recorder_of}
+use Rattle.vertex.specs.inside.Shown.{load_at}
+use Rattle.vertex.proofs.Showing.{ordered_later, shown_ordered}
+use Rattle.visit.proofs.Rooted.{bare, root_tells, root_over, root_cut, root_aheads, root_complete, root_some, root_stands, root_one, root_came}
+use Rattle.visit.proofs.Telling.{counted_less, offered_less}
 use Rattle.visit.proofs.walk.root_visit.Statement.{statement}
 use Rattle.visit.proofs.walk.root_visit.Tie as tie
 
@@ -26,11 +26,11 @@ returns-2 : tie.Need-returns-2
 returns-2 c =
     let k = c.before.before.before.before in
     let s = k.before.before.before.before.before in
-    let R = recorderOf s.args.r.now in (
-      (counted-less s.args.tally.now _ s.requires.1.0 k.count-one.ensures).0,
-      λ stop e. root-cut R stop s.args.budget s.requires.0.tabled.valid _ c.before.before.before.root-of.ensures
+    let R = recorder_of s.args.r.now in (
+      (counted_less s.args.tally.now _ s.requires.1.0 k.count-one.ensures).0,
+      λ stop e. root_cut R stop s.args.budget s.requires.0.tabled.valid _ c.before.before.before.root-of.ensures
           (omega (arith, c.if2.true, c.before.wide.ensures.0 ∙ c.before.before.horizon-of.ensures)) s.args.tally.now _
-          (root-tells R stop s.args.budget s.args.tally.now s.requires.1.0 s.requires.1.1.0 s.requires.1.1.1.0 e) (omega (arith, k.before.before.if1.false)) k.count-one.ensures,
+          (root_tells R stop s.args.budget s.args.tally.now s.requires.1.0 s.requires.1.1.0 s.requires.1.1.1.0 e) (omega (arith, k.before.before.if1.false)) k.count-one.ensures,
     )
 
 root-floor-requires : tie.Need-root-floor-requires
@@ -38,15 +38,15 @@ root-floor-requires c κs =
     let e = c.before in
     let k = e.before.before.before.before in
     let s = k.before.before.before.before.before in
-    (s.requires.0.tabled, root-aheads (recorderOf s.args.r.now) s.requires.1.1.1.1.0 s.args.budget s.requires.0.tabled.valid _ e.before.before.before.root-of.ensures (omega (arith, e.if2.false, e.before.wide.ensures.0 ∙ e.before.before.horizon-of.ensures)))
+    (s.requires.0.tabled, root_aheads (recorder_of s.args.r.now) s.requires.1.1.1.1.0 s.args.budget s.requires.0.tabled.valid _ e.before.before.before.root-of.ensures (omega (arith, e.if2.false, e.before.wide.ensures.0 ∙ e.before.before.horizon-of.ensures)))
 
 close-of-requires : tie.Need-close-of-requires
 close-of-requires c κs =
     let e = c.before.before.before.before.before in
     let s = e.before.before.before.before.before.before.before.before.before in
     let x = s.requires.0.tabled in
-    let R = recorderOf s.args.r.now in
-    (x, ordered-later R x.valid _ 0 R.horizon (shown-ordered R x.valid _ _ _ _ e.before.before.before.root-of.ensures) (omega arith) (omega arith))
+    let R = recorder_of s.args.r.now in
+    (x, ordered_later R x.valid _ 0 R.horizon (shown_ordered R x.valid _ _ _ _ e.before.before.before.root-of.ensures) (omega arith) (omega arith))
 
 add-e : tie.Need-overflow-add-e
 add-e c = omega (arith, c.Close-of.ensures.1, c.before.before.before.before.root-floor.ensures.1)
@@ -55,14 +55,14 @@ offer-requires : tie.Need-offer-requires
 offer-requires c κs =
     let k = c.before.before.before.before.before.before.before.before.before.before.before in
     let s = k.before.before.before.before.before in
-    (counted-less s.args.tally.now _ s.requires.1.0 k.count-one.ensures).0
+    (counted_less s.args.tally.now _ s.requires.1.0 k.count-one.ensures).0
 
 -- The tally that the complete root was offered to.
 offered-long : (c : tie.After-offer) → length c.offer.new.0 ≡ 35
 offered-long c =
     let k = c.before.before.before.before.before.before.before.before.before.before.before.before in
     let s = k.before.before.before.before.before in
-    (offered-less _ _ _ (counted-less s.args.tally.now _ s.requires.1.0 k.count-one.ensures).0 c.offer.ensures).0
+    (offered_less _ _ _ (counted_less s.args.tally.now _ s.requires.1.0 k.count-one.ensures).0 c.offer.ensures).0
 
 stops-requires : tie.Need-stops-requires
 stops-requires c κs = offered-long c.before
@@ -73,13 +73,13 @@ returns-3 c =
     let e = o.before.before.before.before.before.before.before.before in
     let k = e.before.before.before.before in
     let s = k.before.before.before.before.before in
-    let R = recorderOf s.args.r.now in
+    let R = recorder_of s.args.r.now in
     let close = o.before.before.Close-of in
     let f = o.before.before.before.before.before.before.root-floor in (
       offered-long o,
       λ stop q.
-          root-complete R stop s.args.budget s.requires.0.tabled.valid _ e.before.before.before.root-of.ensures (omega (arith, e.if2.false, e.before.wide.ensures.0 ∙ e.before.before.horizon-of.ensures)) s.args.tally.now _
-          (root-tells R stop s.args.budget s.args.tally.now s.requires.1.0 s.requires.1.1.0 s.requires.1.1.1.0 q) (omega (arith, k.before.before.if1.false)) k.count-one.ensures
+          root_complete R stop s.args.budget s.requires.0.tabled.valid _ e.before.before.before.root-of.ensures (omega (arith, e.if2.false, e.before.wide.ensures.0 ∙ e.before.before.horizon-of.ensures)) s.args.tally.now _
+          (root_tells R stop s.args.budget s.args.tally.now s.requires.1.0 s.requires.1.1.0 s.requires.1.1.1.0 q) (omega (arith, k.before.before.if1.false)) k.count-one.ensures
           (sym o.before.before.before.before.before.job-count.ensures ∙ o.before.before.before.before.if3.true) f.result _ f.ensures.0 (ap (λ (y : ℕ). f.result + y) close.ensures.0) (omega (arith, close.ensures.1, f.ensures.1)) _ o.offer.ensures
           _ c.stops.ensures,
     )
@@ -93,22 +93,22 @@ choices-requires c κs =
     let k = e.before.before.before.before in
     let s = k.before.before.before.before.before in
     let x = s.requires.0.tabled in
-    let R = recorderOf s.args.r.now in
+    let R = recorder_of s.args.r.now in
     let f = c.before.before.before.before.before.before.root-floor in
     let shows = e.before.before.before.root-of.ensures in
-    let room : loadAt e.before.before.before.root-of.result ≤ R.horizon = omega (arith, e.if2.false, e.before.wide.ensures.0 ∙ e.before.before.horizon-of.ensures) in
+    let room : load_at e.before.before.before.root-of.result ≤ R.horizon = omega (arith, e.if2.false, e.before.wide.ensures.0 ∙ e.before.before.horizon-of.ensures) in
     let stop = s.requires.1.1.1.1.0 in
-    let tells = root-tells R stop s.args.budget s.args.tally.now s.requires.1.0 s.requires.1.1.0 s.requires.1.1.1.0 s.requires.1.1.1.1.1 in
+    let tells = root_tells R stop s.args.budget s.args.tally.now s.requires.1.0 s.requires.1.1.0 s.requires.1.1.1.0 s.requires.1.1.1.1.1 in
     let less : 0 < s.args.budget = omega (arith, k.before.before.if1.false) in
-    let n = root-some R stop s.args.budget x.valid _ shows room _ _ tells less k.count-one.ensures (λ z. c.before.before.before.before.if3.false (c.before.before.before.before.before.job-count.ensures ∙ z)) in (
+    let n = root_some R stop s.args.budget x.valid _ shows room _ _ tells less k.count-one.ensures (λ z. c.before.before.before.before.if3.false (c.before.before.before.before.before.job-count.ensures ∙ z)) in (
       s.requires.0,
       record {
         stop = stop;
         left = n.0;
         vertex = root R;
         state = counted bare;
-        holds = (root_stands R stop s.args.budget x.valid _ shows room _ _ tells less k.count-one.ensures n.0 n.1 _ _ c.all-jobs.ensures f.ensures.0, refl);
-        tells = root-one R stop s.args.budget x.valid _ shows room _ _ tells less k.count-one.ensures;
+        holds = (root_stands R stop s.args.budget x.valid _ shows room _ _ tells less k.count-one.ensures n.0 n.1 _ _ c.all_jobs.ensures f.ensures.0, refl);
+        tells = root_one R stop s.args.budget x.valid _ shows room _ _ tells less k.count-one.ensures;
       },
     )
 
@@ -118,18 +118,18 @@ returns-4 c =
     let k = e.before.before.before.before in
     let s = k.before.before.before.before.before in
     let x = s.requires.0.tabled in
-    let R = recorderOf s.args.r.now in
+    let R = recorder_of s.args.r.now in
     let f = c.before.before.before.before.before.before.before.before.before.root-floor in
     let shows = e.before.before.before.root-of.ensures in
-    let room : loadAt e.before.before.before.root-of.result ≤ R.horizon = omega (arith, e.if2.false, e.before.wide.ensures.0 ∙ e.before.before.horizon-of.ensures) in
+    let room : load_at e.before.before.before.root-of.result ≤ R.horizon = omega (arith, e.if2.false, e.before.wide.ensures.0 ∙ e.before.before.horizon-of.ensures) in
     let less : 0 < s.args.budget = omega (arith, k.before.before.if1.false) in (
       c.before.before.choices.ensures.0.1.0,
       λ stop q.
-          let tells = root-tells R stop s.args.budget s.args.tally.now s.requires.1.0 s.requires.1.1.0 s.requires.1.1.1.0 q in
-          let n = root-some R stop s.args.budget x.valid _ shows room _ _ tells less k.count-one.ensures (λ z. c.before.before.before.before.before.before.before.if3.false (c.before.before.before.before.before.before.before.before.job-count.ensures ∙ z)) in
-          root-came R stop s.args.budget x.valid _ shows room _ _ tells less k.count-one.ensures n.0 n.1 _ _
-          (c.before.before.choices.ensures.1 stop n.0 (root R) (counted bare) (root_stands R stop s.args.budget x.valid _ shows room _ _ tells less k.count-one.ensures n.0 n.1 _ _ c.before.before.before.all-jobs.ensures f.ensures.0) refl
-          (root-one R stop s.args.budget x.valid _ shows room _ _ tells less k.count-one.ensures)),
+          let tells = root_tells R stop s.args.budget s.args.tally.now s.requires.1.0 s.requires.1.1.0 s.requires.1.1.1.0 q in
+          let n = root_some R stop s.args.budget x.valid _ shows room _ _ tells less k.count-one.ensures (λ z. c.before.before.before.before.before.before.before.if3.false (c.before.before.before.before.before.before.before.before.job-count.ensures ∙ z)) in
+          root_came R stop s.args.budget x.valid _ shows room _ _ tells less k.count-one.ensures n.0 n.1 _ _
+          (c.before.before.choices.ensures.1 stop n.0 (root R) (counted bare) (root_stands R stop s.args.budget x.valid _ shows room _ _ tells less k.count-one.ensures n.0 n.1 _ _ c.before.before.before.all_jobs.ensures f.ensures.0) refl
+          (root_one R stop s.args.budget x.valid _ shows room _ _ tells less k.count-one.ensures)),
     )
 
 pub root-visit-spec : {M : Type 1} → statement M
