@@ -1,6 +1,7 @@
 // The functions that a C program calls with numbers and byte buffers: the file check, the sizes, the search and the rows. Each buffer is a pointer and a length; each
 // function returns the number of its answer, and puts the rest of it into the result buffer. include/floebucket.h declares them; specs/Calls.antt says for each
 // the complete outcome, the number and every buffer; a memory that was used may hold anything.
+#![tactic(auto)]
 ghost use Rattle.calls.specs.Calls.{CheckCalled, SizesCalled, SearchCalled, SearchInCalled, RowsCalled};
 
 use crate::paired::{rows_bytes, search_bytes};

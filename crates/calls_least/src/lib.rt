@@ -1,5 +1,6 @@
 // The function by which a C program plans with a memory that it lends: `least_plan`, with bytes in and out as the functions of crate calls have them.
 // include/floebucket.h declares it; specs/LeastCall.antt says its outcome, which is complete but for what the memory holds where a plan was looked for, and for 20.
+#![tactic(auto)]
 ghost use Rattle.planner.specs.Promises.{OfFile, KeptUnless};
 ghost use Rattle.calls.specs.Calls.{StartsOf};
 ghost use Rattle.cheapest.specs.Promises.{LeastOf, Sought};

@@ -1,5 +1,6 @@
 // The functions by which a C program steps a device through a round by itself: at a start, at a completion, and over the ticks between. They ask nothing: bytes that
 // are no device or no record get a number. include/floebucket.h declares them; specs/StepCall.antt says for each the complete outcome.
+#![tactic(auto)]
 ghost use Rattle.calls_step.specs.StepCall.{StartCalled, EndCalled, PassCalled};
 
 use crate::records::{device_in, fault_of, is_set, put_record, record_in};

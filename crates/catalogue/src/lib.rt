@@ -1,6 +1,7 @@
 // The catalogue by part number, above the planner: a request is built from part numbers alone, the other sections being given. What the planner is seen by is
 // what it states of its writer, so that of the file's rules only the seven bytes of a device record (rule 11) stand here. `build` and `order_fault` ask nothing of
 // their caller; specs/Building.antt and specs/Faults.antt say the complete outcome of each.
+#![tactic(auto)]
 ghost use Rattle.catalogue.specs.Building.{others, Built};
 ghost use Rattle.catalogue.specs.Faults.{OrderFault};
 
@@ -15,7 +16,7 @@ pub use crate::look_up::{is_repeated, is_unfit, repeated_at};
 pub use crate::numbers::{is_formed, signs_of};
 
 // The number of what refuses an order, 0 for none, and the place of the part, or of 23 that of the wanted number.
-#[derive(Drop)]
+#[derive(Clone, Copy)]
 pub struct PartFault {
     pub number: u8,
     pub part: usize,

@@ -7,7 +7,7 @@ ghost use Rattle.device.specs.inside.Uses.{begin, used_in, after_from, front, id
 use crate::{Device, Uses};
 
 // What a device does in a gap: the level to which it goes, 0 for work, and what the gap costs.
-#[derive(Drop)]
+#[derive(Clone, Copy)]
 pub struct Trip {
     pub level: usize,
     pub cost: u32,

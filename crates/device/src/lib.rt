@@ -1,4 +1,5 @@
 // One device: its figures, the energy of its least row, and writing that row.
+#![tactic(auto)]
 mod energy;
 mod writer;
 
@@ -7,7 +8,7 @@ pub use crate::writer::write_row;
 
 // A device, of whatever kind: the ticks of a move down and of one up, by one level; the powers at work, going down and coming up; and the powers of its sleep
 // levels, the shallowest first.
-#[derive(Drop)]
+#[derive(Clone, Copy)]
 pub struct Device {
     pub shut: u8,
     pub wake: u8,
@@ -19,14 +20,14 @@ pub struct Device {
 }
 
 // How rows write a sleep: as S whatever its level, or as the digit of its level (rules 30 and 82).
-#[derive(Drop)]
+#[derive(Clone, Copy)]
 pub enum Sleeps {
     Plain,
     Numbered,
 }
 
 // The uses of one device in running order: use i begins at tick begins[i] and ends before tick ends[i].
-#[derive(Drop)]
+#[derive(Clone, Copy)]
 pub struct Uses {
     pub count: usize,
     pub begins: [u16; 16],

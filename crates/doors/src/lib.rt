@@ -1,6 +1,7 @@
 // Doors: the other operations of the library with bytes in and out, for the command line and the tests. A door answers 255, and does nothing, for an odd list of
 // start times, tables of another length or kind, or a result buffer under 11 bytes; else it tells every answer, a refusal too. include/floebucket.h declares
 // them; specs/Promises.antt says for each the complete outcome.
+#![tactic(auto)]
 pub mod door_build; // door_build.rt: a request from part numbers
 pub mod door_margins; // door_margins.rt: margins
 pub mod door_mend; // door_mend.rt: mending

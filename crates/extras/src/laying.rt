@@ -16,7 +16,7 @@ use device::{Device, gap_trip};
 use flat::{Flat, deep_power, device_count, device_of, horizon_of};
 
 // A gap's extra, and whether the gap is slept through at the deepest level: then every longer one is, and has the same extra.
-#[derive(Drop)]
+#[derive(Clone, Copy)]
 struct Gap {
     extra: u32,
     deepest: bool,

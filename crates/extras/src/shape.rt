@@ -9,7 +9,7 @@ pub const NO_FALL: u32 = 4294967295;
 
 // Of the gaps up to some length: from which on they have the same extra, by how much one tick more raises it and lowers it at most, from which on it no longer falls,
 // and to what it falls at least.
-#[derive(Drop)]
+#[derive(Clone, Copy)]
 pub struct Shape {
     pub cap: u32,
     pub rise: u32,

@@ -1,5 +1,6 @@
 // Where a request is refused: the first of its places, in reading order, that is at fault, with the number and the bytes. specs/Places.antt says what the places
 // are and which of them is told.
+#![tactic(auto)]
 mod records; // records.rt: the records of a section in turn
 mod sections; // sections.rt: the sections in turn, and the first place at fault
 
@@ -10,7 +11,7 @@ ghost use Rattle.faults.specs.Places.{FaultAs, FaultOf, TablesFault};
 use tables::{Kind, Tables, file_of, kind_of, marker_size};
 
 // What can be at fault in a file; a number is that of a device, a task or a job.
-#[derive(Drop)]
+#[derive(Clone, Copy)]
 pub enum Place {
     Nowhere,
     Horizon,
@@ -24,7 +25,7 @@ pub enum Place {
 }
 
 // A place with the number that it is refused for, 0 for none, and its bytes: from the first up to, not including, the second.
-#[derive(Drop)]
+#[derive(Clone, Copy)]
 pub struct PlaceFault {
     pub number: u8,
     pub place: Place,

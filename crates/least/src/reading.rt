@@ -21,7 +21,7 @@ use vertex::cells::{Cells, place, root_of};
 use vertex::gaps::lead_of;
 
 // A job and its start.
-#[derive(Drop)]
+#[derive(Clone, Copy)]
 pub struct Child {
     pub job: usize,
     pub start: u32,

@@ -7,7 +7,7 @@ use base::{JobNumber, later};
 use schedule::{Recorder, running_order};
 
 // The starts by job number where all jobs come out in time; or the first job that comes out late.
-#[derive(Drop)]
+#[derive(Clone, Copy)]
 pub struct Settled {
     pub late: bool,
     pub job: JobNumber,

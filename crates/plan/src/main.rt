@@ -1,6 +1,7 @@
 // Plans the request on standard input and prints the plan, or the number of its refusal. All that is printed comes from the proved library.
 //
 // A function that prints says whether every write went through, and prints nothing after one that did not.
+#![tactic(auto)]
 ghost use Rattle.std.specs.Prelude.{◌*◌, ◌≤◌, length};
 ghost use Rattle.io.specs.Counts.{IsPrefixLen};
 ghost use Rattle.schedule.specs.Quantities.{Valid};
@@ -109,7 +110,7 @@ fn print_answer(file: &[u8]) -> bool {
 }
 
 // What has come of the input: how many bytes, and whether a read failed.
-#[derive(Drop)]
+#[derive(Clone, Copy)]
 struct Input {
     length: usize,
     failed: bool,

@@ -1,5 +1,6 @@
 // The public operations on the bytes of a request file. None asks anything of its caller: every file, of whatever bytes, every list of start times and every
 // lent buffer gets its answer. specs/Promises.antt says for each the complete outcome, the answer and every lent buffer; a memory that was used may hold anything.
+#![tactic(auto)]
 ghost use Rattle.planner.specs.Promises.{Checked, Sized, Margined, Judged, Rowed, Searched, SearchedIn, Written, TablesGiven};
 
 use crate::recorders::sizes_of;
@@ -14,7 +15,7 @@ pub use crate::answers::{answer_of, refusal, refusal_after, refusal_at, success}
 pub use crate::recorders::{margins_of, rows_of, search_in_of, search_of, verdict_of};
 
 // What every operation answers: 0 or the number of its refusal, and what the operation works out; 0 elsewhere.
-#[derive(Drop)]
+#[derive(Clone, Copy)]
 pub struct Answer {
     pub number: u8,
     pub job: JobNumber,
@@ -24,7 +25,7 @@ pub struct Answer {
 }
 
 // The tables of a file, with the answer of the reading: none with a refusal.
-#[derive(Drop)]
+#[derive(Clone, Copy)]
 pub struct FileTables {
     pub answer: Answer,
     pub tables: Tables,

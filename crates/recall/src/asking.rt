@@ -14,7 +14,7 @@ use stored::naming::key_of;
 use vertex::cells::Cells;
 
 // The key of a vertex with its slack, the place that it has, and how many vertices are counted below: 0 where that is not known.
-#[derive(Drop)]
+#[derive(Clone, Copy)]
 pub struct Asked {
     pub key: Key,
     pub slot: usize,

@@ -11,7 +11,7 @@ const TWO29: u64 = 536870912;
 const TWO32: u64 = 4294967296;
 
 // A place for a key, and how many vertices are counted below a vertex with it: 0 where that is not known.
-#[derive(Drop)]
+#[derive(Clone, Copy)]
 pub struct Spot {
     pub slot: usize,
     pub count: u32,

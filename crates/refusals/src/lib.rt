@@ -1,1 +1,2 @@
 // No code: laws of the numbers by which files and tables are refused.
+#![tactic(auto)]

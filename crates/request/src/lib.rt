@@ -1,4 +1,5 @@
 // The request file: every string of bytes is read, refused or unfolded.
+#![tactic(auto)]
 mod checks; // checks.rt: what refuses a record, and the records of a section in turn
 mod euclid; // euclid.rt: the greatest common divisor and the least common multiple
 mod horizon; // horizon.rt: the horizon, given or worked out from the tasks
@@ -19,7 +20,7 @@ use schedule::Recorder;
 use tables::Kind;
 
 // The records of a section, and what one is checked against besides itself: the kind of the file; the number of devices, and for jobs the horizon.
-#[derive(Drop)]
+#[derive(Clone, Copy)]
 pub enum Section {
     DeviceRecords(Kind),
     TaskRecords(usize),
@@ -27,7 +28,7 @@ pub enum Section {
 }
 
 // What reading a file gives: its refusal number with an empty recorder, or 0 and the recorder.
-#[derive(Drop)]
+#[derive(Clone, Copy)]
 pub struct Request {
     pub number: u8,
     pub recorder: Recorder,

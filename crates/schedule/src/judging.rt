@@ -8,7 +8,7 @@ use crate::Recorder;
 use base::JobNumber;
 
 // The fault's number with its job: 16 before the release, 17 after the deadline, 18 for an overlap; 0 where all is well.
-#[derive(Drop)]
+#[derive(Clone, Copy)]
 pub struct Verdict {
     pub number: u8,
     pub job: JobNumber,

@@ -1,4 +1,5 @@
 // Jobs on one processor: start times judged, their margins, and the rows and the energy of the plan that they make. The search is in crate visit.
+#![tactic(auto)]
 use device::{Device, Sleeps};
 
 mod judging; // judging.rt: the first fault of start times
@@ -13,7 +14,7 @@ pub use crate::ordering::running_order;
 pub use crate::rows::{plan_energy, write_rows};
 
 // A job: release, deadline, running time, and for each device whether the job uses it.
-#[derive(Drop)]
+#[derive(Clone, Copy)]
 pub struct Job {
     pub release: u16,
     pub deadline: u16,
@@ -22,14 +23,14 @@ pub struct Job {
 }
 
 // The jobs of a recorder: the first `count` of the list.
-#[derive(Drop)]
+#[derive(Clone, Copy)]
 pub struct Jobs {
     pub count: usize,
     pub list: [Job; 16],
 }
 
 // The devices of a recorder: the first `count` of the list.
-#[derive(Drop)]
+#[derive(Clone, Copy)]
 pub struct Devices {
     pub count: usize,
     pub list: [Device; 8],
@@ -37,7 +38,7 @@ pub struct Devices {
 
 // What a request asks to be planned: one round of the clock for these devices and jobs. `round` says that it is repeated for ever (rule 85), `sleeps`
 // how its rows write a sleep (rule 82).
-#[derive(Drop)]
+#[derive(Clone, Copy)]
 pub struct Recorder {
     pub horizon: u16,
     pub round: bool,

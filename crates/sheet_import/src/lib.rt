@@ -1,5 +1,6 @@
 // Sheets of devices and of jobs, from text: devices to the bytes of a catalogue, jobs to their records; and the line for which a sheet is refused. No operation
 // asks anything of its caller: any bytes of any length get an answer. sheet/specs/Promises.antt and specs/LineFaults.antt say the complete outcome of each.
+#![tactic(auto)]
 ghost use Rattle.sheet.specs.Promises.{ImportedDevices, ImportedJobs};
 
 use crate::judging::put_devices;
@@ -16,7 +17,7 @@ mod reading; // reading.rt: the rows of a text, as bytes
 pub use crate::judging::{devices_fault, jobs_fault};
 
 // The number of what refuses a sheet, 0 for none, and the line, counted from 0.
-#[derive(Drop)]
+#[derive(Clone, Copy)]
 pub struct LineFault {
     pub number: u8,
     pub line: usize,

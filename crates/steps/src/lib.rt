@@ -1,4 +1,5 @@
 // One device step by step, as the recorder itself runs it: its record, what a start, a completion and passing ticks do to it, and a whole round. There is no row.
+#![tactic(auto)]
 mod rules; // rules.rt: what is done at a start and at a completion
 mod stepping; // stepping.rt: a device along the jobs of a round
 mod ticks; // ticks.rt: what passes between two events
@@ -7,7 +8,7 @@ pub use crate::stepping::{on_end, on_start, pass, run};
 pub use crate::ticks::energy_ticks;
 
 // What a device does. A number is the ticks left of a move.
-#[derive(Drop)]
+#[derive(Clone, Copy)]
 pub enum State {
     Working,
     Asleep,
@@ -16,14 +17,14 @@ pub enum State {
 }
 
 // A stepped device's record (rule 90): its state, and the energy that it has spent.
-#[derive(Drop)]
+#[derive(Clone, Copy)]
 pub struct Stepped {
     pub state: State,
     pub energy: u32,
 }
 
 // The jobs in running order, as one device sees them: job i begins at tick begins[i], ends before tick ends[i], and uses the device or not.
-#[derive(Drop)]
+#[derive(Clone, Copy)]
 pub struct Order {
     pub count: usize,
     pub begins: [u16; 16],

@@ -1,4 +1,5 @@
 // The key of a vertex as searches that remember store it: its words, the row of a table in which it is looked for, and a table that is forgotten.
+#![tactic(auto)]
 ghost use Rattle.std.specs.Prelude.{◌≡◌, ℕ, ◌<◌, get_or};
 
 pub mod comparing; // comparing.rt: a stored key compared
@@ -7,7 +8,7 @@ pub mod naming; // naming.rt: the key of a vertex
 const TWO32: u64 = 4294967296;
 
 // head: the set of the unplaced jobs, and 65,536 times the time. Then the idle times of the devices from 0 and from 4 on, and their first uses, sixteen bits each.
-#[derive(Drop)]
+#[derive(Clone, Copy)]
 pub struct Key {
     pub head: u64,
     pub idle: u64,

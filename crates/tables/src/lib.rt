@@ -1,5 +1,6 @@
 // What a request file says, as numbers: its tables. They are read from the bytes of a file and laid out as one; whether they can be planned with is for
 // crate request to judge, from the bytes.
+#![tactic(auto)]
 mod kinds; // kinds.rt: the kinds of files, and where their device records stand
 mod laying; // laying.rt: the bytes of tables, from the first to the last
 mod records; // records.rt: the tables of a file
@@ -12,7 +13,7 @@ pub use crate::records::{
 };
 
 // The kind of a file: what its first bytes say of the device records in it (rules 75 and 80).
-#[derive(Drop)]
+#[derive(Clone, Copy)]
 pub enum Kind {
     First,
     Second,
@@ -23,7 +24,7 @@ pub enum Kind {
 // are, and the powers of those below the first. Files of the first and the third kind have one time and one power for both moves: there `wake` and `pwake` count,
 // and `averaged` and `leveled` fill in all. Only those of the third kind have more than one level. What a kind does not tell is not written: a record whose two
 // moves differ comes back from a file of the first kind with those of waking for both, and it is not refused for it (`told` in specs/Records).
-#[derive(Drop)]
+#[derive(Clone, Copy)]
 pub struct DeviceRecord {
     pub wake: u8,
     pub shut: u8,
@@ -38,7 +39,7 @@ pub struct DeviceRecord {
 }
 
 // A task as the file gives it: period, running time, and its device set, a bit for each device.
-#[derive(Drop)]
+#[derive(Clone, Copy)]
 pub struct TaskRecord {
     pub period: u16,
     pub run: u16,
@@ -46,7 +47,7 @@ pub struct TaskRecord {
 }
 
 // A job as the file gives it: release, deadline, running time and device set.
-#[derive(Drop)]
+#[derive(Clone, Copy)]
 pub struct JobRecord {
     pub release: u16,
     pub deadline: u16,
@@ -55,26 +56,26 @@ pub struct JobRecord {
 }
 
 // A table is the first `count` records of its list. The count may be larger than the list: then there are too many.
-#[derive(Drop)]
+#[derive(Clone, Copy)]
 pub struct DeviceTable {
     pub count: usize,
     pub list: [DeviceRecord; 8],
 }
 
-#[derive(Drop)]
+#[derive(Clone, Copy)]
 pub struct TaskTable {
     pub count: usize,
     pub list: [TaskRecord; 8],
 }
 
-#[derive(Drop)]
+#[derive(Clone, Copy)]
 pub struct JobTable {
     pub count: usize,
     pub list: [JobRecord; 16],
 }
 
 // The horizon field is 0 where there are tasks.
-#[derive(Drop)]
+#[derive(Clone, Copy)]
 pub struct Tables {
     pub kind: Kind,
     pub horizon: u16,
@@ -84,7 +85,7 @@ pub struct Tables {
 }
 
 // One of the three tables.
-#[derive(Drop)]
+#[derive(Clone, Copy)]
 pub enum TableName {
     Devices,
     Tasks,
@@ -92,7 +93,7 @@ pub enum TableName {
 }
 
 // A file in an array: its first `count` bytes.
-#[derive(Drop)]
+#[derive(Clone, Copy)]
 pub struct File {
     pub count: usize,
     pub bytes: [u8; 297],

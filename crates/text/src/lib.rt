@@ -1,4 +1,5 @@
 // Comma-separated text: its lines, its fields and its numbers, read and written. specs/Grammar.antt and Numerals.antt say what they are.
+#![tactic(auto)]
 mod fields; // fields.rt: the fields of a line
 mod lines; // lines.rt: the lines of a text
 mod numbers; // numbers.rt: a number in digits
@@ -10,7 +11,7 @@ pub use crate::numbers::number_of;
 pub use crate::putting::{put_byte, put_bytes, put_four, put_number, put_pair, put_three};
 
 // Before a field; in one without quotes; between quotes; behind the quote that may close it.
-#[derive(Drop)]
+#[derive(Clone, Copy)]
 pub enum State {
     Fresh,
     Plain,
@@ -19,7 +20,7 @@ pub enum State {
 }
 
 // What a byte does: it is a fault, it ends the field, or it goes on in a state.
-#[derive(Drop)]
+#[derive(Clone, Copy)]
 pub enum Turn {
     Stray,
     Ends,
@@ -27,7 +28,7 @@ pub enum Turn {
 }
 
 // How many bytes a field has with its quotes, and whether no quote in it is stray or open.
-#[derive(Drop)]
+#[derive(Clone, Copy)]
 pub struct Cut {
     pub size: usize,
     pub whole: bool,

@@ -11,7 +11,7 @@ use extras::last_start;
 use flat::{Flat, job_count};
 
 // The two smallest last starts of the unplaced jobs, and the job of the smaller one: they tell the smallest without any one job.
-#[derive(Drop)]
+#[derive(Clone, Copy)]
 pub struct Dues {
     pub at: JobNumber,
     pub first: u32,

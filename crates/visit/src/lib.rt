@@ -1,4 +1,5 @@
 // The search for the cheapest schedule, and for the first one whatever it costs: depth first, under a budget of vertices (rules 40 to 48, 60 to 63).
+#![tactic(auto)]
 ghost use Rattle.std.specs.Prelude.{◌≡◌, true, ◌++◌, ℕ, ◌<◌, ◌≤◌, length, drop};
 ghost use Rattle.base.specs.Lists.{up_to};
 ghost use Rattle.schedule.specs.Quantities.{Valid};
@@ -18,7 +19,7 @@ mod tally; // tally.rt: the count, the best so far and the starts of the placed 
 mod walk; // walk.rt: the visit of a vertex and of all below it
 
 // The answer of the search: 0 or the number of its refusal, and what goes with it.
-#[derive(Drop)]
+#[derive(Clone, Copy)]
 pub struct Found {
     pub number: u8,
     pub energy: u32,
