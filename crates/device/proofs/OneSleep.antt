@@ -102,10 +102,23 @@ module _ (T Pw Ps P0 : ℕ) where
   step_back asleep (R.wakes {n = n} R.rests e) = record { t = up n; same = refl; step = wakes e }
   step_back (up zero) R.resumes = record { t = working; same = refl; step = resumes }
   step_back (up (suc n)) R.rises = record { t = up n; same = refl; step = rises }
+  step_back working (R.wakes {k = k} {n = n} x10 e) = elim x10 [ ]
+  step_back (up zero) (R.wakes {k = k} {n = n} x17 e) = elim x17 [ ]
+  step_back (up zero) (R.stays {k = k} x15 l) = elim x15 [ ]
+  step_back (up zero) (R.shuts {k = k} {n = n} x19 l e) = elim x19 [ ]
+  step_back (up (suc n)) (R.wakes {k = k} x18 e) = elim x18 [ ]
+  step_back (up (suc n)) (R.stays {k = k} x16 l) = elim x16 [ ]
+  step_back (up (suc n)) (R.shuts {k = k} x20 l e) = elim x20 [ ]
+  step_back (down (suc n)) (R.wakes {k = k} x16 e) = elim x16 [ ]
+  step_back (down (suc n)) (R.stays {k = k} x14 l) = elim x14 [ ]
+  step_back (down (suc n)) (R.shuts {k = k} x18 l e) = elim x18 [ ]
 
   end_back : (s : State) → R.Ends (state s) → Ends s
   end_back working R.at_work = at_work
   end_back (up zero) R.woken = woken
+  end_back asleep x'' = elim x'' [ ]
+  end_back (up (suc _)) x6 = elim x6 [ ]
+  end_back (down _) x'' = elim x'' [ ]
 
   legal_back : (s : State) {z last : R.State} {u : List Bool} {r : List Letter} → state s ≡ z → Goes (first T Pw Ps P0) z u r last → R.Ends last → Legal T s u r
   legal_back s p over e = end (end_back s (subst R.Ends (sym p) e))

@@ -64,11 +64,11 @@ module _ {L : Type 0} (A : Machine L) where
 
   goes_cut : {s z : A.State} (u : List Bool) {u' : List Bool} {r : List L} → Goes s (u ++ u') r z → Cut s u u' r z
   goes_cut {s} [] {r = r} g = record { head = []; tail = r; mid = s; whole = refl; before = over; after = g }
-  goes_cut (true ∷ u) (works st g) =
-      let c = goes_cut u g in
+  goes_cut {s = s} {z = z} (true ∷ u) {u' = u'} (works {t = t} {r = r} st g) =
+      let c = goes_cut {s = t} u g in
       record { head = A.work ∷ c.head; tail = c.tail; mid = c.mid; whole = ap {B = List L} (λ q. A.work ∷ q) c.whole; before = works st c.before; after = c.after }
-  goes_cut (false ∷ u) (moves {x = x} st g) =
-      let c = goes_cut u g in
+  goes_cut {s = s} {z = z} (false ∷ u) {u' = u'} (moves {t = t} {x = x} {r = r} st g) =
+      let c = goes_cut {s = t} u g in
       record { head = x ∷ c.head; tail = c.tail; mid = c.mid; whole = ap {B = List L} (λ q. x ∷ q) c.whole; before = moves st c.before; after = c.after }
 
   -- And the other way where a tick is used: after it the device is as at the start, so the second round ends as it begins.
@@ -81,8 +81,13 @@ module _ {L : Type 0} (A : Machine L) where
       (sym a ∙ ap (take (length h)) e ∙ b, sym c ∙ ap (drop (length h)) e ∙ f)
 
   module _ (O : Works A) where
+    first_use : {s t : A.State} {u : List Bool} {r : List L} → Goes s (true ∷ u) r t → (z : A.State) × A.step s A.work z
+    first_use (works {t = z} st g) = (z, st)
+
     after_use : {s s' t t' : A.State} {u : List Bool} {r : List L} → Goes s (true ∷ u) r t → Goes s' (true ∷ u) r t' → Goes s' (true ∷ u) r t
-    after_use (works {z = z} {u = u} {r = r} st g) (works st' g') = works st' (subst (λ (x : A.State). Goes x u r z) (sym (O.returns st).0 ∙ (O.returns st').0) g)
+    after_use (works {z = z} {u = u} {r = r} st g) h =
+        let f = first_use h in
+        works f.1 (subst (λ (x : A.State). Goes x u r z) (sym (O.returns st).0 ∙ (O.returns f.1).0) g)
 
     pub one_seam : (u u' : List Bool) {r : List L} → Forever (u ++ true ∷ u') r → Round (u ++ true ∷ u') r
     one_seam u u' F =

@@ -1,5 +1,6 @@
 // One device: its figures, the energy of its least row, and writing that row.
 #![tactic(auto)]
+
 mod energy;
 mod writer;
 
