@@ -1,7 +1,7 @@
 -- The gap form of a device's energy: what the gaps and the uses along a sequence of places cost. In a list it is the least energy of the device's legal rows; for
 -- either rule: Rounds.
 use mathlib.Core.Path.{◌≡◌, refl, sym, ap, ◌∙◌, subst}
-use mathlib.Core.Bool.{Bool, true, false, cond, ◌&&◌, ◌||◌, and_false, or_assoc, or_comm}
+use mathlib.Core.Bool.{Bool, true, false, cond, ◌&&◌, ◌||◌, and-false, or_assoc, or_comm}
 use mathlib.Core.List.{List, [], ◌∷◌, ◌++◌, map}
 use mathlib.Core.Logic.{⊎_elim}
 use Prim.Native.Nat.{ℕ, zero, suc, ◌+◌, ◌-◌, ◌*◌, ◌≤◌, ◌<◌}
@@ -55,7 +55,7 @@ module _ (R : Recorder) (k : ℕ) where
 
   used_after : (p : Place) (r : List Place) (t : ℕ) → p.start + run R p.job ≤ t → used R k (p ∷ r) t ≡ used R k r t
   unfolding used
-  used_after p r t l = rw (le-ltb t (p.start + run R p.job) l, and_false, and_false)
+  used_after p r t l = rw (le-ltb t (p.start + run R p.job) l, and-false, and-false)
 
   pub used_beside : (p : Place) (r : List Place) (t : ℕ) → uses R k p.job ≡ false → used R k (p ∷ r) t ≡ used R k r t
   unfolding used
@@ -66,7 +66,7 @@ module _ (R : Recorder) (k : ℕ) where
   unfolding used
   used_before_lem [] t h x w l = refl
   used_before_lem (p ∷ r) t h x w l =
-      rw (lt-leb p.start x (omega (arith, w.0)), and_false) (used_before_lem r (p.start + run R p.job) h x w.2 (omega (arith, w.0)))
+      rw (lt-leb p.start x (omega (arith, w.0)), and-false) (used_before_lem r (p.start + run R p.job) h x w.2 (omega (arith, w.0)))
 
   -- The last use is over when the places are.
   pub last_by : (r : List Place) (e t h : ℕ) → InTurn R t h r → e ≤ t → last_end R k e r ≤ h
@@ -177,6 +177,7 @@ module _ (R : Recorder) (k : ℕ) where
     where
       swap : (a b c d : Bool) → c ≡ (b || d) → (a || c) ≡ (b || (a || d))
       swap a b c d e = ap (λ (x : Bool). a || x) e ∙ sym (or_assoc a b d) ∙ ap (λ (x : Bool). x || d) (or_comm a b) ∙ or_assoc b a d
+  used_first s j [] m t = elim m [ ]
 
   used_ordered :
       (m : ℕ) (s : List ℕ) (u : List ℕ) → length u ≡ m → (t : ℕ) → used R k (ordered m s u) t ≡ used R k (map (λ i. place i (start s i)) u) t

@@ -1,5 +1,5 @@
 -- How a sleep is written plays no part in planning: a recorder that differs in nothing else has the same schedules, rows and energies, the same plan, and as many vertices.
-use mathlib.Core.Path.{◌≡◌, refl, sym, ap, subst, ◌∙◌}
+use mathlib.Core.Path.{◌≡◌, refl, sym, ap, subst}
 use mathlib.Core.Bool.{Bool, cond}
 use mathlib.Core.Option.{Option, none, some}
 use mathlib.Core.List.{List, [], ◌∷◌}

@@ -2,7 +2,7 @@
 -- first use and after the last is one gap, paid when the plan is whole; a device never used sleeps throughout.
 -- Code carries three numbers for each device: `since`, what has been paid from there on (paid), and the end of the last use (last_end).
 use mathlib.Core.Path.{◌≡◌, refl, sym, ap, ◌∙◌}
-use mathlib.Core.Bool.{Bool, true, false, cond, ◌&&◌, and-true, and_false, true≢false}
+use mathlib.Core.Bool.{Bool, true, false, cond, ◌&&◌, and-true, and-false, true≢false}
 use mathlib.Core.List.{List, [], ◌∷◌, ◌++◌, append_assoc}
 use mathlib.Core.Logic.{◌⊎◌, inl, inr, ⊎_elim, by_cases}
 use Prim.Native.Nat.{ℕ, suc, ◌+◌, ◌-◌, ◌*◌, ◌≤◌, ◌<◌}
@@ -231,9 +231,9 @@ module _ (R : Recorder) (k : ℕ) (r : List Place) (p : Place) (h : ℕ) (w : In
       let a = first_start R k r in
       let e = last_end R k 0 r in
       test_cases (λ b. cond b (first_start R k (r ++ p ∷ [])) 0 ≡ cond (uses R k p.job && (b && eqb e 0)) p.start (cond b a 0)) R.round
-      (λ q. ⊎_elim (λ u. rw (u.first_on (p ∷ []), u.last 0, u.first, and-true)) (λ u. rw (u.first_on (p ∷ []), ends_late R k r h w u, and_false))
+      (λ q. ⊎_elim (λ u. rw (u.first_on (p ∷ []), u.last 0, u.first, and-true)) (λ u. rw (u.first_on (p ∷ []), ends_late R k r h w u, and-false))
       (use_cases R k r 0 h w))
-      (λ q. rw and_false)
+      (λ q. rw and-false)
 
   abbrev Grown : Bool → Type 0
   Grown b =

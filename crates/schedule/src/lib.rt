@@ -1,5 +1,6 @@
 // Jobs on one processor: start times judged, their margins, and the rows and the energy of the plan that they make. The search is in crate visit.
 #![tactic(auto)]
+
 use device::{Device, Sleeps};
 
 mod judging; // judging.rt: the first fault of start times

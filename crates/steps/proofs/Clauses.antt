@@ -1,6 +1,6 @@
 -- Two clauses of the rules change nothing, since before each completion the invariant holds.
 use mathlib.Core.Path.{◌≡◌, refl, ◌∙◌}
-use mathlib.Core.Bool.{Bool, true, false, cond, not, ◌&&◌, ◌||◌, and_false}
+use mathlib.Core.Bool.{Bool, true, false, cond, not, ◌&&◌, ◌||◌, and-false}
 use mathlib.Core.List.{List, [], ◌∷◌}
 use mathlib.Core.Logic.{by_cases}
 use Prim.Native.Nat.{ℕ, ◌≤◌, ◌<◌}
@@ -36,7 +36,7 @@ any_end T false next pause (ran_slept e h) = refl
 -- The order of a completion and a start at one tick (rule 94): without a pause the completion does nothing, before the start or after it.
 module _ (T : ℕ) (moves : 1 ≤ T) where
   end_work : (this next : Bool) → at_end T this next 0 Working ≡ Working
-  end_work this next = rw (lt-leb T 0 moves, and_false, and_false)
+  end_work this next = rw (lt-leb T 0 moves, and-false, and-false)
 
   end_nothing : (this next : Bool) {st : State} {z : Row.State} → Ran T this next 0 st z → (this' next' : Bool) (pause' : ℕ)
       → at_end T this next 0 (at_start T this' next' pause' st) ≡ at_start T this' next' pause' (at_end T this next 0 st)

@@ -1,6 +1,6 @@
 -- The invariant along the jobs of a schedule, and what changes nothing where it holds.
 use mathlib.Core.Path.{◌≡◌, refl}
-use mathlib.Core.Bool.{Bool, true, false, ◌&&◌, ◌||◌, and_false}
+use mathlib.Core.Bool.{Bool, true, false, ◌&&◌, ◌||◌, and-false}
 use mathlib.Core.List.{List, [], ◌∷◌, ◌++◌}
 use Prim.Native.Nat.{ℕ, ◌+◌, ◌-◌, ◌≤◌, ◌<◌}
 use native.Mathlib.Omega.{arith}
@@ -50,7 +50,7 @@ module _ (R : Recorder) (k : ℕ) where
 
   used_after : (p : Place) (r : List Place) (t : ℕ) → end_of R k p ≤ t → used R k (p ∷ r) t ≡ used R k r t
   unfolding used
-  used_after p r t l = rw (le-ltb t (end_of R k p) l, and_false, and_false)
+  used_after p r t l = rw (le-ltb t (end_of R k p) l, and-false, and-false)
 
   uses_job : (p : Place) (r : List Place) (a : ℕ) → InTurn R a R.horizon (p ∷ r)
       → pattern (used R k (p ∷ r)) a (R.horizon - a)
