@@ -1,6 +1,7 @@
 // What a request file says, as numbers: its tables. They are read from the bytes of a file and laid out as one; whether they can be planned with is for
 // crate request to judge, from the bytes.
 #![tactic(auto)]
+
 mod kinds; // kinds.rt: the kinds of files, and where their device records stand
 mod laying; // laying.rt: the bytes of tables, from the first to the last
 mod records; // records.rt: the tables of a file

@@ -1,0 +1,15 @@
+-- `tables::laying::count_of` meets its contract.
+use Rattle.tables.specs.inside.Held.{limited}
+use Rattle.tables.proofs.laying.count_of.Goals as goal
+
+pub returns-in-Devices : goal.returns-in-Devices
+unfolding limited
+returns-in-Devices c = rw c.in-Devices.is c.fewer.ensures
+
+pub returns-in-Tasks : goal.returns-in-Tasks
+unfolding limited
+returns-in-Tasks c = rw c.in-Tasks.is c.fewer-in-Tasks.ensures
+
+pub returns-in-Jobs : goal.returns-in-Jobs
+unfolding limited
+returns-in-Jobs c = rw c.in-Jobs.is c.fewer-in-Jobs.ensures

@@ -1,0 +1,20 @@
+-- `tables::laying::push_first` meets its contract.
+use native.Mathlib.Omega.{arith}
+use Rattle.tables.specs.inside.Held.{appended}
+use Rattle.tables.proofs.laying.push_first.Goals as goal
+
+pub push_pair-b-requires : goal.push_pair-b-requires
+unfolding appended
+push_pair-b-requires c = rw c.push-a.ensures (omega arith)
+
+pub push_pair-c-requires : goal.push_pair-c-requires
+unfolding appended
+push_pair-c-requires c = rw (c.push_pair-b.ensures, c.push-a.ensures) (omega arith)
+
+pub push_pair-requires : goal.push_pair-requires
+unfolding appended
+push_pair-requires c = rw (c.push_pair-c.ensures, c.push_pair-b.ensures, c.push-a.ensures) (omega arith)
+
+pub returns : goal.returns
+unfolding appended
+returns c = rw (c.push_pair.ensures, c.push_pair-c.ensures, c.push_pair-b.ensures, c.push-a.ensures)

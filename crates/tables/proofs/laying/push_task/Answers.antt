@@ -1,0 +1,16 @@
+-- `tables::laying::push_task` meets its contract.
+use native.Mathlib.Omega.{arith}
+use Rattle.tables.specs.inside.Held.{appended}
+use Rattle.tables.proofs.laying.push_task.Goals as goal
+
+pub push_pair-b-requires : goal.push_pair-b-requires
+unfolding appended
+push_pair-b-requires c = rw c.push_pair-a.ensures (omega arith)
+
+pub push-requires : goal.push-requires
+unfolding appended
+push-requires c = rw (c.push_pair-b.ensures, c.push_pair-a.ensures) (omega arith)
+
+pub returns : goal.returns
+unfolding appended
+returns c = rw (c.push.ensures, c.push_pair-b.ensures, c.push_pair-a.ensures)
