@@ -16,8 +16,7 @@ pub use crate::bytes::{get_starts, put, put_starts};
 pub use crate::results::{RESULT, cramped, tell};
 
 // Whether the file is accepted, and its horizon.
-#[unsafe(no_mangle)]
-pub extern "C" fn floe_check(file: &[u8], res: &mut [u8]) -> u8
+pub fn floe_check(file: &[u8], res: &mut [u8]) -> u8
     ensures { CheckCalled file.now res.old result res.new }
 {
     if res.len() < RESULT {
@@ -27,8 +26,7 @@ pub extern "C" fn floe_check(file: &[u8], res: &mut [u8]) -> u8
 }
 
 // How many devices, tasks and jobs the request has, a byte each: of jobs all that are planned, those that tasks release too.
-#[unsafe(no_mangle)]
-pub extern "C" fn floe_sizes(file: &[u8], sizes: &mut [u8], res: &mut [u8]) -> u8
+pub fn floe_sizes(file: &[u8], sizes: &mut [u8], res: &mut [u8]) -> u8
     ensures { SizesCalled file.now sizes.old res.old result sizes.new res.new }
 {
     if res.len() < RESULT {
@@ -37,9 +35,8 @@ pub extern "C" fn floe_sizes(file: &[u8], sizes: &mut [u8], res: &mut [u8]) -> u
     tell(planner::sizes(file, sizes), res)
 }
 
-// The start times of the first of the least_energy schedules that meet all deadlines, if the budget covers the vertices of the search.
-#[unsafe(no_mangle)]
-pub extern "C" fn floe_search(file: &[u8], budget: u32, starts: &mut [u8], res: &mut [u8]) -> u8
+// The start times of the first of the least-energy schedules that meet all deadlines, if the budget covers the vertices of the search.
+pub fn floe_search(file: &[u8], budget: u32, starts: &mut [u8], res: &mut [u8]) -> u8
     ensures { SearchCalled file.now budget starts.old res.old result starts.new res.new }
 {
     if res.len() < RESULT {
@@ -50,8 +47,7 @@ pub extern "C" fn floe_search(file: &[u8], budget: u32, starts: &mut [u8], res: 
 }
 
 // The same with a memory that the caller lends, of any length and whatever it holds. It is written to only where more than 256 vertices are counted.
-#[unsafe(no_mangle)]
-pub extern "C" fn floe_search_in(
+pub fn floe_search_in(
     file: &[u8],
     budget: u32,
     memory: &mut [u64],
@@ -67,8 +63,7 @@ pub extern "C" fn floe_search_in(
 }
 
 // The row of every device, the legal row of least energy, for feasible start times.
-#[unsafe(no_mangle)]
-pub extern "C" fn floe_rows(file: &[u8], starts: &[u8], out: &mut [u8], res: &mut [u8]) -> u8
+pub fn floe_rows(file: &[u8], starts: &[u8], out: &mut [u8], res: &mut [u8]) -> u8
     ensures { RowsCalled file.now starts.now out.old res.old result out.new res.new }
 {
     let request = read(file);

@@ -64,8 +64,7 @@ pub fn tell_place(fault: PlaceFault, res: &mut [u8]) -> u8
 }
 
 // Where a file is refused: its first place at fault.
-#[unsafe(no_mangle)]
-pub extern "C" fn floe_fault(file: &[u8], res: &mut [u8]) -> u8
+pub fn floe_fault(file: &[u8], res: &mut [u8]) -> u8
     ensures { FaultCalled file.now res.old result res.new }
 {
     if res.len() < PLACE {
@@ -75,8 +74,7 @@ pub extern "C" fn floe_fault(file: &[u8], res: &mut [u8]) -> u8
 }
 
 // Where tables are refused, in the file that they make. 255: they are no tables, or the result buffer has no room.
-#[unsafe(no_mangle)]
-pub extern "C" fn door_fault(tables: &[u8], res: &mut [u8]) -> u8
+pub fn door_fault(tables: &[u8], res: &mut [u8]) -> u8
     ensures { FaultDoor tables.now res.old result res.new }
 {
     if res.len() < PLACE {
@@ -98,8 +96,7 @@ fn tell_counted(number: u8, place: usize, res: &mut [u8]) -> u8
 }
 
 // The part, or the wanted number, for which an order is refused. 255: the result buffer has no room.
-#[unsafe(no_mangle)]
-pub extern "C" fn door_order_fault(catalogue: &[u8], wanted: &[u8], res: &mut [u8]) -> u8
+pub fn door_order_fault(catalogue: &[u8], wanted: &[u8], res: &mut [u8]) -> u8
     ensures { OrderFaultDoor catalogue.now wanted.now res.old result res.new }
 {
     if res.len() < COUNTED {
@@ -110,8 +107,7 @@ pub extern "C" fn door_order_fault(catalogue: &[u8], wanted: &[u8], res: &mut [u
 }
 
 // The line for which a sheet of devices is refused, and that of a sheet of jobs. 255: the result buffer has no room.
-#[unsafe(no_mangle)]
-pub extern "C" fn door_devices_fault(text: &[u8], res: &mut [u8]) -> u8
+pub fn door_devices_fault(text: &[u8], res: &mut [u8]) -> u8
     ensures { DevicesFaultDoor text.now res.old result res.new }
 {
     if res.len() < COUNTED {
@@ -121,8 +117,7 @@ pub extern "C" fn door_devices_fault(text: &[u8], res: &mut [u8]) -> u8
     tell_counted(fault.number, fault.line, res)
 }
 
-#[unsafe(no_mangle)]
-pub extern "C" fn door_jobs_fault(text: &[u8], res: &mut [u8]) -> u8
+pub fn door_jobs_fault(text: &[u8], res: &mut [u8]) -> u8
     ensures { JobsFaultDoor text.now res.old result res.new }
 {
     if res.len() < COUNTED {

@@ -32,8 +32,7 @@ fn first_bytes(file: &[u8], bytes: &mut [u8]) -> Answer
 }
 
 // The start times of the first of all schedules that meet all deadlines, if there is one.
-#[unsafe(no_mangle)]
-pub extern "C" fn floe_first(file: &[u8], starts: &mut [u8], res: &mut [u8]) -> u8
+pub fn floe_first(file: &[u8], starts: &mut [u8], res: &mut [u8]) -> u8
     ensures { FirstCalled file.now starts.old res.old result starts.new res.new }
 {
     if res.len() < RESULT {

@@ -32,9 +32,8 @@ fn least_bytes(file: &[u8], budget: u32, memory: &mut [u64], bytes: &mut [u8]) -
     found
 }
 
-// The start times of the first of the least_energy schedules that meet all deadlines, worked out with the lent memory.
-#[unsafe(no_mangle)]
-pub extern "C" fn floe_least(
+// The start times of the first of the least-energy schedules that meet all deadlines, worked out with the lent memory.
+pub fn floe_least(
     file: &[u8],
     budget: u32,
     memory: &mut [u64],

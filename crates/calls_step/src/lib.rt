@@ -9,8 +9,7 @@ use steps::{energy_ticks, on_end, on_start, pass};
 mod records; // records.rt: a device and its record as bytes
 
 // A job starts: `this` job uses the device or not, the `next` one uses it or not, and so many ticks after this one's end it starts.
-#[unsafe(no_mangle)]
-pub extern "C" fn floe_step_start(
+pub fn floe_step_start(
     device: &[u8],
     this: u8,
     next: u8,
@@ -32,8 +31,7 @@ pub extern "C" fn floe_step_start(
 }
 
 // A job is completed.
-#[unsafe(no_mangle)]
-pub extern "C" fn floe_step_end(
+pub fn floe_step_end(
     device: &[u8],
     this: u8,
     next: u8,
@@ -55,8 +53,7 @@ pub extern "C" fn floe_step_end(
 }
 
 // So many ticks pass in which no job starts and none is completed.
-#[unsafe(no_mangle)]
-pub extern "C" fn floe_step_pass(device: &[u8], ticks: u16, bytes: &mut [u8]) -> u8
+pub fn floe_step_pass(device: &[u8], ticks: u16, bytes: &mut [u8]) -> u8
     ensures { PassCalled device.now ticks bytes.old result bytes.new }
 {
     let fault = fault_of(device, bytes);

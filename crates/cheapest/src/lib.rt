@@ -1,4 +1,4 @@
-// The first of the least_energy schedules of a request, worked out with a memory that the caller lends. `least_plan` asks nothing of its caller; specs/Promises.antt
+// The first of the least-energy schedules of a request, worked out with a memory that the caller lends. `least_plan` asks nothing of its caller; specs/Promises.antt
 // says its complete outcome, but for what the memory holds where a plan was looked for, and whether the memory was enough for one.
 #![tactic(auto)]
 ghost use Rattle.std.specs.Prelude.{◌≡◌, ◌++◌, ◌-◌, ◌^◌, ◌<◌, ◌≤◌, ltb, get_or, length, drop, replicate};
@@ -76,7 +76,7 @@ fn counted(r: Recorder, budget: u32, memory: &mut [u64], starts: &mut [u16]) -> 
     success(r.horizon, found.energy, 0)
 }
 
-// The first of the least_energy schedules of a recorder that has one, where there is room for its starts. Where the search that remembers gives up, the one that counts
+// The first of the least-energy schedules of a recorder that has one, where there is room for its starts. Where the search that remembers gives up, the one that counts
 // has the same budget and memory.
 fn least_with(
     r: Recorder,
@@ -117,7 +117,7 @@ pub fn least_of(r: Recorder, budget: u32, memory: &mut [u64], starts: &mut [u16]
     least_with(r, &flat, &latest, budget, memory, starts)
 }
 
-// Writes the start times of the first of the least_energy schedules that meet all deadlines. The memory may hold anything and be of any length: the more, the
+// Writes the start times of the first of the least-energy schedules that meet all deadlines. The memory may hold anything and be of any length: the more, the
 // faster. It is written to only where a plan is looked for.
 pub fn least_plan(file: &[u8], budget: u32, memory: &mut [u64], starts: &mut [u16]) -> Answer
     ensures { LeastPlannedIn file.now budget memory.old starts.old result memory.new starts.new }

@@ -26,8 +26,7 @@ fn opens_to(given: &[u8], res: usize) -> bool
     pair_at(given, 3) == 0
 }
 
-#[unsafe(no_mangle)]
-pub extern "C" fn door_build(
+pub fn door_build(
     parts: &[u8],
     wanted: &[u8],
     given: &[u8],

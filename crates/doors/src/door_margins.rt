@@ -46,8 +46,7 @@ fn margin_bytes(file: &[u8], starts: &[u16], out: &mut [u8]) -> Answer
     answer
 }
 
-#[unsafe(no_mangle)]
-pub extern "C" fn door_margins(file: &[u8], starts: &[u8], out: &mut [u8], res: &mut [u8]) -> u8
+pub fn door_margins(file: &[u8], starts: &[u8], out: &mut [u8], res: &mut [u8]) -> u8
     ensures { MarginsDoor file.now starts.now out.old res.old result out.new res.new }
 {
     if !is_open(starts.len(), res.len()) {

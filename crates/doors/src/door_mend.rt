@@ -27,8 +27,7 @@ fn mend_bytes(file: &[u8], given: &[u16], out: &mut [u8], moved: &mut [u8]) -> A
     answer
 }
 
-#[unsafe(no_mangle)]
-pub extern "C" fn door_mend(
+pub fn door_mend(
     file: &[u8],
     starts: &[u8],
     out: &mut [u8],

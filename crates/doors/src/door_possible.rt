@@ -27,8 +27,7 @@ fn possible_bytes(file: &[u8], budget: u32, starts: &mut [u8]) -> Answer
     answer
 }
 
-#[unsafe(no_mangle)]
-pub extern "C" fn door_possible(file: &[u8], budget: u32, starts: &mut [u8], res: &mut [u8]) -> u8
+pub fn door_possible(file: &[u8], budget: u32, starts: &mut [u8], res: &mut [u8]) -> u8
     ensures { PossibleDoor file.now budget starts.old res.old result starts.new res.new }
 {
     if res.len() < RESULT {

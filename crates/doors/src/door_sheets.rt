@@ -6,8 +6,7 @@ use doorway::{SHUT, hand_starts, is_open};
 use sheet_export::{export_devices, export_jobs, export_plan};
 use sheet_import::{import_devices, import_jobs};
 
-#[unsafe(no_mangle)]
-pub extern "C" fn door_import_devices(text: &[u8], out: &mut [u8], res: &mut [u8]) -> u8
+pub fn door_import_devices(text: &[u8], out: &mut [u8], res: &mut [u8]) -> u8
     ensures { ImportDevicesDoor text.now out.old res.old result out.new res.new }
 {
     if res.len() < RESULT {
@@ -16,8 +15,7 @@ pub extern "C" fn door_import_devices(text: &[u8], out: &mut [u8], res: &mut [u8
     tell(import_devices(text, out), res)
 }
 
-#[unsafe(no_mangle)]
-pub extern "C" fn door_export_devices(catalogue: &[u8], out: &mut [u8], res: &mut [u8]) -> u8
+pub fn door_export_devices(catalogue: &[u8], out: &mut [u8], res: &mut [u8]) -> u8
     ensures { ExportDevicesDoor catalogue.now out.old res.old result out.new res.new }
 {
     if res.len() < RESULT {
@@ -26,8 +24,7 @@ pub extern "C" fn door_export_devices(catalogue: &[u8], out: &mut [u8], res: &mu
     tell(export_devices(catalogue, out), res)
 }
 
-#[unsafe(no_mangle)]
-pub extern "C" fn door_import_jobs(text: &[u8], out: &mut [u8], res: &mut [u8]) -> u8
+pub fn door_import_jobs(text: &[u8], out: &mut [u8], res: &mut [u8]) -> u8
     ensures { ImportJobsDoor text.now out.old res.old result out.new res.new }
 {
     if res.len() < RESULT {
@@ -36,8 +33,7 @@ pub extern "C" fn door_import_jobs(text: &[u8], out: &mut [u8], res: &mut [u8]) 
     tell(import_jobs(text, out), res)
 }
 
-#[unsafe(no_mangle)]
-pub extern "C" fn door_export_jobs(records: &[u8], out: &mut [u8], res: &mut [u8]) -> u8
+pub fn door_export_jobs(records: &[u8], out: &mut [u8], res: &mut [u8]) -> u8
     ensures { ExportJobsDoor records.now out.old res.old result out.new res.new }
 {
     if res.len() < RESULT {
@@ -46,8 +42,7 @@ pub extern "C" fn door_export_jobs(records: &[u8], out: &mut [u8], res: &mut [u8
     tell(export_jobs(records, out), res)
 }
 
-#[unsafe(no_mangle)]
-pub extern "C" fn door_export_plan(file: &[u8], starts: &[u8], out: &mut [u8], res: &mut [u8]) -> u8
+pub fn door_export_plan(file: &[u8], starts: &[u8], out: &mut [u8], res: &mut [u8]) -> u8
     ensures { ExportPlanDoor file.now starts.now out.old res.old result out.new res.new }
 {
     if !is_open(starts.len(), res.len()) {

@@ -43,8 +43,7 @@ fn step_bytes(file: &[u8], starts: &[u16], out: &mut [u8]) -> Answer
     answer
 }
 
-#[unsafe(no_mangle)]
-pub extern "C" fn door_step(file: &[u8], starts: &[u8], out: &mut [u8], res: &mut [u8]) -> u8
+pub fn door_step(file: &[u8], starts: &[u8], out: &mut [u8], res: &mut [u8]) -> u8
     ensures { StepDoor file.now starts.now out.old res.old result out.new res.new }
 {
     if !is_open(starts.len(), res.len()) {

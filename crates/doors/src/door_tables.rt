@@ -26,8 +26,7 @@ fn listing_bytes(file: &[u8], out: &mut [u8]) -> Answer
     success(listing.answer.horizon, 0, n as u32)
 }
 
-#[unsafe(no_mangle)]
-pub extern "C" fn door_tables(file: &[u8], out: &mut [u8], res: &mut [u8]) -> u8
+pub fn door_tables(file: &[u8], out: &mut [u8], res: &mut [u8]) -> u8
     ensures { TablesDoor file.now out.old res.old result out.new res.new }
 {
     if res.len() < RESULT {

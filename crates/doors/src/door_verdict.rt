@@ -5,8 +5,7 @@ use calls::tell;
 use doorway::{SHUT, hand_starts, is_open};
 use planner::verdict;
 
-#[unsafe(no_mangle)]
-pub extern "C" fn door_verdict(file: &[u8], starts: &[u8], res: &mut [u8]) -> u8
+pub fn door_verdict(file: &[u8], starts: &[u8], res: &mut [u8]) -> u8
     ensures { VerdictDoor file.now starts.now res.old result res.new }
 {
     if !is_open(starts.len(), res.len()) {

@@ -6,8 +6,7 @@ use doorway::SHUT;
 use planner::write;
 use table_bytes::{is_tables, tables_from};
 
-#[unsafe(no_mangle)]
-pub extern "C" fn door_write(given: &[u8], out: &mut [u8], res: &mut [u8]) -> u8
+pub fn door_write(given: &[u8], out: &mut [u8], res: &mut [u8]) -> u8
     ensures { WriteDoor given.now out.old res.old result out.new res.new }
 {
     if res.len() < RESULT {

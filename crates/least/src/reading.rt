@@ -203,7 +203,7 @@ fn lift_of(extras: &[u32]) -> u32
     most % 268435456 * 8
 }
 
-// Writes the starts of the first of the least_energy schedules, by job number. Answers whether the budget was enough.
+// Writes the starts of the first of the least-energy schedules, by job number. Answers whether the budget was enough.
 pub fn least_starts(
     r: &Flat,
     extras: &[u32],

@@ -87,7 +87,7 @@ pub fn rows(file: &[u8], starts: &[u16], out: &mut [u8]) -> Answer
     rows_of(request.recorder, starts, out)
 }
 
-// Writes the start times of the first of the least_energy schedules that meet all deadlines, if the budget covers the vertices of the search.
+// Writes the start times of the first of the least-energy schedules that meet all deadlines, if the budget covers the vertices of the search.
 pub fn search(file: &[u8], budget: u32, starts: &mut [u16]) -> Answer
     ensures { Searched file.now budget starts.old result starts.new }
 {

@@ -73,7 +73,7 @@ pub fn rows_of(r: Recorder, starts: &[u16], out: &mut [u8]) -> Answer
     success(r.horizon, total, 0)
 }
 
-// Writes the start times of the first of the least_energy schedules that meet all deadlines, if the budget covers the vertices of the search.
+// Writes the start times of the first of the least-energy schedules that meet all deadlines, if the budget covers the vertices of the search.
 pub fn search_of(r: Recorder, budget: u32, starts: &mut [u16]) -> Answer
     requires { Valid r }
     ensures { SearchOf budget starts.old r result starts.new }

@@ -56,7 +56,7 @@ pub data Tried (most lead ahead : ℕ) (o : Option ℕ) : ℕ → Type 0 where
 
 -- ---- all of it
 
--- The starts of the first of the least_energy schedules stand in l, by job number; or the budget was used up.
+-- The starts of the first of the least-energy schedules stand in l, by job number; or the budget was used up.
 pub data ReadOff (R : Recorder) (budget : ℕ) (l : List ℕ) : Bool → Type 0 where
   read : FirstLeast R (take (jobs R) l) (plan_energy R (take (jobs R) l)) → ReadOff R budget l true
   over : budget < most_vertices R → ReadOff R budget l false
