@@ -1,6 +1,6 @@
 -- The request file (rules 8 to 15, 75 to 77 and 80 to 83): from a list of bytes to the recorder, or to its refusal, one of the numbers 1 to 13 or 26. The bytes are looked at in their
 -- order, and whatever is wrong first gives the number: each section takes the place where it begins, and goes on with the next.
-use Rattle.std.specs.Prelude.{ℕ, zero, suc, ◌+◌, ◌-◌, ◌*◌, ◌/◌, ◌%◌, ◌^◌, List, [], ◌∷◌, ◌++◌, Bool, true, false, cond, not, ◌&&◌, ◌||◌, length, replicate, ltb, leb, eqb}
+use Rattle.std.specs.Prelude.{ℕ, zero, suc, ◌+◌, ◌-◌, ◌*◌, ◌/◌, ◌%◌, ◌^◌, List, [], ◌∷◌, ◌++◌, Bool, false, cond, not, ◌&&◌, ◌||◌, length, replicate, ltb, leb, eqb}
 use Rattle.base.specs.Bytes.{byte_at, pair_at}
 use Rattle.base.specs.Lists.{up_to, padded}
 use Rattle.base.specs.Refusals.{Refusal, ◌⇒◌, first_that, or_else, first_of}

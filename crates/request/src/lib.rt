@@ -1,5 +1,6 @@
 // The request file: every string of bytes is read, refused or unfolded.
 #![tactic(auto)]
+
 mod checks; // checks.rt: what refuses a record, and the records of a section in turn
 mod euclid; // euclid.rt: the greatest common divisor and the least common multiple
 mod horizon; // horizon.rt: the horizon, given or worked out from the tasks

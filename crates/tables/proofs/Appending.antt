@@ -18,7 +18,7 @@ appended_count f (b ∷ l) = omega (arith, appended_count (record { count = f.co
 pub appended_more : (f : File) (l m : List ℕ) → appended (appended f l) m ≡ appended f (l ++ m)
 unfolding appended
 appended_more f [] m = refl
-appended_more f (b ∷ l) m = appended_more _ l m
+appended_more f (b ∷ l) m = appended_more (record { count = f.count + 1; bytes = set f.bytes f.count b }) l m
 
 one_more : (l : List ℕ) (b : ℕ) → length l < 297 → appended (held l) (b ∷ []) ≡ held (l ++ (b ∷ []))
 unfolding appended held

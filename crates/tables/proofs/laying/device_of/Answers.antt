@@ -3,10 +3,9 @@ use mathlib.Core.Path.{◌≡◌, refl, sym, ◌∙◌}
 use mathlib.Core.List.{List, [], ◌∷◌}
 use Prim.Native.Nat.{ℕ, zero, suc, ◌<◌}
 use native.Mathlib.Omega.{arith}
-use lib.ListN.{length, get_or, length-map, get_or-eq_default}
+use lib.ListN.{length, get_or, get_or-eq_default}
 use Rattle.tables.specs.declared.DeviceRecord.{DeviceRecord}
 use Rattle.tables.specs.Records.{blank_device}
-use Rattle.tables.specs.contracts.DeviceRecord.{the_field as device-field}
 use Rattle.tables.proofs.laying.device_of.Goals as goal
 
 -- A place within the list does not look at what stands for those past its end.
@@ -18,11 +17,11 @@ within (x ∷ l) d d' (suc i) h = within l d d' i (omega arith)
 pub returns-then-k-lt8 : goal.returns-then-k-lt8
 returns-then-k-lt8 c =
     let a = c.args in
-    let long : length a.t.list ≡ 8 = sym (length-map a.t.list device-field.into) ∙ c.well_formed.0.1.1.1.0.1.0.1 in
+    let long : length a.t.list ≡ 8 = c.well_formed.0.1.1.1.0.1.0.1 in
     within a.t.list _ blank_device a.k (omega arith)
 
 pub returns-else-k-lt8 : goal.returns-else-k-lt8
 returns-else-k-lt8 c =
     let a = c.args in
-    let long : length a.t.list ≡ 8 = sym (length-map a.t.list device-field.into) ∙ c.well_formed.0.1.1.1.0.1.0.1 in
+    let long : length a.t.list ≡ 8 = c.well_formed.0.1.1.1.0.1.0.1 in
     c.blank_device.ensures ∙ sym (get_or-eq_default a.t.list blank_device {n = a.k} (omega arith))

@@ -17,4 +17,4 @@ pub returns-in-Tasks : goal.returns-in-Tasks
 returns-in-Tasks c = rw (c.in-Tasks.is, ← c.task_of.ensures) c.push_task.ensures
 
 pub returns-in-Jobs : goal.returns-in-Jobs
-returns-in-Jobs c = rw (c.in-Jobs.is, ← c.Job-of.ensures) c.push_job.ensures
+returns-in-Jobs c = rw (c.in-Jobs.is, ← c.job_of.ensures) c.push_job.ensures
