@@ -1,5 +1,6 @@
 // One device step by step, as the recorder itself runs it: its record, what a start, a completion and passing ticks do to it, and a whole round. There is no row.
 #![tactic(auto)]
+
 mod rules; // rules.rt: what is done at a start and at a completion
 mod stepping; // stepping.rt: a device along the jobs of a round
 mod ticks; // ticks.rt: what passes between two events

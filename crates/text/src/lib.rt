@@ -1,5 +1,6 @@
 // Comma-separated text: its lines, its fields and its numbers, read and written. specs/Grammar.antt and Numerals.antt say what they are.
 #![tactic(auto)]
+
 mod fields; // fields.rt: the fields of a line
 mod lines; // lines.rt: the lines of a text
 mod numbers; // numbers.rt: a number in digits
