@@ -13,7 +13,7 @@ use Rattle.faults.specs.declared.PlaceFault.{PlaceFault}
 use Rattle.faults.specs.Places.{no_fault, FirstFault, here, later, FaultAs, accepted, refused, FaultOf, TablesFault}
 
 -- A list has one first place at fault.
-first_one : (l : List PlaceFault) {f g : PlaceFault} → FirstFault f l → FirstFault g l → f ≡ g
+first_one : {f g : PlaceFault} (l : List PlaceFault) → FirstFault f l → FirstFault g l → f ≡ g
 first_one _ (here h) (here h') = refl
 first_one _ (here h) (later z p') = absurd (h z)
 first_one _ (later z p) (here h') = absurd (h' z)

@@ -1,6 +1,7 @@
 // Where a request is refused: the first of its places, in reading order, that is at fault, with the number and the bytes. specs/Places.antt says what the places
 // are and which of them is told.
 #![tactic(auto)]
+
 mod records; // records.rt: the records of a section in turn
 mod sections; // sections.rt: the sections in turn, and the first place at fault
 

@@ -1,5 +1,6 @@
 // Tables as bytes, for the doors: read from them, and laid out as them. specs/TableBytes.antt says what each byte means.
 #![tactic(auto)]
+
 ghost use Rattle.std.specs.Prelude.{◌≡◌, true, false, ◌+◌, ◌*◌, ◌≤◌, ◌<◌, min, length};
 ghost use Rattle.base.specs.Bytes.{pair_at};
 ghost use Rattle.base.specs.Refusals.{after};

@@ -10,17 +10,13 @@ use Rattle.faults.specs.declared.PlaceFault.{PlaceFault}
 use Rattle.faults.specs.Places.{FaultAs}
 use Rattle.faults.specs.inside.Walk.{walk}
 use Rattle.faults.proofs.Promised.{walk_promised}
-use Rattle.faults.proofs.sections.fault_in.Statement.{statement}
-use Rattle.faults.proofs.sections.fault_in.Tie as tie
+use Rattle.faults.proofs.sections.fault_in.Goals as goal
 
 walked : (k : Kind) (s : List ℕ) (mark : ℕ) (f : PlaceFault) → mark ≡ length (marker k) → f ≡ walk mark k s → FaultAs k s f
 walked k s mark f e h = rw (h, e) (walk_promised k s)
 
-walk-in-requires : tie.Need-walk-in-requires
-walk-in-requires c κs = rw c.before.requires (length_marker c.before.args.kind)
+pub walk_in-requires : goal.walk_in-requires
+walk_in-requires c = rw c.requires (length_marker c.args.kind)
 
-returns : tie.Need-returns
-returns c = walked _ _ _ _ c.before.before.requires c.walk-in.ensures
-
-pub fault-in-spec : {M : Type 1} → statement M
-fault-in-spec = tie.close (tie.spec walk-in-requires returns)
+pub returns : goal.returns
+returns c = walked _ _ _ _ c.requires c.walk_in.ensures

@@ -1,5 +1,4 @@
 -- `faults::fault_of` meets its contract.
-use borrow.Author.Rules.{rules}
 use mathlib.Core.Path.{◌≡◌}
 use mathlib.Core.List.{List}
 use Prim.Native.Nat.{ℕ}
@@ -9,17 +8,13 @@ use Rattle.tables.specs.Layout.{marker, kind_of}
 use Rattle.tables.proofs.Back.{mark_fits}
 use Rattle.faults.specs.declared.PlaceFault.{PlaceFault}
 use Rattle.faults.specs.Places.{FaultAs, FaultOf}
-use Rattle.faults.proofs.fault_of.Statement.{statement}
-use Rattle.faults.proofs.fault_of.Tie as tie
+use Rattle.faults.proofs.fault_of.Goals as goal
 
 by-its-own : (s : List ℕ) (k : Kind) (f : PlaceFault) → k ≡ kind_of s → FaultAs k (drop (length (marker k)) s) f → FaultOf s f
 by-its-own s k f e h = rw e at h
 
-fault-by-requires : tie.Need-fault-by-requires
-fault-by-requires c κs = rw c.kind-of.ensures (mark_fits _)
+pub fault_by-requires : goal.fault_by-requires
+fault_by-requires c = rw c.kind_of.ensures (mark_fits _)
 
-returns : tie.Need-returns
-returns c = by-its-own _ _ _ c.before.kind-of.ensures c.fault-by.ensures
-
-pub fault-of-spec : {M : Type 1} → statement M
-fault-of-spec = tie.close (tie.spec (λ c κs. search rules) fault-by-requires returns)
+pub returns : goal.returns
+returns c = by-its-own _ _ _ c.kind_of.ensures c.fault_by.ensures

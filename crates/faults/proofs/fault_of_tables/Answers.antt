@@ -1,5 +1,4 @@
 -- `faults::fault_of_tables` meets its contract: what is laid out is the file of the tables, but for counts that are refused.
-use borrow.Author.Rules.{rules}
 use mathlib.Core.Path.{◌≡◌, sym, subst, ◌∙◌}
 use mathlib.Core.List.{List}
 use Prim.Native.Nat.{ℕ, ◌≤◌}
@@ -18,14 +17,7 @@ use Rattle.faults.specs.inside.Walk.{walk}
 use Rattle.faults.proofs.Promised.{walk_promised}
 use Rattle.faults.proofs.Limiting.{walk_limited}
 use Rattle.faults.proofs.Only.{only_fault_as}
-use Rattle.faults.proofs.fault_of_tables.Statement.{statement}
-use Rattle.faults.proofs.fault_of_tables.Tie as tie
-
-laid : (c : tie.After-file-of) → take c.file-of.result.count c.file-of.result.bytes ≡ bytes_of (limited c.before.args.given)
-laid c = rw c.file-of.ensures (held_front (bytes_of (limited c.before.args.given)))
-
-fits : (c : tie.After-file-of) → c.file-of.result.count ≤ length c.file-of.result.bytes
-fits c = rw c.file-of.ensures (held_long (bytes_of (limited c.before.args.given)) (limited_fits c.before.args.given))
+use Rattle.faults.proofs.fault_of_tables.Goals as goal
 
 -- The mark is that of the tables' kind, and what follows it is the layout.
 limited-mark : (T : Tables) → (length (marker T.kind) ≤ length (bytes_of (limited T))) × (drop (length (marker T.kind)) (bytes_of (limited T)) ≡ layout_of (limited T))
@@ -43,21 +35,23 @@ uncut T s f e p =
     let same = only_fault_as T.kind (layout_of (limited T)) q (walk_promised T.kind (layout_of (limited T))) ∙ walk-unlimited T mark in
     subst (FaultAs T.kind (layout_of T)) (sym same) (walk_promised T.kind (layout_of T))
 
-array-share-prefix-bytes : tie.Need-array-share-prefix-bytes
-array-share-prefix-bytes c = fits c.before
+pub slice_bounds-bytes-end : goal.slice_bounds-bytes-end
+slice_bounds-bytes-end c =
+    let fits : c.file_of-file.result.count ≤ length c.file_of-file.result.bytes = rw c.file_of-file.ensures (held_long (bytes_of (limited c.args.given)) (limited_fits c.args.given)) in
+    fits
 
-slice-aggregate-fault-by : tie.Need-slice-aggregate-fault-by
-slice-aggregate-fault-by c =
-    let r = c.before.before.file-of.result in
-    sym (length-take-le r.count r.bytes (fits c.before.before))
+pub slice_bounds-fault_by-end : goal.slice_bounds-fault_by-end
+slice_bounds-fault_by-end c =
+    let fits : c.file_of-file.result.count ≤ length c.file_of-file.result.bytes = rw c.file_of-file.ensures (held_long (bytes_of (limited c.args.given)) (limited_fits c.args.given)) in
+    let r = c.file_of-file.result in
+    sym (length-take-le r.count r.bytes fits)
 
-fault-by-requires : tie.Need-fault-by-requires
-fault-by-requires c κs = rw (laid c.before.before) (limited-mark c.before.before.before.args.given).0
+pub fault_by-requires : goal.fault_by-requires
+fault_by-requires c =
+    let laid : take c.file_of-file.result.count c.file_of-file.result.bytes ≡ bytes_of (limited c.args.given) = rw c.file_of-file.ensures (held_front (bytes_of (limited c.args.given))) in
+    rw laid (limited-mark c.args.given).0
 
-returns : tie.Need-returns
-returns c = uncut _ _ _ (laid c.before.before.before) c.fault-by.ensures
-
-pub fault-of-tables-spec : {M : Type 1} → statement M
-fault-of-tables-spec =
-    tie.close
-    (tie.spec (λ c κs. search rules) array-share-prefix-bytes slice-aggregate-fault-by fault-by-requires returns)
+pub returns : goal.returns
+returns c =
+    let laid : take c.file_of-file.result.count c.file_of-file.result.bytes ≡ bytes_of (limited c.args.given) = rw c.file_of-file.ensures (held_front (bytes_of (limited c.args.given))) in
+    uncut _ _ _ laid c.fault_by.ensures
