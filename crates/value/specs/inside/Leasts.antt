@@ -62,7 +62,7 @@ module _ (R : Recorder) where
 
   -- ---- one tick
 
-  -- By how much the least of a child may fall from one start of job j to the next, on device k, where `rise` and `fall` are the steepest one_tick changes of its extra.
+  -- By how much the least of a child may fall from one start of job j to the next, on device k, where `rise` and `fall` are the steepest one-tick changes of its extra.
   unfoldable pub drop_at : (ℕ → ℕ) → (ℕ → ℕ) → List Place → ℕ → ℕ → ℕ
   drop_at rise fall r j k = cond (uses R k j) (cond (unused R k r) (rise k + fall k) (rise k)) 0
 
