@@ -1,6 +1,7 @@
 // What each gap of each device costs above the deepest sleep, worked out once before a search; with it from which length on that stays the same, from which on it no
 // longer falls and to what it falls, and by how much one tick more changes it at most; and of each job its last start, and which devices it uses.
 #![tactic(auto)]
+
 ghost use Rattle.std.specs.Prelude.{◌≡◌, ◌+◌, ◌*◌, ◌<◌, ◌≤◌, length};
 ghost use Rattle.extras.specs.inside.Tabled.{extra_at, cap_at, rise_at, fall_at, least_from};
 ghost use Rattle.extras.specs.inside.Jobs.{used_count_at, last_at, used_at};

@@ -1,6 +1,7 @@
 // The recorder laid flat, twenty rows of sixteen numbers (specs/inside/Flat says which). A struct that goes by value is copied at every call; this is lent, so that
 // nothing of the recorder is copied at a vertex.
 #![tactic(auto)]
+
 ghost use Rattle.std.specs.Prelude.{◌≡◌, ◌<◌};
 ghost use Rattle.device.specs.Row.{Sound, deep};
 ghost use Rattle.schedule.specs.Quantities.{Valid, device, jobs, release, deadline, run, uses};

@@ -1,6 +1,7 @@
 // For each set of jobs the latest time from which all of them can still be run, which decides whether a recorder has any schedule. A set is a number: bit j is set
 // where job j is one of it.
 #![tactic(auto)]
+
 ghost use Rattle.std.specs.Prelude.{◌≡◌, suc, ◌-◌, ◌/◌, ◌^◌, ◌<◌, ◌≤◌, min, get_or, length};
 ghost use Rattle.schedule.specs.Quantities.{Valid, jobs};
 ghost use Rattle.flat.specs.inside.Flat.{recorder_of};
