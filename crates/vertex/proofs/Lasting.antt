@@ -139,6 +139,7 @@ module _ (R : Recorder) (valid : Valid R) where
       either : (b : Bool) → late R t u ≡ true → (b || late R t u) ≡ true
       either true e = refl
       either false e = e
+  one_late t i [] x'' l = elim x'' [ ]
 
   late_is : (t y : ℕ) (u : List ℕ) → ((i : ℕ) → In i u → i < jobs R) → Least R u y → t < 65536 → late R t u ≡ ltb y t
   late_is t y u known h few = go (ltb y t) refl
