@@ -1,5 +1,6 @@
 // The key of a vertex as searches that remember store it: its words, the row of a table in which it is looked for, and a table that is forgotten.
 #![tactic(auto)]
+
 ghost use Rattle.std.specs.Prelude.{◌≡◌, ℕ, ◌<◌, get_or};
 
 pub mod comparing; // comparing.rt: a stored key compared

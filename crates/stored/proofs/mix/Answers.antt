@@ -1,9 +1,7 @@
 -- `stored::mix` is safe: its sums and products fit.
 use Prim.Native.Nat.{ℕ, ◌+◌, ◌*◌, ◌/◌, ◌%◌, ◌^◌, ◌<◌}
 use native.Mathlib.Omega.{arith}
-use borrow.Author.Rules.{rules}
-use Rattle.stored.proofs.mix.Statement.{statement}
-use Rattle.stored.proofs.mix.Tie as tie
+use Rattle.stored.proofs.mix.Goals as goal
 
 -- The sum before the last product.
 sum_fits : (y x : ℕ) → x < 2 ^ 64 → (y % 4294967296 * 2654435769) / 65536 + x / 4294967296 < 2 ^ 64
@@ -12,8 +10,5 @@ sum_fits y x h = small (y % 4294967296 * 2654435769) x h (omega arith)
     small : (a x : ℕ) → x < 2 ^ 64 → a < 2 ^ 64 → a / 65536 + x / 4294967296 < 2 ^ 64
     small a x h k = omega arith
 
-add-result : tie.Need-overflow-add-result
-add-result c = record { fits = sum_fits (c.args.h / 65536 + c.args.x % 4294967296) c.args.x (omega arith) }
-
-pub mix-spec : {M : Type 1} → statement M
-mix-spec = tie.close (tie.spec (λ c. search rules) (λ c. search rules) add-result (λ c. search rules) (λ c. search rules))
+pub overflow_add-result : goal.overflow_add-result
+overflow_add-result c = record { fits = sum_fits (c.args.h / 65536 + c.args.x % 4294967296) c.args.x (omega arith) }

@@ -1,0 +1,12 @@
+-- `stored::naming::idle_with` meets its contract.
+use borrow.Author.Tests.{lt-ltb, le-ltb}
+use Rattle.stored.proofs.naming.idle_with.Goals as goal
+
+pub returns-then-unused : goal.returns-then-unused
+returns-then-unused c = rw (lt-ltb 0 c.args.ahead c.if-ahead-gt0.true, c.if-unused.true)
+
+pub returns-then-ahead-gt0 : goal.returns-then-ahead-gt0
+returns-then-ahead-gt0 c = rw (lt-ltb 0 c.args.ahead c.if-ahead-gt0.true, c.if-unused.false) c.smaller.ensures
+
+pub returns : goal.returns
+returns c = rw (le-ltb 0 c.args.ahead c.if-ahead-gt0.false) c.smaller-2.ensures
