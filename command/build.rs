@@ -17,8 +17,9 @@ fn main() {
     }
     // Of a crate not what rt keeps in its `out`.
     for krate in fs::read_dir("../crates").into_iter().flatten().flatten() {
-        for part in ["src", "specs", "proofs"] {
-            println!("cargo:rerun-if-changed={}", krate.path().join(part).display());
+        let parts = ["src", "specs", "proofs"].map(|part| krate.path().join(part));
+        for part in parts.iter().filter(|part| part.is_dir()) {
+            println!("cargo:rerun-if-changed={}", part.display());
         }
     }
     // A commit moves the branch that HEAD names, or HEAD itself.
