@@ -18,7 +18,7 @@ use Rattle.tables.proofs.Back.{body_bytes}
 use Rattle.request.specs.Format.{devices_in, vacant_device, recorder_as, read_of}
 use Rattle.request.proofs.Accepted.{accepted_valid, accepted_as}
 use Rattle.planner.specs.declared.Answer.{Answer}
-use Rattle.planner.specs.Promises.{stops, passes, faulty, feasible, gives_such, refused, read, found, Reads, Judged, Rowed, Searched}
+use Rattle.planner.specs.Promises.{stops, passes, faulty, feasible, gives_such, refused, read, found, Reads, Judged, Rowed, Searched, VerdictOf, RowsOf, SearchOf}
 
 -- A number of two bytes.
 pair_most : (a b : ℕ) → a < 256 → b < 256 → a * 256 + b ≤ 65535
@@ -49,24 +49,34 @@ module _ (file : List ℕ) (b : Bytes file) (R : Recorder) (r : Reads file R) wh
 
 -- ---- what is answered
 
+module _ (file : List ℕ) (b : Bytes file) (R : Recorder) (r : Reads file R) where
+  judged_of : (starts : List ℕ) (a : Answer) → VerdictOf starts R a → a.energy ≤ 2147450880
+  judged_of starts a (stops h) = omega arith
+  judged_of starts a (passes h (faulty f)) = omega arith
+  judged_of starts a (passes h (feasible f (gives_such {x = e} c))) = energy_most file b R r starts e c
+
+  rowed_of : (starts lent : List ℕ) (a : Answer) (after : List ℕ) → RowsOf starts lent R a after → a.energy ≤ 2147450880
+  rowed_of starts lent a after (stops h) = omega arith
+  rowed_of starts lent a after (passes h (stops l)) = omega arith
+  rowed_of starts lent a after (passes h (passes l (faulty f))) = omega arith
+  rowed_of starts lent a after (passes h (passes l (feasible f (gives_such {x = rows} g)))) =
+      energy_most file b R r starts _ (record { rows = rows; least = g; sums = refl })
+
+  searched_of : (budget : ℕ) (lent : List ℕ) (a : Answer) (after : List ℕ) → SearchOf budget lent R a after → a.energy ≤ 2147450880
+  searched_of budget lent a after (stops h) = omega arith
+  searched_of budget lent a after (passes h (stops l)) = omega arith
+  searched_of budget lent a after (passes h (passes l (stops n))) = omega arith
+  searched_of budget lent a after (passes h (passes l (passes n (found {s = s} {e = e} f)))) = energy_most file b R r s e f.costs
+
 module _ (file : List ℕ) (b : Bytes file) where
   pub judged_most : (starts : List ℕ) (a : Answer) → Judged file starts a → a.energy ≤ 2147450880
   judged_most starts a (refused r) = omega arith
-  judged_most starts a (read r (stops h)) = omega arith
-  judged_most starts a (read r (passes h (faulty f))) = omega arith
-  judged_most starts a (read {R = R} r (passes h (feasible f (gives_such {x = e} c)))) = energy_most file b R r starts e c
+  judged_most starts a (read {R = R} r t) = judged_of file b R r starts a t
 
   pub rowed_most : (starts lent : List ℕ) (a : Answer) (after : List ℕ) → Rowed file starts lent a after → a.energy ≤ 2147450880
   rowed_most starts lent a after (refused r) = omega arith
-  rowed_most starts lent a after (read r (stops h)) = omega arith
-  rowed_most starts lent a after (read r (passes h (stops l))) = omega arith
-  rowed_most starts lent a after (read r (passes h (passes l (faulty f)))) = omega arith
-  rowed_most starts lent a after (read {R = R} r (passes h (passes l (feasible f (gives_such {x = rows} g))))) =
-      energy_most file b R r starts _ (record { rows = rows; least = g; sums = refl })
+  rowed_most starts lent a after (read {R = R} r t) = rowed_of file b R r starts lent a after t
 
   pub searched_most : (budget : ℕ) (lent : List ℕ) (a : Answer) (after : List ℕ) → Searched file budget lent a after → a.energy ≤ 2147450880
   searched_most budget lent a after (refused r) = omega arith
-  searched_most budget lent a after (read r (stops h)) = omega arith
-  searched_most budget lent a after (read r (passes h (stops l))) = omega arith
-  searched_most budget lent a after (read r (passes h (passes l (stops n)))) = omega arith
-  searched_most budget lent a after (read {R = R} r (passes h (passes l (passes n (found {s = s} {e = e} f))))) = energy_most file b R r s e f.costs
+  searched_most budget lent a after (read {R = R} r t) = searched_of file b R r budget lent a after t

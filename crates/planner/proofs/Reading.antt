@@ -1,6 +1,6 @@
 -- Laws of the file: it reads as one thing, and one that is read has all its tables; so what an operation says of it is said of one recorder, and what two say of
 -- it, of the same.
-use mathlib.Core.Path.{◌≡◌, refl, sym, subst, ◌∙◌}
+use mathlib.Core.Path.{◌≡◌, sym, subst, ◌∙◌}
 use mathlib.Core.List.{List}
 use Prim.Native.Nat.{ℕ}
 use native.Mathlib.Omega.{arith}

@@ -1,7 +1,9 @@
 // The public operations on the bytes of a request file. None asks anything of its caller: every file, of whatever bytes, every list of start times and every
 // lent buffer gets its answer. specs/Promises.antt says for each the complete outcome, the answer and every lent buffer; a memory that was used may hold anything.
 #![tactic(auto)]
-ghost use Rattle.planner.specs.Promises.{Checked, Sized, Margined, Judged, Rowed, Searched, SearchedIn, Written, TablesGiven};
+
+ghost use Rattle.std.specs.Prelude.{◌<◌};
+ghost use Rattle.planner.specs.Promises.{Checked, Sized, Margined, Judged, Rowed, Searched, KeptUnless, Written, TablesGiven};
 
 use crate::recorders::sizes_of;
 use base::{JobNumber, copy};
@@ -101,7 +103,8 @@ pub fn search(file: &[u8], budget: u32, starts: &mut [u16]) -> Answer
 // The same with a memory that the caller lends, of any length and whatever it holds: the more, the faster. It is written to only where more than 256 vertices are
 // counted.
 pub fn search_in(file: &[u8], budget: u32, memory: &mut [u64], starts: &mut [u16]) -> Answer
-    ensures { SearchedIn file.now budget memory.old starts.old result memory.new starts.new }
+    ensures planned { Searched file.now budget starts.old result starts.new }
+    ensures lent { KeptUnless (256 < result.count) memory.old memory.new }
 {
     let request = read(file);
     if request.number != 0 {

@@ -15,7 +15,7 @@ use Rattle.base.specs.Sums.{total}
 use Rattle.base.proofs.Numbers.{length_nil, total_remove}
 use Rattle.schedule.specs.declared.Recorder.{Recorder}
 use Rattle.schedule.specs.Quantities.{Valid, jobs, release, run, deadline, device}
-use Rattle.schedule.specs.Visiting.{Vertex, Visited, child, earliest, starts, starts_of, cut_a, counted, floor, plan_energy, choices}
+use Rattle.schedule.specs.Visiting.{Vertex, Visited, child, earliest, starts_of, cut_a, counted, floor, plan_energy, choices}
 use Rattle.schedule.proofs.Tree.{Reached, child_reached}
 use Rattle.latest.specs.inside.Sets.{has, size_of}
 use Rattle.latest.specs.inside.Latest.{jobs_of}

@@ -132,6 +132,7 @@ module _ (R : Recorder) (stop : Bool) (budget : ℕ) where
   came_ran l true x (over m q n) (told a y e) = rw (e ∙ eq-eqb (energy_at l) 4294967295 (n (stop_one stop refl l m a))) (spent q)
   came_ran l true true (ended m e q h) (alone a) = absurd (a (m ∙ ap (λ (b : Bool). cond b 1 0) e))
   came_ran l true x (ended m e q h) (told a y is) = rw (is ∙ ne_eqb (energy_at l) 4294967295 (λ z. omega (arith, z, q))) (whole h)
+  came_ran l false true _ x7 = elim x7 [ ]
 
 -- ---- what is read off the tally in the end
 

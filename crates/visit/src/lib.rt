@@ -1,5 +1,6 @@
 // The search for the cheapest schedule, and for the first one whatever it costs: depth first, under a budget of vertices (rules 40 to 48, 60 to 63).
 #![tactic(auto)]
+
 ghost use Rattle.std.specs.Prelude.{◌≡◌, true, ◌++◌, ℕ, ◌<◌, ◌≤◌, length, drop};
 ghost use Rattle.base.specs.Lists.{up_to};
 ghost use Rattle.schedule.specs.Quantities.{Valid};

@@ -1,0 +1,31 @@
+-- `least::memory::keep` meets its contract.
+use Prim.Native.Nat.{◌+◌, ◌*◌, ◌≤◌, ◌<◌}
+use native.Mathlib.Omega.{arith}
+use lib.ListN.{length, length-set}
+use borrow.Author.Tests.{le-leb, lt-leb}
+use Rattle.least.specs.inside.Entries.{wrote, kept}
+use Rattle.least.proofs.memory.keep.Goals as goal
+
+pub bounds-memory-at-then-i-memory : goal.bounds-memory-at-then-i-memory
+bounds-memory-at-then-i-memory c = simp length-set (omega arith)
+
+pub bounds-memory-at-then-i-memory-2 : goal.bounds-memory-at-then-i-memory-2
+bounds-memory-at-then-i-memory-2 c = simp length-set (omega arith)
+
+pub bounds-memory-at-then-i-memory-3 : goal.bounds-memory-at-then-i-memory-3
+bounds-memory-at-then-i-memory-3 c = simp length-set (omega arith)
+
+pub bounds-memory-at-then-i-memory-4 : goal.bounds-memory-at-then-i-memory-4
+bounds-memory-at-then-i-memory-4 c = simp length-set (omega arith)
+
+pub returns-then-i-memory : goal.returns-then-i-memory
+unfolding kept wrote
+returns-then-i-memory c =
+    let room : 5 * c.args.i + 5 ≤ length c.args.memory.now = omega arith in
+    rw (le-leb (5 * c.args.i + 5) (length c.args.memory.now) room)
+
+pub returns-else-i-memory : goal.returns-else-i-memory
+unfolding kept wrote
+returns-else-i-memory c =
+    let full : length c.args.memory.now < 5 * c.args.i + 5 = omega arith in
+    rw (lt-leb (5 * c.args.i + 5) (length c.args.memory.now) full)
