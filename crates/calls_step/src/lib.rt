@@ -5,7 +5,7 @@
 ghost use Rattle.calls_step.specs.StepCall.{StartCalled, EndCalled, PassCalled};
 
 use crate::records::{device_in, fault_of, is_set, put_record, record_in};
-use steps::{energy_ticks, on_end, on_start, pass};
+use steps::{energy_ticks, on_end, on_start, pass_fitting};
 
 mod records; // records.rt: a device and its record as bytes
 
@@ -55,6 +55,6 @@ pub fn floe_step_pass(device: &[u8], ticks: u16, bytes: &mut [u8]) -> u8
     if 4294967295 - x.energy < energy_ticks(d, ticks, st) {
         return 15;
     }
-    put_record(pass(d, ticks, x), bytes);
+    put_record(pass_fitting(d, ticks, x), bytes);
     0
 }

@@ -1,14 +1,14 @@
 -- A budget that always covers the visiting order, by the horizon and the number of jobs alone: a vertex with m jobs unplaced has at most m × H children.
 use mathlib.Core.Path.{◌≡◌, refl, subst}
-use mathlib.Core.Bool.{Bool, true, false, cond}
+use mathlib.Core.Bool.{Bool, cond}
 use mathlib.Core.List.{List, [], ◌∷◌}
 use mathlib.Core.Logic.{inl, inr}
 use mathlib.Core.Option.{none}
-use Prim.Native.Nat.{ℕ, zero, suc, ◌+◌, ◌-◌, ◌*◌, ◌≤◌, ◌<◌, max}
+use Prim.Native.Nat.{ℕ, zero, suc, ◌+◌, ◌-◌, ◌*◌, ◌≤◌, ◌<◌}
 use native.Mathlib.Nat.{mul-le-mul_right}
 use native.Mathlib.Omega.{arith}
 use lib.ListN.{length}
-use Rattle.base.specs.Lists.{In, up_from}
+use Rattle.base.specs.Lists.{In}
 use Rattle.base.specs.Loops.{through}
 use Rattle.base.proofs.Cases.{test_cases}
 use Rattle.base.proofs.Numbers.{in_up, length_up, in_remove, length_remove}

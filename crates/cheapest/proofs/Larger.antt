@@ -6,7 +6,7 @@ use native.Mathlib.Omega.{arith}
 use Rattle.schedule.specs.declared.Recorder.{Recorder}
 use Rattle.schedule.specs.Visiting.{vertices}
 use Rattle.planner.specs.declared.Answer.{Answer}
-use Rattle.planner.specs.Promises.{stops, passes, Reads, OfFile, refused, read}
+use Rattle.planner.specs.Promises.{stops, passes, Reads, refused, read}
 use Rattle.planner.proofs.Larger.{Enough}
 use Rattle.cheapest.specs.Promises.{over, least, LeastOf, LeastPlanned, LeastPlannedIn}
 use Rattle.cheapest.proofs.Only.{only_least_plan, all_enough}

@@ -1,6 +1,7 @@
 // The first of the least-energy schedules of a request, worked out with a memory that the caller lends. `least_plan` asks nothing of its caller; specs/Promises.antt
 // says its complete outcome, but for what the memory holds where a plan was looked for, and whether the memory was enough for one.
 #![tactic(auto)]
+
 ghost use Rattle.std.specs.Prelude.{◌≡◌, ◌++◌, ◌-◌, ◌^◌, ◌<◌, ◌≤◌, ltb, get_or, length, drop, replicate};
 ghost use Rattle.schedule.specs.Quantities.{Valid, jobs};
 ghost use Rattle.schedule.specs.Listing.{Feasible};

@@ -12,7 +12,7 @@ use Rattle.base.specs.Lists.{In, up_from, remove}
 use Rattle.base.proofs.Numbers.{remove_in, in_remove, up_in}
 use Rattle.schedule.specs.declared.Recorder.{Recorder}
 use Rattle.schedule.specs.Quantities.{jobs, Valid}
-use Rattle.schedule.specs.Listing.{Place, start, running}
+use Rattle.schedule.specs.Listing.{Place, running}
 use Rattle.schedule.specs.Visiting.{written}
 use Rattle.schedule.proofs.Runs.{Run, FullRun, starts_by, all_known, run_feasible, run_running, feasible_run, feasible_starts}
 use Rattle.possible.specs.TillFound.{First}

@@ -1,6 +1,7 @@
 // The first of all schedules that meet all deadlines, whatever they cost, for every request and without a budget. `first_plan` asks nothing of its caller;
 // specs/Promises.antt says its complete outcome.
 #![tactic(auto)]
+
 ghost use Rattle.schedule.specs.Quantities.{Valid};
 ghost use Rattle.first.specs.Promises.{FirstOf, FirstPlan};
 

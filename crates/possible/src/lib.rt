@@ -1,6 +1,7 @@
 // Whether a request has a plan, whatever it costs: the first schedule that is found, or the word that there is none. `any_plan` asks nothing of its caller;
 // specs/Promises.antt says its complete outcome.
 #![tactic(auto)]
+
 ghost use Rattle.std.specs.Prelude.{◌≡◌};
 ghost use Rattle.schedule.specs.Quantities.{Valid};
 ghost use Rattle.possible.specs.inside.Bare.{idle_job, Bare};

@@ -34,8 +34,8 @@ returns-then-x-energy_ticks c =
     omega (arith, c.if-x-energy_ticks.true, c.energy_ticks.ensures) in
     full clear (rw (c.record_in-x.ensures, c.device_in-d.ensures) at over)
 
-pub pass-requires : goal.pass-requires
-pass-requires c =
+pub pass_fitting-requires : goal.pass_fitting-requires
+pass_fitting-requires c =
     let clear : let a = c.args in fault_of a.device.now a.bytes.now ≡ 0 = omega (arith, c.if-fault-gt0.false, c.fault_of-fault.ensures) in
     let sound : Sound c.device_in-d.result = rw c.device_in-d.ensures (fit_sound _ _ (fit _ _ clear)) in
     let small : (pass_over c.device_in-d.result c.args.ticks c.record_in-x.result).energy < 4294967296 = omega (arith, c.if-x-energy_ticks.false, c.energy_ticks.ensures) in
@@ -50,5 +50,5 @@ pub returns : goal.returns
 returns c =
     let clear : let a = c.args in fault_of a.device.now a.bytes.now ≡ 0 = omega (arith, c.if-fault-gt0.false, c.fault_of-fault.ensures) in
     let small : (pass_over c.device_in-d.result c.args.ticks c.record_in-x.result).energy < 4294967296 = omega (arith, c.if-x-energy_ticks.false, c.energy_ticks.ensures) in
-    rw (c.put_record.ensures, c.pass.ensures, c.record_in-x.ensures, c.device_in-d.ensures)
+    rw (c.put_record.ensures, c.pass_fitting.ensures, c.record_in-x.ensures, c.device_in-d.ensures)
     (stepped clear (rw (c.record_in-x.ensures, c.device_in-d.ensures) at small))

@@ -1,0 +1,5 @@
+-- `cheapest::give` meets its contract.
+use Rattle.cheapest.proofs.give.Goals as goal
+
+pub returns : goal.returns
+returns c = (rw c.plan_energy-energy.ensures at c.success.ensures, c.copy.ensures)
