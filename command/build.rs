@@ -1,6 +1,7 @@
 //! Bakes in the commit from which the command line is built, where there is one. No path, host or time:
 //! the same sources give the same program.
 
+use std::fs;
 use std::process::Command;
 
 /// What git prints, if it is there and can tell.
@@ -11,8 +12,15 @@ fn git(words: &[&str]) -> Option<String> {
 }
 
 fn main() {
-    for place in ["build.rs", "src", "../linked", "../crates"] {
+    for place in ["build.rs", "src", "../linked", "../crates.txt"] {
         println!("cargo:rerun-if-changed={place}");
+    }
+    // Of a crate not what rt keeps in its `out`.
+    for krate in fs::read_dir("../crates").into_iter().flatten().flatten() {
+        let parts = ["src", "specs", "proofs"].map(|part| krate.path().join(part));
+        for part in parts.iter().filter(|part| part.is_dir()) {
+            println!("cargo:rerun-if-changed={}", part.display());
+        }
     }
     // A commit moves the branch that HEAD names, or HEAD itself.
     let branch = git(&["symbolic-ref", "--quiet", "HEAD"]);

@@ -81,15 +81,18 @@ pub only_search_in_called : (file : List ℕ) (budget : ℕ) (memory lent result
     → SearchInCalled file budget memory lent result n m l r → SearchInCalled file budget memory lent result n' m' l' r' → (n ≡ n') × (r ≡ r') × (l ≡ l')
 only_search_in_called file budget memory lent result p p' = only_search_called file budget lent result (called_of p) (called_of p')
 
--- Its memory is kept with every number but 0, 19 and 20.
+-- Its memory is kept with every number but 0, 19 and 20, since with these alone vertices are counted.
+few_of : (budget : ℕ) (lent result : List ℕ) (R : Recorder) {a : Answer} {l : List ℕ} → Roomed result lent (StartsOf (SearchOf budget) lent R) a l
+    → (a.number ≡ 0 → ⊥) → (a.number ≡ 19 → ⊥) → (a.number ≡ 20 → ⊥) → 256 < a.count → ⊥
+unfolding StartsOf
+few_of budget lent result R (stops h) z n o more = omega arith
+few_of budget lent result R (passes h (kept f t)) z n o more = omega (arith, more, none_told budget (blank lent) R t z n o)
+few_of budget lent result R (passes h (given e t)) z n o more = absurd (z e)
+
 pub search_call_kept : (file : List ℕ) (budget : ℕ) (memory lent result : List ℕ) {n : ℕ} {m l r : List ℕ} → SearchInCalled file budget memory lent result n m l r
     → (n ≡ 0 → ⊥) → (n ≡ 19 → ⊥) → (n ≡ 20 → ⊥) → m ≡ memory
-unfolding StartsOf
 search_call_kept file budget memory lent result (called_in (refused r) k) z n o = k (λ more. omega arith)
-search_call_kept file budget memory lent result (called_in (read r (stops h)) k) z n o = k (λ more. omega arith)
-search_call_kept file budget memory lent result (called_in (read {R = R} r (passes h (kept f t))) k) z n o =
-    k (λ more. omega (arith, more, none_told budget (blank lent) R t z n o))
-search_call_kept file budget memory lent result (called_in (read r (passes h (given e t))) k) z n o = absurd (z e)
+search_call_kept file budget memory lent result (called_in (read {R = R} r t) k) z n o = k (λ more. few_of budget lent result R t z n o more)
 
 pub only_rows_called : (file starts lent result : List ℕ) {n n' : ℕ} {l l' r r' : List ℕ}
     → RowsCalled file starts lent result n l r → RowsCalled file starts lent result n' l' r' → (n ≡ n') × (r ≡ r') × (l ≡ l')

@@ -2,6 +2,7 @@
 // function returns the number of its answer, and puts the rest of it into the result buffer. include/floebucket.h declares them; specs/Calls.antt says for each
 // the complete outcome, the number and every buffer; a memory that was used may hold anything.
 #![tactic(auto)]
+
 ghost use Rattle.calls.specs.Calls.{CheckCalled, SizesCalled, SearchCalled, SearchInCalled, RowsCalled};
 
 use crate::paired::{rows_bytes, search_bytes};
@@ -54,7 +55,8 @@ pub fn floe_search_in(
     starts: &mut [u8],
     res: &mut [u8],
 ) -> u8
-    ensures { SearchInCalled file.now budget memory.old starts.old res.old result memory.new starts.new res.new }
+    ensures called { SearchCalled file.now budget starts.old res.old result starts.new res.new }
+    ensures lent { SearchInCalled file.now budget memory.old starts.old res.old result memory.new starts.new res.new }
 {
     if res.len() < RESULT {
         return cramped(file);

@@ -18,6 +18,7 @@ use Rattle.catalogue.specs.Parts as Parts
 -- What a look-up gives is the record of a part whose eight bytes are those asked for: the test `has` finds that part.
 pub has_found : (ps : List Part) (n d : List ℕ) → Has ps n d → has (numbers ps) n ≡ true
 has_found (p ∷ ps) n d (inl (e, f)) = rw (e, same_self n)
+has_found [] n d x' = elim x' [ ]
 has_found (p ∷ ps) n d (inr h) = cond_true (same n p.number) (has_found ps n d h)
   where
     cond_true : (b : Bool) {c : Bool} → c ≡ true → b || c ≡ true
@@ -39,6 +40,7 @@ one_record (p ∷ ps) n d d' r (inl (e, f)) (inr h) =
 one_record (p ∷ ps) n d d' r (inr h) (inl (e, f)) =
     absurd (true≢false (sym (has_found ps n d h) ∙ rw (← e) (neither (has (numbers ps) p.number) (repeated (numbers ps)) r).0))
 one_record (p ∷ ps) n d d' r (inr h) (inr h') = one_record ps n d d' (neither (has (numbers ps) p.number) (repeated (numbers ps)) r).1 h h'
+one_record [] n d d' r x3 _ = elim x3 [ ]
 
 pub one_look_up : (ps : List Part) {ws ds ds' : List (List ℕ)} → repeated (numbers ps) ≡ false → LookedUp ps ws ds → LookedUp ps ws ds' → ds ≡ ds'
 one_look_up ps r Parts.LookedUp.none Parts.LookedUp.none = refl

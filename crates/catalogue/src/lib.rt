@@ -2,6 +2,7 @@
 // what it states of its writer, so that of the file's rules only the seven bytes of a device record (rule 11) stand here. `build` and `order_fault` ask nothing of
 // their caller; specs/Building.antt and specs/Faults.antt say the complete outcome of each.
 #![tactic(auto)]
+
 ghost use Rattle.catalogue.specs.Building.{others, Built};
 ghost use Rattle.catalogue.specs.Faults.{OrderFault};
 

@@ -1,5 +1,6 @@
 // What the doors share: when one is shut, and how many of the start times and places that it is lent it hands on. specs/Doors.antt says what every door does.
 #![tactic(auto)]
+
 ghost use Rattle.std.specs.Prelude.{◌≡◌, ◌%◌, ◌≤◌, length, take};
 ghost use Rattle.doorway.specs.Doors.{Decides, starts_of};
 ghost use Rattle.doorway.specs.inside.Handing.{Handed};

@@ -2,6 +2,7 @@
 //
 // What prints gives the error of a write that failed, and prints nothing after it.
 #![tactic(auto)]
+
 ghost use Rattle.std.specs.Prelude.{◌*◌, ◌≤◌, length, IfOk};
 ghost use Rattle.schedule.specs.Quantities.{Valid};
 

@@ -1,6 +1,7 @@
 // Sheets: comma-separated text in and out, for purchasing. Here is what the lines of a sheet hold, and the giving of what was made; specs/Promises.antt says the
 // complete outcome of each of the five operations, which stand in sheet_import and sheet_export.
 #![tactic(auto)]
+
 ghost use Rattle.std.specs.Prelude.{◌<◌};
 ghost use Rattle.sheet.specs.Promises.{Filled};
 

@@ -1,6 +1,7 @@
 // Sheets of devices, of jobs and of plans, to text. No operation asks anything of its caller: any bytes of any length get an answer. sheet/specs/Promises.antt says
 // for each the complete outcome.
 #![tactic(auto)]
+
 ghost use Rattle.sheet.specs.Promises.{ExportedDevices, ExportedJobs};
 
 use crate::printing::{put_job_lines, put_part_lines};

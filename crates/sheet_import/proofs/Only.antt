@@ -1,7 +1,7 @@
 -- No second outcome satisfies what `devices_fault` and `jobs_fault` promise: for every text one number and one line. The number is the one that the import
 -- refuses with. And what the walks over the lines have to show.
 use mathlib.Core.Path.{◌≡◌, refl, sym, ap, subst, ◌∙◌}
-use mathlib.Core.Bool.{true, false, true≢false}
+use mathlib.Core.Bool.{false, true≢false}
 use mathlib.Core.List.{List, []}
 use Prim.Native.Nat.{ℕ, ◌<◌, ◌≤◌}
 use native.Mathlib.Omega.{arith}

@@ -1,6 +1,7 @@
 // Sheets of devices and of jobs, from text: devices to the bytes of a catalogue, jobs to their records; and the line for which a sheet is refused. No operation
 // asks anything of its caller: any bytes of any length get an answer. sheet/specs/Promises.antt and specs/LineFaults.antt say the complete outcome of each.
 #![tactic(auto)]
+
 ghost use Rattle.sheet.specs.Promises.{ImportedDevices, ImportedJobs};
 
 use crate::judging::put_devices;

@@ -5,7 +5,7 @@ mod rules; // rules.rt: what is done at a start and at a completion
 mod stepping; // stepping.rt: a device along the jobs of a round
 mod ticks; // ticks.rt: what passes between two events
 
-pub use crate::stepping::{on_end, on_start, pass, run};
+pub use crate::stepping::{on_end, on_start, pass, pass_fitting, run};
 pub use crate::ticks::energy_ticks;
 
 // What a device does. A number is the ticks left of a move.

@@ -10,7 +10,7 @@ use crate::{Order, State, Stepped};
 use device::Device;
 
 // The step of time: n ticks pass. What is spent with them has to fit (`energy_ticks` tells how much it is).
-pub fn pass(d: Device, n: u16, x: Stepped) -> Stepped
+pub fn pass_fitting(d: Device, n: u16, x: Stepped) -> Stepped
     requires { Sound d × ((pass_over d n x).energy < 4294967296) }
     ensures { result ≡ pass_over d n x }
 {
@@ -21,6 +21,14 @@ pub fn pass(d: Device, n: u16, x: Stepped) -> Stepped
         state: now,
         energy: spent,
     }
+}
+
+// The same where 65,535 a tick would fit, which no power is above.
+pub fn pass(d: Device, n: u16, x: Stepped) -> Stepped
+    requires { Sound d × (x.energy + 65535 * n < 4294967296) }
+    ensures { result ≡ pass_over d n x }
+{
+    pass_fitting(d, n, x)
 }
 
 // The step of a start: `this` job uses the device or not, the `next` uses it or not, and the pause between them is so long.

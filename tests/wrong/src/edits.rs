@@ -1,21 +1,18 @@
 //! The edits: a file each, in crates/NAME/must-fail or crates/NAME/must-pass.
 //!
-//! A file has what the program does, in words; then `fact: PROOF: NAME`, the proof (below proofs/) and the law or need in it that fails first; then `file:` and
-//! pairs of `old:` and `new:`, one line each. It is rt's own format, which passes over the line of the fact.
+//! A file has what the program does, in words; of a wrong program then `fact: PROOF: GOAL`, the proof (below proofs/) and the goal or law in it that fails first;
+//! then `file:` and pairs of `old:` and `new:`, one line each. It is rt's own format, which passes over all other lines.
 
 use std::fmt;
 use std::fs;
 use std::io;
 use std::path::{Path, PathBuf};
 
-/// Who tries an edit, and what has to come of it.
 #[derive(Clone, Copy, PartialEq, Eq, Debug)]
 pub enum Kind {
-    /// A wrong program that is tried here: `.wrong`.
+    /// A wrong program, which `rt ci` and `rt must-fail` try: must-fail/LABEL.edit.
     Wrong,
-    /// A wrong program that `rt ci` tries from nothing: `.edit`. Here its log is read.
-    Rts,
-    /// A right program of another shape, which must not be refused: `.right`.
+    /// A right program of another shape, which must not be refused: must-pass/LABEL.right.
     Right,
 }
 
@@ -23,12 +20,22 @@ pub enum Kind {
 #[derive(Clone, PartialEq, Eq, Debug)]
 pub struct Fact {
     pub proof: String,
-    pub name: String,
+    pub goal: String,
+}
+
+impl Fact {
+    fn read(text: &str) -> Option<Fact> {
+        let (proof, goal) = text.split_once(": ")?;
+        Some(Fact {
+            proof: proof.to_string(),
+            goal: goal.trim().to_string(),
+        })
+    }
 }
 
 impl fmt::Display for Fact {
     fn fmt(&self, f: &mut fmt::Formatter) -> fmt::Result {
-        write!(f, "{}: {}", self.proof, self.name)
+        write!(f, "{}: {}", self.proof, self.goal)
     }
 }
 
@@ -44,6 +51,7 @@ pub struct Edit {
     pub krate: String,
     pub label: String,
     pub kind: Kind,
+    pub path: PathBuf,
     pub fact: Option<Fact>,
     pub changes: Vec<Change>,
 }
@@ -55,24 +63,26 @@ impl fmt::Display for Edit {
 }
 
 impl Edit {
-    /// Reads the text of an edit's file.
-    pub fn read(krate: &str, label: &str, kind: Kind, text: &str) -> Edit {
+    fn read(krate: &str, kind: Kind, path: PathBuf) -> io::Result<Edit> {
+        let text = fs::read_to_string(&path)?;
         let mut edit = Edit {
             krate: krate.to_string(),
-            label: label.to_string(),
+            label: path
+                .file_stem()
+                .unwrap_or_default()
+                .to_string_lossy()
+                .into_owned(),
             kind,
+            path,
             fact: None,
             changes: Vec::new(),
         };
         let (mut file, mut old) = (String::new(), String::new());
         for line in text.lines() {
             if let Some(fact) = line.strip_prefix("fact: ") {
-                edit.fact = fact.split_once(": ").map(|(proof, name)| Fact {
-                    proof: proof.to_string(),
-                    name: name.trim().to_string(),
-                });
+                edit.fact = Fact::read(fact);
             } else if let Some(name) = line.strip_prefix("file: ") {
-                file = name.to_string();
+                file = name.trim().to_string();
             } else if let Some(text) = line.strip_prefix("old: ") {
                 old = text.to_string();
             } else if let Some(text) = line.strip_prefix("new:") {
@@ -81,7 +91,7 @@ impl Edit {
                 edit.changes.push(Change { file, old, new });
             }
         }
-        edit
+        Ok(edit)
     }
 
     /// Makes the edit in the crate's copy `place`.
@@ -102,36 +112,52 @@ impl Edit {
         }
         Ok(())
     }
+
+    /// Names another fact in the edit's file: in the line of the one before, or in front of the first `file:`.
+    pub fn name_fact(&self, fact: &Fact) -> io::Result<()> {
+        let text = fs::read_to_string(&self.path)?;
+        let mut lines: Vec<String> = text.lines().map(str::to_string).collect();
+        let line = format!("fact: {fact}");
+        match lines.iter().position(|line| line.starts_with("fact: ")) {
+            Some(at) => lines[at] = line,
+            None => {
+                let at = lines.iter().position(|line| line.starts_with("file: "));
+                lines.insert(at.unwrap_or(lines.len()), line);
+            }
+        }
+        fs::write(&self.path, lines.join("\n") + "\n")
+    }
 }
 
 /// Where a text stands in another, if it does so once.
-pub fn only(text: &str, part: &str) -> Option<usize> {
-    if part.is_empty() {
-        return None;
-    }
-    let at = text.find(part)?;
-    (!text[at + 1..].contains(part)).then_some(at)
+fn only(text: &str, part: &str) -> Option<usize> {
+    let at = text.find(part).filter(|_| !part.is_empty())?;
+    let next = at + part.chars().next().map_or(1, char::len_utf8);
+    (!text[next..].contains(part)).then_some(at)
 }
 
-/// All edits of the house, by crate and label.
-pub fn all(root: &Path) -> io::Result<Vec<Edit>> {
+/// All edits of the house, by crate and label. A file that nobody would try is an error.
+pub fn all(root: &Path) -> Result<Vec<Edit>, String> {
+    let cannot = |e: io::Error| format!("the edits cannot be read: {e}");
     let mut found = Vec::new();
-    for krate in entries(&root.join("crates"))? {
+    for krate in entries(&root.join("crates")).map_err(cannot)? {
         let name = word(&krate);
         for (folder, ending, kind) in [
-            ("must-fail", "wrong", Kind::Wrong),
-            ("must-fail", "edit", Kind::Rts),
+            ("must-fail", "edit", Kind::Wrong),
             ("must-pass", "right", Kind::Right),
         ] {
-            let folder = krate.join(folder);
-            if !folder.is_dir() {
+            let place = krate.join(folder);
+            if !place.is_dir() {
                 continue;
             }
-            for path in entries(&folder)? {
-                if path.extension().is_some_and(|e| e == ending) {
-                    let label = path.file_stem().unwrap_or_default().to_string_lossy();
-                    found.push(Edit::read(&name, &label, kind, &fs::read_to_string(&path)?));
+            for path in entries(&place).map_err(cannot)? {
+                if path.extension().is_none_or(|e| e != ending) {
+                    let file = format!("crates/{name}/{folder}/{}", word(&path));
+                    return Err(format!(
+                        "{file} is tried by nobody: it has to end in .{ending}"
+                    ));
                 }
+                found.push(Edit::read(&name, kind, path).map_err(cannot)?);
             }
         }
     }
@@ -153,4 +179,18 @@ pub fn word(path: &Path) -> String {
         .unwrap_or_default()
         .to_string_lossy()
         .into_owned()
+}
+
+#[cfg(test)]
+mod tests {
+    use super::only;
+
+    #[test]
+    fn once_and_no_more() {
+        assert_eq!(only("abc", "b"), Some(1));
+        assert_eq!(only("abab", "ab"), None);
+        assert_eq!(only("aaa", "aa"), None);
+        assert_eq!(only("≤a≤", "≤a"), Some(0));
+        assert_eq!(only("abc", ""), None);
+    }
 }

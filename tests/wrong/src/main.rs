@@ -1,39 +1,44 @@
-//! Tries the wrong programs: each crates/NAME/must-fail/LABEL is an edit of its crate, and names the fact at which the prover must refuse it. Beside them the
-//! controls, crates/NAME/must-pass/LABEL: right programs of another shape, and each crate as it stands, which the prover must not refuse.
+//! Holds the wrong programs to their facts: each crates/NAME/must-fail/LABEL.edit is an edit of its crate, and names the fact at which the prover must refuse it.
+//! Beside them the controls, crates/NAME/must-pass/LABEL.right: right programs of another shape, which the prover must not refuse.
 //!
-//!     cargo run --release -p wrong -- [NAME | NAME/LABEL]..    all, or those of some crates, or single ones
-//!     cargo run --release -p wrong -- --beside PID             all, beside an `rt ci` that is at work
+//!     cargo run --release -p wrong -- [NAME | NAME/LABEL]..                all, or those of some crates, or single ones
+//!     cargo run --release -p wrong -- --log LOG [NAME | NAME/LABEL]..      the wrong programs alone, by what an `rt ci` has said of them
+//!     cargo run --release -p wrong -- --controls [NAME | NAME/LABEL]..     the controls alone
+//!     cargo run --release -p wrong -- --facts [--log LOG] [NAME ..]        writes into the wrong programs' files the facts at which they are refused
 //!
-//! A wrong program passes if the prover refuses it, its first error is at the fact, and says that the fact fails and not that the proof's text does not fit the
-//! code. Beside `rt ci` a crate's edits are tried once that has proved the crate, with what it leaves of the processors; and the edits that are rt's own are held
-//! to their facts by what rt has noted of them.
+//! The wrong programs are tried by rt: by the `rt ci` of which there is a log, or else by `rt must-fail`, which is called here. A wrong program passes if it is
+//! refused, the error that refuses it is at the fact, and says that the fact fails and not that the proof's text does not fit the code. rt's word on an error
+//! ends after some 160 characters: what is cut off of a goal is not held. The controls are tried here, by `rt check` in copies.
 //!
 //! The last line is 'wrong: N passed, M failed'. Every edit has a result, or it counts as failed.
 
-mod batches;
-mod bodies;
+mod controls;
 mod edits;
+mod functions;
+mod holding;
 mod log;
 mod system;
-mod trying;
 mod view;
 
 use edits::{Edit, Kind};
-use std::collections::BTreeMap;
+use holding::{fact_by_rt, failed, hold, passed, Verdict};
+use log::Told;
+use std::collections::BTreeSet;
+use std::fs;
 use std::path::{Path, PathBuf};
 use std::process::{Command, ExitCode};
 use std::sync::Mutex;
-use std::thread;
-use std::time::Duration;
-use trying::{not_proved, read_rts, try_crate, Verdict};
 use view::House;
 
 /// What is wrong with the call or the house: a word, and status 2.
 type Words = String;
 
+#[derive(Default)]
 struct Wanted {
     names: Vec<String>,
-    beside: Option<u32>,
+    log: Option<PathBuf>,
+    controls_alone: bool,
+    writes_facts: bool,
 }
 
 fn main() -> ExitCode {
@@ -51,23 +56,18 @@ fn main() -> ExitCode {
 
 fn tried() -> Result<(usize, usize), Words> {
     let wanted = wanted(std::env::args().skip(1))?;
-    let house = House::new(root()?, wanted.beside.is_some());
-    let workers = system::workers()?;
-    let all = edits::all(&house.root).map_err(|e| format!("the edits cannot be read: {e}"))?;
-    let all = chosen(all, &wanted.names)?;
-    let by_rt = |edit: &&Edit| edit.kind == Kind::Rts && wanted.beside.is_some();
-    let mut works: BTreeMap<&str, Vec<&Edit>> = BTreeMap::new();
-    for edit in all.iter().filter(|edit| !by_rt(edit)) {
-        works.entry(&edit.krate).or_default().push(edit);
-    }
-    let names: Vec<&str> = works.keys().copied().collect();
-    std::fs::create_dir_all(house.room())
-        .map_err(|e| format!("target/wrong cannot be made: {e}"))?;
-    if wanted.beside.is_none() {
-        prove(&house.root, &names)?;
-    }
-    // Each edit has a result, and each crate in which one is tried.
-    let want = all.len() + works.len();
+    let root = root()?;
+    let has_controls = wanted.log.is_none() && !wanted.writes_facts;
+    let is_asked = |edit: &Edit| match edit.kind {
+        Kind::Wrong => !wanted.controls_alone,
+        Kind::Right => has_controls,
+    };
+    let all = edits::all(&root)?.into_iter().filter(is_asked);
+    let all = chosen(all.collect(), &wanted.names)?;
+    let want = all.len();
+    let (wrong, right): (Vec<Edit>, Vec<Edit>) =
+        all.into_iter().partition(|edit| edit.kind == Kind::Wrong);
+
     let results = Mutex::new((0, 0));
     let tell = |verdict: Verdict| {
         println!("wrong {}: {}", verdict.of, verdict.said);
@@ -79,85 +79,99 @@ fn tried() -> Result<(usize, usize), Words> {
             false => results.1 += 1,
         }
     };
-    let mut left: Vec<(&str, Vec<&Edit>)> = works.into_iter().collect();
-    // Those with most edits are tried first, so that none of them is left to the end.
-    left.sort_by_key(|(_, edits)| edits.len());
-    let left = Mutex::new(left);
-    thread::scope(|scope| {
-        let work = || {
-            while let Some((name, edits)) = next(&house, &left, wanted.beside) {
-                if wanted.beside.is_some() && !house.is_proved(name) {
-                    edits.iter().for_each(|edit| tell(not_proved(edit)));
-                    tell(not_proved(&name));
-                } else {
-                    try_crate(&house, name, &edits, &tell);
-                }
-            }
+    if !wrong.is_empty() {
+        let told = told(&root, &wrong, wanted.log.as_deref())?;
+        let verdicts = match wanted.writes_facts {
+            true => write_facts(&root, &wrong, &told)?,
+            false => hold(&root, &wrong, &told, wanted.names.is_empty()),
         };
-        let workers: Vec<_> = (0..workers).map(|_| scope.spawn(work)).collect();
-        // One that fails has told less than it had to: that is seen by the number of results.
-        workers.into_iter().for_each(|worker| drop(worker.join()));
-    });
-    if let Some(pid) = wanted.beside {
-        while system::is_running(pid) {
-            thread::sleep(Duration::from_millis(500));
-        }
-        all.iter()
-            .filter(by_rt)
-            .for_each(|edit| tell(read_rts(&house, edit)));
+        verdicts.into_iter().for_each(tell);
+    }
+    if !right.is_empty() {
+        let house = House::read(root).map_err(|e| format!("crates.txt cannot be read: {e}"))?;
+        controls::try_all(&house, &right, &tell)?;
     }
     let (passed, failed) = *results
         .lock()
         .map_err(|_| "a worker has failed".to_string())?;
-    if passed + failed != want {
+    if passed + failed < want {
         println!(
             "wrong: {want} results are wanted, and {} have come",
             passed + failed
         );
     }
-    Ok((passed, want - passed))
+    Ok((passed, failed.max(want.saturating_sub(passed))))
 }
 
-/// The next crate to try. Beside `rt ci`: one that it has proved already, or, once it is over, any that is left.
-fn next<'a>(
-    house: &House,
-    left: &Mutex<Vec<(&'a str, Vec<&'a Edit>)>>,
-    beside: Option<u32>,
-) -> Option<(&'a str, Vec<&'a Edit>)> {
-    loop {
-        let is_over = beside.is_none_or(|pid| !system::is_running(pid));
-        let mut left = left.lock().expect("no worker has failed with the list");
-        if left.is_empty() {
-            return None;
+/// What rt has said of wrong programs, or says when it is asked for their crates.
+fn told(root: &Path, edits: &[Edit], log: Option<&Path>) -> Result<Vec<(String, Told)>, Words> {
+    let text = match log {
+        Some(path) => {
+            fs::read(path).map_err(|e| format!("{} cannot be read: {e}", path.display()))?
         }
-        if let Some(at) = left
-            .iter()
-            .rposition(|(name, _)| is_over || house.is_proved(name))
-        {
-            return Some(left.remove(at));
+        None => {
+            let crates: BTreeSet<&str> = edits.iter().map(|edit| edit.krate.as_str()).collect();
+            let mut command = Command::new("rt");
+            command.arg("must-fail").args(crates).current_dir(root);
+            let output = command
+                .output()
+                .map_err(|e| format!("rt (the Rattle toolchain) cannot be called: {e}"))?;
+            // Of its status nothing is asked: each edit has a line.
+            eprint!("{}", String::from_utf8_lossy(&output.stderr));
+            output.stdout
         }
-        drop(left);
-        thread::sleep(Duration::from_millis(500));
+    };
+    Ok(log::read(&String::from_utf8_lossy(&text)))
+}
+
+/// Writes into the edits' files the facts at which rt has refused them.
+fn write_facts(
+    root: &Path,
+    edits: &[Edit],
+    told: &[(String, Told)],
+) -> Result<Vec<Verdict>, Words> {
+    let mut verdicts = Vec::new();
+    for edit in edits {
+        let name = edit.to_string();
+        let Some((_, told)) = told.iter().find(|(of, _)| *of == name) else {
+            verdicts.push(failed(edit, "NOT TRIED: rt says nothing of it".to_string()));
+            continue;
+        };
+        verdicts.push(match fact_by_rt(root, edit, told) {
+            Err(why) => failed(edit, why),
+            Ok(fact) if edit.fact.as_ref() == Some(&fact) => passed(edit, format!("is at {fact}")),
+            Ok(fact) => {
+                edit.name_fact(&fact)
+                    .map_err(|e| format!("{} cannot be written: {e}", edit.path.display()))?;
+                let before = edit
+                    .fact
+                    .as_ref()
+                    .map_or("none".to_string(), |fact| fact.to_string());
+                passed(edit, format!("is at {fact}, and was at {before}"))
+            }
+        });
     }
+    Ok(verdicts)
 }
 
 fn wanted(words: impl Iterator<Item = String>) -> Result<Wanted, Words> {
-    let mut wanted = Wanted {
-        names: Vec::new(),
-        beside: None,
-    };
-    let mut words = words.peekable();
+    let mut wanted = Wanted::default();
+    let mut words = words;
     while let Some(word) = words.next() {
-        if word == "--beside" {
-            let pid = words.next().and_then(|word| word.parse().ok());
-            wanted.beside = Some(pid.ok_or("--beside wants the number of a process")?);
-        } else if word.starts_with('-') {
-            return Err(format!(
-                "there is no option {word}: give names, NAME or NAME/LABEL, or --beside PID"
-            ));
-        } else {
-            wanted.names.push(word);
+        match word.as_str() {
+            "--log" => wanted.log = Some(words.next().ok_or("--log wants a file")?.into()),
+            "--controls" => wanted.controls_alone = true,
+            "--facts" => wanted.writes_facts = true,
+            _ if word.starts_with('-') => {
+                return Err(format!(
+                    "there is no option {word}: give names, NAME or NAME/LABEL, or --log LOG, --controls or --facts"
+                ));
+            }
+            _ => wanted.names.push(word),
         }
+    }
+    if wanted.controls_alone && (wanted.log.is_some() || wanted.writes_facts) {
+        return Err("--controls goes with names alone".to_string());
     }
     Ok(wanted)
 }
@@ -191,25 +205,4 @@ fn chosen(all: Vec<Edit>, names: &[String]) -> Result<Vec<Edit>, Words> {
         return Err("there is no edit below crates/: nothing would be tried".to_string());
     }
     Ok(found)
-}
-
-/// What an edit is an edit of is proved first, if it is not yet: the views share it, and only read it.
-fn prove(root: &Path, names: &[&str]) -> Result<(), Words> {
-    let command = Command::new("rt")
-        .arg("check")
-        .args(names)
-        .current_dir(root)
-        .output();
-    let output = command.map_err(|e| format!("rt (the Rattle toolchain) cannot be called: {e}"))?;
-    if output.status.success() {
-        return Ok(());
-    }
-    let said = String::from_utf8_lossy(&output.stdout);
-    let last: Vec<&str> = said.lines().rev().take(3).collect();
-    let last: Vec<&str> = last.into_iter().rev().collect();
-    Err(format!(
-        "what is to be edited is not proved ({}):\n{}",
-        output.status,
-        last.join("\n")
-    ))
 }

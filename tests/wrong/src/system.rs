@@ -64,13 +64,3 @@ fn free_kib() -> Option<usize> {
         .find(|line| line.starts_with("MemAvailable:"))?;
     line.split_whitespace().nth(1)?.parse().ok()
 }
-
-/// Whether a process is still there.
-pub fn is_running(pid: u32) -> bool {
-    // One that has ended and is not yet waited for still has its folder.
-    fs::read_to_string(format!("/proc/{pid}/stat")).is_ok_and(|stat| {
-        stat.rsplit(')')
-            .next()
-            .is_some_and(|rest| !rest.starts_with(" Z"))
-    })
-}

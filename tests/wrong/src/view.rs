@@ -1,21 +1,17 @@
-//! A view of the house in which one crate can be edited and checked: its other crates are the house's own, and what was proved of them is only read.
+//! A copy of a crate and of those below it, in which right programs are tried. What ./library or rt itself has kept of them is used, and left as it is.
 
 use crate::edits::{entries, word, Edit};
 use crate::system;
+use std::collections::BTreeMap;
 use std::fs::{self, File};
 use std::io;
-use std::os::unix::fs::symlink;
 use std::path::{Path, PathBuf};
 use std::process::{Command, ExitStatus, Stdio};
-use std::sync::OnceLock;
 
-/// The house, and what the runs in its views share.
 pub struct House {
     pub root: PathBuf,
-    /// Whether what is tried leaves the processors to all other work.
-    pub is_nice: bool,
-    /// The name of the folder in which the prover keeps what it has checked: it tells the prover's build.
-    kept: OnceLock<Option<String>>,
+    /// The lines of crates.txt, by the crate's name.
+    lines: BTreeMap<String, String>,
 }
 
 /// What came of checking a crate.
@@ -27,25 +23,28 @@ pub struct Run {
 
 impl Run {
     pub fn is_proved(&self) -> bool {
-        self.status.success() && self.has("logic=proved")
-    }
-
-    pub fn is_refused(&self) -> bool {
-        self.status.code() == Some(1) && self.has("logic=not-proved")
-    }
-
-    fn has(&self, word: &str) -> bool {
-        self.log.lines().any(|line| line.starts_with(word))
+        let last = self.log.lines().rfind(|line| line.starts_with("logic="));
+        self.status.success() && last.is_some_and(|line| is_word(line, "logic=proved"))
     }
 }
 
+fn is_word(line: &str, word: &str) -> bool {
+    line.split(' ').next() == Some(word)
+}
+
 impl House {
-    pub fn new(root: PathBuf, is_nice: bool) -> House {
-        House {
+    pub fn read(root: PathBuf) -> io::Result<House> {
+        let list = fs::read_to_string(root.join("crates.txt"))?;
+        let lines = list.lines().filter(|line| !line.starts_with('#'));
+        let named = lines.filter_map(|line| {
+            let name = line.split([':', ' ']).next()?;
+            line.contains(':')
+                .then(|| (name.to_string(), line.to_string()))
+        });
+        Ok(House {
+            lines: named.collect(),
             root,
-            is_nice,
-            kept: OnceLock::new(),
-        }
+        })
     }
 
     /// The room for what is tried.
@@ -53,51 +52,25 @@ impl House {
         self.root.join("target/wrong")
     }
 
-    pub fn crate_place(&self, name: &str) -> PathBuf {
+    fn crate_place(&self, name: &str) -> PathBuf {
         self.root.join("crates").join(name)
     }
 
-    /// Whether rt has left its mark that the crate is proved.
-    pub fn is_proved(&self, name: &str) -> bool {
-        self.root.join("target/stamp").join(name).is_file()
-    }
-
-    /// The crate's line in crates.txt.
-    fn line_of(&self, name: &str) -> io::Result<String> {
-        let list = fs::read_to_string(self.root.join("crates.txt"))?;
-        let own = |line: &&str| {
-            line.split(':')
-                .next()
-                .is_some_and(|first| first.trim() == name)
-        };
-        let line = list.lines().find(own);
-        line.map(str::to_string)
-            .ok_or_else(|| io::Error::other(format!("crates.txt has no crate {name}")))
-    }
-
-    /// The first crate of the list, which stands on none: the cheapest to ask for the name of the prover's folder.
-    fn first_crate(&self) -> io::Result<String> {
-        let list = fs::read_to_string(self.root.join("crates.txt"))?;
-        let mut lines = list.lines().filter(|line| !line.starts_with('#'));
-        let name = lines.find_map(|line| line.split_once(':'));
-        name.map(|(name, _)| name.trim().to_string())
-            .ok_or_else(|| io::Error::other("crates.txt lists no crate"))
-    }
-
-    /// The name of the prover's folder, learnt from a run on the first crate.
-    fn kept(&self) -> Option<&str> {
-        let learn = || {
-            let view = View::bare(self, &self.first_crate().ok()?, "kept").ok()?;
-            view.check(&[]).ok()?.ok()?;
-            let folders = entries(&view.place.join("target/inc").join(&view.name)).ok()?;
-            let name = folders
-                .iter()
-                .map(|path| word(path))
-                .find(|name| name.starts_with("antt-checked-"));
-            view.remove();
-            name
-        };
-        self.kept.get_or_init(learn).as_deref()
+    /// All crates below one.
+    fn below(&self, name: &str) -> Vec<&str> {
+        let mut found: Vec<&str> = Vec::new();
+        let mut left = vec![name];
+        while let Some(name) = left.pop() {
+            let line = self.lines.get(name).map_or("", String::as_str);
+            let words = line.split_once(':').map_or("", |(_, words)| words);
+            for word in words.split_whitespace() {
+                if self.lines.contains_key(word) && !found.contains(&word) {
+                    found.push(word);
+                    left.push(word);
+                }
+            }
+        }
+        found
     }
 }
 
@@ -108,74 +81,48 @@ pub struct View<'a> {
 }
 
 impl<'a> View<'a> {
-    /// A view to edit the crate `name` in, with what the house's own check of it has kept: an edit then costs what it changes alone. What is kept can only
-    /// speed up a refusal, not bring one about. Where there is nothing, or the prover's folder has another name, each first edit costs a whole check.
     pub fn of(house: &'a House, name: &str) -> io::Result<View<'a>> {
-        let view = View::bare(house, name, name)?;
-        let checked = house
-            .root
-            .join(format!("target/rlib/{name}.rlib/toolchain/checked"));
-        if let (true, Some(kept)) = (checked.is_dir(), house.kept()) {
-            let folder = view.place.join("target/inc").join(name).join(kept);
-            fs::create_dir_all(&folder)?;
-            for module in entries(&checked)? {
-                fs::copy(&module, folder.join(word(&module)))?;
-            }
-        }
-        Ok(view)
-    }
-
-    fn bare(house: &'a House, name: &str, label: &str) -> io::Result<View<'a>> {
-        let place = house.room().join(label).join("view");
+        let place = house.room().join(name);
         if place.exists() {
             fs::remove_dir_all(&place)?;
         }
-        fs::create_dir_all(place.join("crates"))?;
-        fs::create_dir_all(place.join("target"))?;
-        // The one crate of this list is the only one that rt looks at: all below it is proved.
-        fs::write(place.join("crates.txt"), house.line_of(name)? + "\n")?;
-        for other in entries(&house.root.join("crates"))? {
-            if word(&other) != name {
-                symlink(&other, place.join("crates").join(word(&other)))?;
+        let mut list = String::new();
+        for one in house.below(name).into_iter().chain([name]) {
+            let line = house.lines.get(one);
+            let line =
+                line.ok_or_else(|| io::Error::other(format!("crates.txt has no crate {one}")))?;
+            list += &format!("{line}\n");
+            let (from, to) = (house.crate_place(one), place.join("crates").join(one));
+            fs::create_dir_all(&to)?;
+            if one == name {
+                share(
+                    &from.join("out/incremental"),
+                    &to.join("out/incremental"),
+                    replaced,
+                )?;
+            } else {
+                copy_sources(&from, &to)?;
+                share(&from.join("out/rlib"), &to.join("out/rlib"), |_| true)?;
             }
         }
-        symlink(house.root.join("target/rlib"), place.join("target/rlib"))?;
+        fs::write(place.join("crates.txt"), list)?;
         let name = name.to_string();
         Ok(View { house, name, place })
     }
 
-    /// Checks the crate with these edits made. The inner error is an edit that cannot be made.
-    pub fn check(&self, edits: &[&Edit]) -> io::Result<Result<Run, String>> {
+    /// Checks the crate with this edit made. The inner error is an edit that cannot be made.
+    pub fn check(&self, edit: &Edit) -> io::Result<Result<Run, String>> {
         let own = self.place.join("crates").join(&self.name);
-        if own.exists() {
-            fs::remove_dir_all(&own)?;
+        copy_sources(&self.house.crate_place(&self.name), &own)?;
+        if let Err(why) = edit.apply(&own) {
+            return Ok(Err(why));
         }
-        for part in ["src", "specs", "proofs"] {
-            let from = self.house.crate_place(&self.name).join(part);
-            if from.is_dir() {
-                copy_all(&from, &own.join(part))?;
-            }
-        }
-        for edit in edits {
-            if let Err(why) = edit.apply(&own) {
-                return Ok(Err(why));
-            }
-        }
-        let label = edits.first().map_or("unedited", |edit| &edit.label);
-        let path = self.place.with_file_name(format!("{label}.log"));
+        let path = self.place.join("log");
         let log = File::create(&path)?;
-        let mut command = match self.house.is_nice {
-            true => Command::new("nice"),
-            false => Command::new("rt"),
-        };
-        if self.house.is_nice {
-            command.args(["-n", "19", "rt"]);
-        }
+        let mut command = Command::new("rt");
         command
-            .args(["dev", &self.name])
-            .current_dir(&self.place)
-            .env("RT_JOBS", "1")
-            .env("RT_CUT", "0")
+            .args(["check", "--jobs", "1"])
+            .current_dir(&own)
             .stdin(Stdio::null())
             .stdout(log.try_clone()?)
             .stderr(log);
@@ -190,13 +137,34 @@ impl<'a> View<'a> {
     }
 }
 
-fn copy_all(from: &Path, to: &Path) -> io::Result<()> {
+/// The files of a crate that are read, anew.
+fn copy_sources(from: &Path, to: &Path) -> io::Result<()> {
+    for part in ["src", "specs", "proofs"] {
+        let (from, to) = (from.join(part), to.join(part));
+        if to.exists() {
+            fs::remove_dir_all(&to)?;
+        }
+        share(&from, &to, |_| false)?;
+    }
+    Ok(())
+}
+
+/// Of what rt keeps it replaces the checked modules, and writes in none of them.
+fn replaced(path: &Path) -> bool {
+    path.extension().is_some_and(|ending| ending == "oantt")
+}
+
+/// A copy of a folder, if it is there, or a second name for each file for which it may be that.
+fn share(from: &Path, to: &Path, may_link: fn(&Path) -> bool) -> io::Result<()> {
+    if !from.is_dir() {
+        return Ok(());
+    }
     fs::create_dir_all(to)?;
     for entry in entries(from)? {
         let place = to.join(word(&entry));
         if entry.is_dir() {
-            copy_all(&entry, &place)?;
-        } else {
+            share(&entry, &place, may_link)?;
+        } else if !may_link(&entry) || fs::hard_link(&entry, &place).is_err() {
             fs::copy(&entry, place)?;
         }
     }
