@@ -1,6 +1,7 @@
 // The function by which a C program asks where a file is refused: `fault_of`, with bytes in and out as the functions of crate calls have them; and the doors to
 // `fault_of_tables`, and to the places at fault of orders and sheets. include/floebucket.h declares them; specs/FaultCall.antt says the complete outcome of each.
 #![tactic(auto)]
+
 ghost use Rattle.std.specs.Prelude.{◌≡◌, ◌++◌, ◌≤◌, length, drop};
 ghost use Rattle.calls_fault.specs.FaultCall.{code_of, record_of, eighteen, FaultCalled, FaultDoor, OrderFaultDoor, DevicesFaultDoor, JobsFaultDoor};
 ghost use Rattle.calls.specs.Bytes.{big};

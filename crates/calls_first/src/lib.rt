@@ -1,6 +1,7 @@
 // The function by which a C program asks whether a request has any plan: `first_plan`, with bytes in and out as the functions of crate calls have them.
 // include/floebucket.h declares it; specs/FirstCall.antt says its complete outcome.
 #![tactic(auto)]
+
 ghost use Rattle.first.specs.Promises.{FirstOf};
 ghost use Rattle.planner.specs.Promises.{OfFile};
 ghost use Rattle.calls.specs.Calls.{StartsOf};
