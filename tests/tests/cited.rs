@@ -64,7 +64,7 @@ fn text_below(path: &Path) -> String {
 }
 
 fn in_word(c: char) -> bool {
-    c.is_alphanumeric() || "-_′·".contains(c)
+    c.is_alphanumeric() || "-_'·".contains(c)
 }
 
 /// Whether a name stands in a text as a word of its own.
@@ -213,13 +213,12 @@ fn cited(paper: &str) -> Vec<(String, Option<String>)> {
     found
 }
 
-/// A law or a type, by the form of its name: words joined by hyphens, or capitals and small letters.
+/// A law, a definition or a type, by the form of its name: words joined by low lines, or capitals and small letters.
 fn is_telling(name: &str) -> bool {
-    let law = name.contains('-')
-        && !name.starts_with('-')
+    let law = name.trim_matches('_').contains('_')
         && name
             .chars()
-            .all(|c| c.is_ascii_lowercase() || c.is_ascii_digit() || c == '-');
+            .all(|c| c.is_ascii_lowercase() || c.is_ascii_digit() || "_'".contains(c));
     let kind = name.starts_with(|c: char| c.is_ascii_uppercase())
         && name.contains(|c: char| c.is_ascii_lowercase());
     law || kind
@@ -367,8 +366,7 @@ fn wrong_programs() -> BTreeSet<String> {
         for edit in edits {
             let path = edit.unwrap().path();
             assert!(
-                path.extension()
-                    .is_some_and(|e| e == "wrong" || e == "edit"),
+                path.extension().is_some_and(|e| e == "edit"),
                 "{} is tried by nobody",
                 path.display()
             );
@@ -426,19 +424,24 @@ fn wrong_programs_are_listed() {
 
 #[test]
 fn citations_are_found() {
-    let said = "It is so (base/specs/Lists: `upTo`, `padded`); `row-least` and `one-seam` in device/proofs/Least, and `Far`.";
+    let said = "It is so (base/specs/Lists: `up_to`, `padded`); `row_least'` and `one_seam` in device/proofs/Least, and `Far`.";
     let place = |p: &str| Some(p.to_string());
     assert_eq!(
         cited(said),
         [
-            ("upTo".to_string(), place("base/specs/Lists")),
+            ("up_to".to_string(), place("base/specs/Lists")),
             ("padded".to_string(), place("base/specs/Lists")),
-            ("row-least".to_string(), place("device/proofs/Least")),
-            ("one-seam".to_string(), place("device/proofs/Least")),
+            ("row_least'".to_string(), place("device/proofs/Least")),
+            ("one_seam".to_string(), place("device/proofs/Least")),
             ("Far".to_string(), None),
         ]
     );
-    assert!(has_word("pub abc-d : x", "abc-d") && !has_word("pub abc-de : x", "abc-d"));
+    assert!(has_word("pub abc_d : x", "abc_d") && !has_word("pub abc_de : x", "abc_d"));
+    assert!(!has_word("pub abc_d' : x", "abc_d"));
+    let telling = ["row_least", "one_seam'", "mul_t9", "Far", "FarOff"];
+    assert!(telling.iter().all(|name| is_telling(name)));
+    let untelling = ["row", "FAR_OFF", "must-fail", "_", "T"];
+    assert!(!untelling.iter().any(|name| is_telling(name)));
     assert_eq!(
         rules_cited("by rules 3, 10 to 15 and 80, and rule 7."),
         [7, 3, 10, 15, 80]
