@@ -10,8 +10,8 @@ use Rattle.planner.specs.Promises as S
 use Rattle.planner.specs.Promises.{OfFile, SearchOf, Searched}
 use Rattle.planner.proofs.Larger.{Enough}
 use Rattle.planner.proofs.Reading.{two_of_file}
-use Rattle.cheapest.specs.Promises.{over, least, LeastOf, LeastPlanned}
-use Rattle.cheapest.proofs.Only.{Told, only_told, least_told}
+use Rattle.cheapest.specs.Promises.{over, least, LeastPlanned, CountedLeastOf, CountedLeastPlanned}
+use Rattle.cheapest.proofs.Only.{Told, only_told, least_told, counted_least_told}
 
 -- An answer without its count.
 abbrev pub uncounted : Answer → Answer
@@ -33,9 +33,13 @@ pub beside_search : (file : List ℕ) (b b' : ℕ) (lent : List ℕ) {a a' : Ans
     → LeastPlanned file b lent a l → Searched file b' lent a' l' → Enough a → Enough a' → (a ≡ uncounted a') × (l ≡ l')
 beside_search file b b' lent p s n n' = only_told file lent (least_told file b lent p n) (search_told file b' lent s n')
 
+pub counted_beside_search : (file : List ℕ) (b b' : ℕ) (lent : List ℕ) {a a' : Answer} {l l' : List ℕ}
+    → CountedLeastPlanned file b lent a l → Searched file b' lent a' l' → Enough a → Enough a' → (a ≡ uncounted a') × (l ≡ l')
+counted_beside_search file b b' lent p s n n' = only_told file lent (counted_least_told file b lent p n) (search_told file b' lent s n')
+
 -- ---- not given up where the search is not
 
-also_enough : (b b' : ℕ) → b ≤ b' → (lent : List ℕ) (R : Recorder) {a a' : Answer} {l l' : List ℕ} → SearchOf b lent R a l → LeastOf b' lent R a' l' → Enough a → Enough a'
+also_enough : (b b' : ℕ) → b ≤ b' → (lent : List ℕ) (R : Recorder) {a a' : Answer} {l l' : List ℕ} → SearchOf b lent R a l → CountedLeastOf b' lent R a' l' → Enough a → Enough a'
 also_enough b b' i lent R s (S.stops h) n e = omega arith
 also_enough b b' i lent R s (S.passes h (S.stops f)) n e = omega arith
 also_enough b b' i lent R (S.stops k) (S.passes h (S.passes f (over j o))) n e = h k
@@ -44,11 +48,11 @@ also_enough b b' i lent R (S.passes k (S.passes q t)) (S.passes h (S.passes f (o
 also_enough b b' i lent R s (S.passes h (S.passes f (least (S.found g)))) n e = omega arith
 
 pub enough_together : (file : List ℕ) (b b' : ℕ) → b ≤ b' → (lent : List ℕ) {a a' : Answer} {l l' : List ℕ}
-    → Searched file b lent a l → LeastPlanned file b' lent a' l' → Enough a → Enough a'
+    → Searched file b lent a l → CountedLeastPlanned file b' lent a' l' → Enough a → Enough a'
 enough_together file b b' i lent =
-    two_of_file file lent lent (SearchOf b lent) (LeastOf b' lent) (λ x m x' m'. Enough x → Enough x') (λ k n. n) (λ R v x x' m m'. also_enough b b' i lent R)
+    two_of_file file lent lent (SearchOf b lent) (CountedLeastOf b' lent) (λ x m x' m'. Enough x → Enough x') (λ k n. n) (λ R v x x' m m'. also_enough b b' i lent R)
 
 -- And then it is the search's plan: number, horizon, energy and starts.
 pub same_plan : (file : List ℕ) (b b' : ℕ) → b ≤ b' → (lent : List ℕ) {a a' : Answer} {l l' : List ℕ}
-    → Searched file b lent a l → LeastPlanned file b' lent a' l' → Enough a → (a' ≡ uncounted a) × (l' ≡ l)
-same_plan file b b' i lent s p n = beside_search file b' b lent p s (enough_together file b b' i lent s p n) n
+    → Searched file b lent a l → CountedLeastPlanned file b' lent a' l' → Enough a → (a' ≡ uncounted a) × (l' ≡ l)
+same_plan file b b' i lent s p n = counted_beside_search file b' b lent p s (enough_together file b b' i lent s p n) n

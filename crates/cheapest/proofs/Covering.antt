@@ -19,8 +19,8 @@ use Rattle.planner.specs.declared.Answer.{Answer}
 use Rattle.planner.specs.Promises.{Reads}
 use Rattle.planner.proofs.Larger.{Enough}
 use Rattle.request.proofs.Accepted.{accepted_valid}
-use Rattle.cheapest.specs.Promises.{LeastPlanned}
-use Rattle.cheapest.proofs.Only.{all_enough}
+use Rattle.cheapest.specs.Promises.{CountedLeastPlanned}
+use Rattle.cheapest.proofs.Only.{counted_all_enough}
 
 -- The vertices from one with m jobs unplaced on, itself among them, are no more than this.
 unfoldable pub most_below : (h m : ℕ) → ℕ
@@ -79,5 +79,5 @@ module _ (R : Recorder) (valid : Valid R) where
 
 -- With such a budget it is never given up.
 pub most_enough : (file : List ℕ) (budget : ℕ) (lent : List ℕ) (R : Recorder) → Reads file R → most_below R.horizon (jobs R) ≤ budget
-    → {a : Answer} {l : List ℕ} → LeastPlanned file budget lent a l → Enough a
-most_enough file budget lent R reads h = all_enough file budget lent R reads (omega (arith, h, vertices_most R (accepted_valid file R reads)))
+    → {a : Answer} {l : List ℕ} → CountedLeastPlanned file budget lent a l → Enough a
+most_enough file budget lent R reads h = counted_all_enough file budget lent R reads (omega (arith, h, vertices_most R (accepted_valid file R reads)))

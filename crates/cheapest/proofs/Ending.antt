@@ -16,13 +16,13 @@ use Rattle.schedule.specs.Visiting.{plan_energy}
 use Rattle.latest.specs.inside.Latest.{latest_of, Laid}
 use Rattle.latest.proofs.Feasibility.{feasible_latest, latest_feasible}
 use Rattle.planner.specs.declared.Answer.{Answer}
-use Rattle.planner.specs.Promises.{success, refusal, stops, passes, found, SearchOf}
+use Rattle.planner.specs.Promises.{success, refusal, refusal_after, stops, passes, found, SearchOf}
 use Rattle.planner.proofs.Refusing.{unless_enough, unless_some}
 use Rattle.least.specs.inside.Outcome as O
-use Rattle.least.specs.inside.Effort.{most_of, most_vertices}
+use Rattle.least.specs.Effort.{most_of, most_vertices}
 use Rattle.least.specs.inside.Outcome.{ReadOff}
 use Rattle.cheapest.specs.Promises as P
-use Rattle.cheapest.specs.Promises.{LeastOf, Sought}
+use Rattle.cheapest.specs.Promises.{LeastOf, CountedLeastOf, Sought}
 
 -- Without jobs no vertex is entered.
 none_entered : (R : Recorder) → most_of R 0 0 ≡ 0
@@ -52,10 +52,23 @@ module _ (R : Recorder) (valid : Valid R) where
     is_none budget lent room q =
         unless_enough room (stops (λ s f. omega (arith, ltb-false 0 (get_or table (2 ^ jobs R - 1) 0) q, all_jobs, feasible_latest R valid s f)))
 
+    -- the same by the stronger promise
+    pub counted_is_none : (budget : ℕ) (lent : List ℕ) → jobs R ≤ length lent → ltb 0 (get_or table (2 ^ jobs R - 1) 0) ≡ false → CountedLeastOf budget lent R (refusal 19) lent
+    counted_is_none budget lent room q =
+        unless_enough room (stops (λ s f. omega (arith, ltb-false 0 (get_or table (2 ^ jobs R - 1) 0) q, all_jobs, feasible_latest R valid s f)))
+
   -- ---- the search, which left l
 
   module _ (budget : ℕ) (lent l : List ℕ) (room : jobs R ≤ length lent) where
-    -- It is given up only where there are jobs.
+    -- It is given up only with a budget below all the vertices that can be needed,
+    over_most : {x : Bool} → ReadOff R budget l x → x ≡ false → budget < most_vertices R
+    over_most (O.ReadOff.read f) e = absurd (true≢false e)
+    over_most (O.ReadOff.over h) e = h
+
+    pub is_over_lem : {x : Bool} → ReadOff R budget l x → x ≡ false → 0 < latest_of R (2 ^ jobs R - 1) → LeastOf budget lent R (refusal_after 20 budget) lent
+    is_over_lem r e q = unless_enough room (unless_some (latest_feasible R valid q).1 (P.OverOrLeast.over (over_most r e)))
+
+    -- and only where there are jobs.
     pub over_some : {x : Bool} → ReadOff R budget l x → x ≡ false → 0 < jobs R
     over_some (O.ReadOff.read f) e = absurd (true≢false e)
     over_some (O.ReadOff.over h) e = most_some R (omega (arith, h))
@@ -75,17 +88,24 @@ module _ (R : Recorder) (valid : Valid R) where
         let f = read_least r e in
         rw (given, wrote, f.feasible.one_each) (unless_enough room (unless_some f.feasible (P.OverOrLeast.least (found f))))
 
+    pub counted_is_found :
+        {x : Bool} → ReadOff R budget l x → x ≡ true → (a : Answer) (after : List ℕ) → a ≡ success R.horizon (plan_energy R (take (jobs R) l)) 0
+        → after ≡ take (jobs R) l ++ drop (length (take (jobs R) l)) lent → CountedLeastOf budget lent R a after
+    counted_is_found r e a after given wrote =
+        let f = read_least r e in
+        rw (given, wrote, f.feasible.one_each) (unless_enough room (unless_some f.feasible (P.CountedOrLeast.least (found f))))
+
   -- ---- the search that counts, where there is a plan
 
   module _ (budget : ℕ) (lent : List ℕ) (some : 0 < jobs R) (room : jobs R ≤ length lent) (possible : 0 < latest_of R (2 ^ jobs R - 1)) where
-    pub counts_over : {a : Answer} {after : List ℕ} → SearchOf budget lent R a after → (a.number ≡ 0 → ⊥) → LeastOf budget lent R a after × Sought a
+    pub counts_over : {a : Answer} {after : List ℕ} → SearchOf budget lent R a after → (a.number ≡ 0 → ⊥) → CountedLeastOf budget lent R a after × Sought a
     counts_over (stops h) n = absurd (omega arith)
-    counts_over (passes h (stops o)) n = (unless_enough room (unless_some (latest_feasible R valid possible).1 (P.OverOrLeast.over some o)), inr refl)
+    counts_over (passes h (stops o)) n = (unless_enough room (unless_some (latest_feasible R valid possible).1 (P.CountedOrLeast.over some o)), inr refl)
     counts_over (passes h (passes o (stops f))) n = let s = latest_feasible R valid possible in absurd (f s.0 s.1)
     counts_over (passes h (passes o (passes f (found g)))) n = absurd (n refl)
 
-    pub counts_found : {a : Answer} {after : List ℕ} → SearchOf budget lent R a after → a.number ≡ 0 → LeastOf budget lent R (success R.horizon a.energy 0) after
+    pub counts_found : {a : Answer} {after : List ℕ} → SearchOf budget lent R a after → a.number ≡ 0 → CountedLeastOf budget lent R (success R.horizon a.energy 0) after
     counts_found (stops h) z = absurd (omega arith)
     counts_found (passes h (stops o)) z = absurd (omega arith)
     counts_found (passes h (passes o (stops f))) z = absurd (omega arith)
-    counts_found (passes h (passes o (passes f (found g)))) z = unless_enough room (passes f (P.OverOrLeast.least (found g)))
+    counts_found (passes h (passes o (passes f (found g)))) z = unless_enough room (passes f (P.CountedOrLeast.least (found g)))

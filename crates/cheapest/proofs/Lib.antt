@@ -4,3 +4,4 @@ pub mod Beside
 pub mod Ending
 pub mod Larger
 pub mod Covering
+pub mod Weaker

@@ -11,7 +11,7 @@ ghost use Rattle.latest.specs.inside.Latest.{latest_of, Laid};
 ghost use Rattle.planner.specs.Promises as Promises;
 ghost use Rattle.planner.specs.Promises.{KeptUnless};
 ghost use Rattle.least.specs.inside.Outcome.{ReadOff};
-ghost use Rattle.cheapest.specs.Promises.{LeastOf, Sought, LeastPlannedIn};
+ghost use Rattle.cheapest.specs.Promises.{LeastOf, LeastPlanned, CountedLeastOf, Sought, LeastPlannedIn};
 
 use extras::laying::lay_extras;
 use flat::{Flat, flat_of};
@@ -67,7 +67,7 @@ fn give(r: Recorder, s: &[u16], starts: &mut [u16]) -> Answer
 // What the search that counts finds, without its count: it gives up only where the budget is below the vertices of the visiting order.
 fn counted(r: Recorder, budget: u32, memory: &mut [u64], starts: &mut [u16]) -> Answer
     requires { Valid r × ((0 < jobs r) × ((jobs r ≤ length starts.old) × (0 < latest_of r (2 ^ jobs r - 1)))) }
-    ensures planned { LeastOf budget starts.old r result starts.new }
+    ensures counted { CountedLeastOf budget starts.old r result starts.new }
     ensures sought { Sought result }
 {
     let found = search_in_of(r, budget, memory, starts);
@@ -88,7 +88,7 @@ fn least_with(
     starts: &mut [u16],
 ) -> Answer
     requires { Valid r × ((recorder_of flat.now ≡ r) × (Laid r latest.now × ((jobs r ≤ length starts.old) × (0 < latest_of r (2 ^ jobs r - 1))))) }
-    ensures planned { LeastOf budget starts.old r result starts.new }
+    ensures counted { CountedLeastOf budget starts.old r result starts.new }
     ensures sought { Sought result }
 {
     let n = r.jobs.count;
@@ -103,6 +103,7 @@ fn least_with(
 pub fn least_of(r: Recorder, budget: u32, memory: &mut [u64], starts: &mut [u16]) -> Answer
     requires { Valid r }
     ensures planned { LeastOf budget starts.old r result starts.new }
+    ensures counted { CountedLeastOf budget starts.old r result starts.new }
     ensures lent { KeptUnless (Sought result) memory.old memory.new }
 {
     let n = r.jobs.count;
@@ -121,7 +122,8 @@ pub fn least_of(r: Recorder, budget: u32, memory: &mut [u64], starts: &mut [u16]
 // Writes the start times of the first of the least-energy schedules that meet all deadlines. The memory may hold anything and be of any length: the more, the
 // faster. It is written to only where a plan is looked for.
 pub fn least_plan(file: &[u8], budget: u32, memory: &mut [u64], starts: &mut [u16]) -> Answer
-    ensures { LeastPlannedIn file.now budget memory.old starts.old result memory.new starts.new }
+    ensures planned { LeastPlanned file.now budget starts.old result starts.new }
+    ensures lent { LeastPlannedIn file.now budget memory.old starts.old result memory.new starts.new }
 {
     let request = read(file);
     if request.number != 0 {

@@ -20,7 +20,7 @@ use Rattle.value.specs.inside.Leasts.{via_child, starts_to}
 use Rattle.value.proofs.Waits.{least_to}
 use Rattle.value.proofs.Tries.{ChosenTo, choosing_start, choosing_placed, choosing_tried, choosing_done}
 use Rattle.least.specs.inside.Shown.{Shows, ShownAt}
-use Rattle.least.specs.inside.Effort.{most_of}
+use Rattle.least.specs.Effort.{most_of}
 use Rattle.least.specs.inside.Outcome.{Came, told, stopped}
 use Rattle.vertex.proofs.Showing.{set_some, job_in_lem, in_job}
 use Rattle.least.proofs.Counting.{came_stop, came_small, came_from}

@@ -6,7 +6,7 @@ use native.Mathlib.Nat.{mul-le-mul_left, mul-le-mul_right, eq-or-lt_of_le}
 use native.Mathlib.Omega.{arith}
 use Rattle.schedule.specs.declared.Recorder.{Recorder}
 use Rattle.schedule.specs.Quantities.{jobs}
-use Rattle.least.specs.inside.Effort.{most_of}
+use Rattle.least.specs.Effort.{most_of}
 use Rattle.least.specs.inside.Outcome.{Came, told, stopped}
 
 -- ---- calls

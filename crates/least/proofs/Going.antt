@@ -31,7 +31,7 @@ use Rattle.stored.specs.declared.Key.{Key}
 use Rattle.least.specs.declared.memory.Spot.{Spot}
 use Rattle.least.specs.inside.Shown.{closes_by, key_by, Ordered, Placed, Shows, ShownAt}
 use Rattle.least.specs.inside.Entries.{Looked, kept, known_of}
-use Rattle.least.specs.inside.Effort.{most_of}
+use Rattle.least.specs.Effort.{most_of}
 use Rattle.least.specs.inside.Outcome.{Named, Recalls, Lent, Offers, Came, Tried, entered}
 use Rattle.vertex.proofs.Showing.{ordered_later, shown_ordered, closes_shown, set_few, set_none, set_some, child_shown, job_in_lem, in_job}
 use Rattle.least.proofs.Falling.{waited_shown}

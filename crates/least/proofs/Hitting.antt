@@ -21,7 +21,7 @@ use Rattle.value.specs.inside.Options.{plus, Answers}
 use Rattle.value.specs.inside.Leasts.{lead_of, least_of, via_child}
 use Rattle.value.proofs.Steps.{answer_hits, hits_answer, lead_misses, none_misses}
 use Rattle.least.specs.inside.Shown.{leads_by, Shows}
-use Rattle.least.specs.inside.Effort.{most_of}
+use Rattle.least.specs.Effort.{most_of}
 use Rattle.least.specs.inside.Outcome.{Came, told, stopped}
 use Rattle.least.specs.inside.Readings.{Hit, hit, missed, FirstStart, first, nowhere}
 use Rattle.vertex.proofs.Showing.{leads_shown, job_in_lem}

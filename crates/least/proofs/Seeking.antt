@@ -18,7 +18,7 @@ use Rattle.value.specs.inside.Leasts.{least_of, via_child, FirstChild}
 use Rattle.value.proofs.Reading.{no_hit}
 use Rattle.value.proofs.Steps.{first_by_lem}
 use Rattle.least.specs.inside.Shown.{Shows}
-use Rattle.least.specs.inside.Effort.{most_of}
+use Rattle.least.specs.Effort.{most_of}
 use Rattle.least.specs.inside.Outcome.{Came, told, stopped}
 use Rattle.least.specs.inside.Readings.{FirstStart, first, nowhere}
 use Rattle.vertex.proofs.Showing.{job_in_lem, in_job}

@@ -21,7 +21,7 @@ use Rattle.value.proofs.Reading.{settles_root, settles_child, settles_end, root_
 use Rattle.value.proofs.Steps.{child_goal, least_most}
 use Rattle.extras.specs.inside.Tabled.{Tabled}
 use Rattle.least.specs.inside.Shown.{leads_by, Placed, Shows, ShownAt}
-use Rattle.least.specs.inside.Effort.{most_of, most_vertices}
+use Rattle.least.specs.Effort.{most_of, most_vertices}
 use Rattle.least.specs.inside.Outcome.{Offers, Came, told, stopped, ReadOff, read}
 use Rattle.least.specs.inside.Readings.{Reads}
 use Rattle.vertex.proofs.Roots.{set_all}

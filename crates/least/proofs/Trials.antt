@@ -27,7 +27,7 @@ use Rattle.value.proofs.Steps.{least_span, latest_gone}
 use Rattle.value.proofs.Tries.{Trying, Falling, trying_start, trying_pass, trying_enter}
 use Rattle.extras.specs.inside.Tabled.{Tabled, rise_at, fall_at}
 use Rattle.least.specs.inside.Shown.{leads_by, falls_by, Shows, ShownAt}
-use Rattle.least.specs.inside.Effort.{most_of}
+use Rattle.least.specs.Effort.{most_of}
 use Rattle.least.specs.inside.Outcome.{Came, told, stopped, Tried, passed, entered}
 use Rattle.vertex.proofs.Showing.{leads_shown, job_in_lem, in_job}
 use Rattle.least.proofs.Falling.{falls_shown}

@@ -1,4 +1,3 @@
-pub mod Effort
 pub mod Entries
 pub mod Outcome
 pub mod Readings

@@ -8,7 +8,7 @@ ghost use Rattle.latest.specs.inside.Sets.{has};
 ghost use Rattle.latest.specs.inside.Latest.{latest_of};
 ghost use Rattle.value.specs.inside.Leasts.{lead_of, least_of, via_child, FirstChild};
 ghost use Rattle.least.specs.inside.Shown.{Shows, ShownAt};
-ghost use Rattle.least.specs.inside.Effort.{most_of};
+ghost use Rattle.least.specs.Effort.{most_of};
 ghost use Rattle.least.specs.inside.Outcome.{Lent, Offers, Came, ReadOff};
 ghost use Rattle.least.specs.inside.Readings.{Hit, FirstStart, Reads};
 

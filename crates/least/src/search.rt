@@ -13,7 +13,7 @@ ghost use Rattle.value.proofs.Waits.{least_to};
 ghost use Rattle.extras.specs.inside.Tabled.{cap_at};
 ghost use Rattle.least.specs.inside.Shown.{key_by, Shows, ShownAt};
 ghost use Rattle.least.specs.inside.Entries.{Looked};
-ghost use Rattle.least.specs.inside.Effort.{most_of};
+ghost use Rattle.least.specs.Effort.{most_of};
 ghost use Rattle.least.specs.inside.Outcome.{Lent, Offers, Came, Tried};
 
 use crate::leads::{falls_of, wait_of};

@@ -14,7 +14,7 @@ use Rattle.planner.proofs.Larger.{Enough}
 use Rattle.planner.proofs.Reading.{outcome_of}
 use Rattle.possible.specs.Promises.{GivesFirst}
 use Rattle.first.specs.Promises.{FirstOf, FirstPlan}
-use Rattle.cheapest.specs.Promises.{over, least, LeastOf, LeastPlanned}
+use Rattle.cheapest.specs.Promises.{over, least, CountedLeastOf, CountedLeastPlanned}
 use Rattle.looser.specs.Windows.{Looser}
 use Rattle.looser.proofs.Helps.{still_feasible, no_dearer}
 use Rattle.looser.proofs.Files.{widened}
@@ -23,14 +23,14 @@ use Rattle.looser.proofs.Searches.{least_given, first_given}
 -- ---- over one recorder each
 
 -- Where it answers 0, a plan is given; and where one is feasible, with room for it and a budget that is large enough.
-least_found : {b : ℕ} {lent : List ℕ} {R : Recorder} {a : Answer} {after : List ℕ} → a.number ≡ 0 → LeastOf b lent R a after → GivesLeast R 0 lent a after
+least_found : {b : ℕ} {lent : List ℕ} {R : Recorder} {a : Answer} {after : List ℕ} → a.number ≡ 0 → CountedLeastOf b lent R a after → GivesLeast R 0 lent a after
 least_found z (stops h) = absurd (omega arith)
 least_found z (passes h (stops n)) = absurd (omega arith)
 least_found z (passes h (passes n (over j o))) = absurd (omega arith)
 least_found z (passes h (passes n (least g))) = g
 
 least_finds : {b : ℕ} {lent : List ℕ} {R : Recorder} {a : Answer} {after s : List ℕ}
-    → jobs R ≤ length lent → Enough a → Feasible R s → LeastOf b lent R a after → GivesLeast R 0 lent a after
+    → jobs R ≤ length lent → Enough a → Feasible R s → CountedLeastOf b lent R a after → GivesLeast R 0 lent a after
 least_finds room enough f (stops h) = absurd (omega arith)
 least_finds {s = s} room enough f (passes h (stops n)) = absurd (n s f)
 least_finds room enough f (passes h (passes n (over j o))) = absurd (enough refl)
@@ -61,12 +61,12 @@ module _
     {after after' : List ℕ}
   where
     -- If the first has a least plan, so has the second, unless it is given up, and its energy is no higher.
-    pub least_never_costs_more : (b b' : ℕ) → Enough a' → LeastPlanned file b lent a after → LeastPlanned file' b' lent' a' after' → a.number ≡ 0
+    pub least_never_costs_more : (b b' : ℕ) → Enough a' → CountedLeastPlanned file b lent a after → CountedLeastPlanned file' b' lent' a' after' → a.number ≡ 0
         → (a'.number ≡ 0) × (a'.energy ≤ a.energy)
     least_never_costs_more b b' enough p p' z =
         let w = widened file file' looser reads reads' in
-        let f = least_given (least_found z (outcome_of file lent (LeastOf b lent) reads p)) in
-        let f' = least_given (least_finds roomy enough (still_feasible R R' w f.1 f.2.feasible) (outcome_of file' lent' (LeastOf b' lent') reads' p')) in
+        let f = least_given (least_found z (outcome_of file lent (CountedLeastOf b lent) reads p)) in
+        let f' = least_given (least_finds roomy enough (still_feasible R R' w f.1 f.2.feasible) (outcome_of file' lent' (CountedLeastOf b' lent') reads' p')) in
         (f'.0, no_dearer R R' w f.2 f'.2)
 
     -- If the first has a first plan, so has the second, whatever the budget, since there is none.

@@ -7,11 +7,11 @@ use Rattle.cheapest.proofs.counted.Goals as goal
 pub returns-then-found-ne0 : goal.returns-then-found-ne0
 returns-then-found-ne0 c =
     let p = counts_over _ c.requires.0 _ _ c.requires.1.0 c.requires.1.1.0 c.requires.1.1.1 c.search_in_of-found.ensures.planned c.if-found-ne0.true in
-    record { planned = p.0; sought = p.1 }
+    record { counted = p.0; sought = p.1 }
 
 pub returns : goal.returns
 returns c =
     rw c.success.ensures (record {
-      planned = counts_found _ c.requires.0 _ _ c.requires.1.0 c.requires.1.1.0 c.requires.1.1.1 c.search_in_of-found.ensures.planned c.if-found-ne0.false;
+      counted = counts_found _ c.requires.0 _ _ c.requires.1.0 c.requires.1.1.0 c.requires.1.1.1 c.search_in_of-found.ensures.planned c.if-found-ne0.false;
       sought = inl refl;
     })

@@ -5,11 +5,12 @@ use Rattle.schedule.specs.declared.Recorder.{Recorder}
 use Rattle.schedule.specs.Quantities.{Valid}
 use Rattle.latest.specs.inside.Latest.{Laid}
 use Rattle.planner.specs.Promises.{stops}
-use Rattle.cheapest.proofs.Ending.{is_possible, is_none}
+use Rattle.cheapest.proofs.Ending.{is_possible, is_none, counted_is_none}
+use Rattle.cheapest.proofs.Weaker.{weakened}
 use Rattle.cheapest.proofs.least_of.Goals as goal
 
 pub returns-then-starts-n : goal.returns-then-starts-n
-returns-then-starts-n c = rw c.refusal.ensures (record { planned = stops c.if-starts-n.true; lent = λ unsought. refl })
+returns-then-starts-n c = rw c.refusal.ensures (record { planned = stops c.if-starts-n.true; counted = stops c.if-starts-n.true; lent = λ unsought. refl })
 
 pub lay_latest-requires : goal.lay_latest-requires
 lay_latest-requires c = (subst Valid (sym c.flat_of-flat.ensures) c.requires, search rules)
@@ -20,6 +21,8 @@ returns-then-not-is_possible c =
     let p = c.is_possible in
     rw c.refusal-then-not-is_possible.ensures (record {
       planned = is_none c.args.r c.requires c.lay_latest.new.table tabled c.args.budget c.args.starts.now c.if-starts-n.false
+          (sym p.ensures ∙ c.if-not-is_possible.true);
+      counted = counted_is_none c.args.r c.requires c.lay_latest.new.table tabled c.args.budget c.args.starts.now c.if-starts-n.false
           (sym p.ensures ∙ c.if-not-is_possible.true);
       lent = λ unsought. refl;
     })
@@ -45,6 +48,7 @@ pub returns : goal.returns
 returns c =
     let w = c.least_with.ensures in
     record {
-      planned = w.planned;
+      planned = weakened c.args.r c.requires w.counted;
+      counted = w.counted;
       lent = λ unsought. absurd (unsought w.sought);
     }

@@ -6,7 +6,9 @@ use Rattle.planner.specs.Promises.{Reads}
 use Rattle.cheapest.proofs.least_plan.Goals as goal
 
 pub returns-then-request-ne0 : goal.returns-then-request-ne0
-returns-then-request-ne0 c = rw c.refusal.ensures (Frame.OfFile.refused (read_refused _ _ c.read-request.ensures c.if-request-ne0.true), λ unsought. refl)
+returns-then-request-ne0 c =
+    let r = read_refused _ _ c.read-request.ensures c.if-request-ne0.true in
+    rw c.refusal.ensures (record { planned = Frame.OfFile.refused r; lent = (Frame.OfFile.refused r, λ unsought. refl) })
 
 pub least_of-requires : goal.least_of-requires
 least_of-requires c =
@@ -17,4 +19,4 @@ pub returns : goal.returns
 returns c =
     let recorded : Reads c.args.file.now c.read-request.result.recorder = read_accepted _ _ c.read-request.ensures c.if-request-ne0.false in
     let p = c.least_of.ensures in
-    (Frame.OfFile.read recorded p.planned, p.lent)
+    record { planned = Frame.OfFile.read recorded p.planned; lent = (Frame.OfFile.read recorded p.counted, p.lent) }

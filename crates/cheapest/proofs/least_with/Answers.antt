@@ -9,7 +9,7 @@ use Rattle.schedule.specs.Quantities.{jobs, Valid}
 use Rattle.latest.specs.inside.Latest.{latest_of, Laid}
 use Rattle.least.specs.inside.Outcome.{ReadOff}
 use Rattle.planner.specs.declared.Answer.{Answer}
-use Rattle.cheapest.proofs.Ending.{over_some, read_least, read_room, is_found}
+use Rattle.cheapest.proofs.Ending.{over_some, read_least, read_room, counted_is_found}
 use Rattle.cheapest.proofs.least_with.Goals as goal
 
 pub find-requires : goal.find-requires
@@ -53,7 +53,7 @@ pub returns : goal.returns
 returns c =
     let came : ReadOff c.args.r c.args.budget c.find.new.found c.find.result = subst (λ (X : Recorder). ReadOff X c.args.budget c.find.new.found c.find.result) c.requires.1.0 c.find.ensures in
     record {
-      planned = is_found c.args.r c.requires.0 c.args.budget c.args.starts.now c.find.new.found c.requires.1.1.1.0 came
+      counted = counted_is_found c.args.r c.requires.0 c.args.budget c.args.starts.now c.find.new.found c.requires.1.1.1.0 came
           c.if-not-find.false _ _ c.give.ensures.0 c.give.ensures.1;
       sought = inl (ap (λ (a : Answer). a.number) c.give.ensures.0);
     }

@@ -15,7 +15,7 @@ use Rattle.stored.specs.declared.Key.{Key}
 pub use Rattle.stored.specs.inside.Naming.{of_devices, Named}
 use Rattle.least.specs.inside.Shown.{Shows}
 use Rattle.least.specs.inside.Entries.{Right}
-use Rattle.least.specs.inside.Effort.{most_vertices}
+use Rattle.least.specs.Effort.{most_vertices}
 
 -- ---- what is remembered
 

@@ -8,7 +8,7 @@ use Rattle.schedule.specs.Visiting.{Vertex, starts, written}
 use Rattle.value.specs.inside.Leasts.{least_of, via_child}
 use Rattle.value.proofs.Reading.{Settles}
 use Rattle.least.specs.inside.Shown.{Shows}
-use Rattle.least.specs.inside.Effort.{most_of, most_vertices}
+use Rattle.least.specs.Effort.{most_of, most_vertices}
 
 -- Whether o is the goal: 1 or 0.
 pub data Hit (goal : ℕ) (o : Option ℕ) : ℕ → Type 0 where

@@ -1,4 +1,4 @@
--- How many vertices the search may have to enter, whatever it remembers. Nobody need believe it: no promise speaks of it.
+-- How many vertices a search may have to enter, whatever it remembers: the one part of the search that a promise speaks of.
 use Rattle.std.specs.Prelude.{ℕ, zero, suc, ◌-◌, ◌*◌}
 use Rattle.schedule.specs.declared.Recorder.{Recorder}
 use Rattle.schedule.specs.Quantities.{jobs}
