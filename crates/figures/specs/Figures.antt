@@ -2,7 +2,7 @@
 -- rounds without a seam G1, G2, G5, G6, G8 (which is X3) and G13; of several levels J5 to J7, J9, J10, J12, J13 and J19. One table of cases, and one statement over it. A case is an operation's complete outcome on a file, and says what that operation promises; so it says that the file is read, or by
 -- which number it is refused.
 -- proofs/Hold: the table holds.
-use Rattle.std.specs.Prelude.{◌≡◌, true, false, List, [], ◌∷◌, ◌++◌, map, ℕ, ℤ, pos, negsuc, replicate}
+use Rattle.std.specs.Prelude.{◌≡◌, List, [], ◌∷◌, ◌++◌, map, ℕ, ℤ, pos, negsuc, replicate}
 use Rattle.base.specs.Lists.{up_to}
 use Rattle.device.specs.declared.Sleeps.TheVariants.{Plain, Numbered}
 use Rattle.device.specs.Row.{Letter, at, W, D, U, byte_of}

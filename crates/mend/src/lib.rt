@@ -1,6 +1,7 @@
 // Mending a hand-made schedule: the jobs keep the order of their given starts, and each takes the smallest start that it can have without starting before its
 // given time. `mend` asks nothing of its caller; specs/Promises.antt says its complete outcome.
 #![tactic(auto)]
+
 ghost use Rattle.std.specs.Prelude.{◌≡◌, true, cond, ◌*◌, ◌≤◌, ltb};
 ghost use Rattle.schedule.specs.Quantities.{Valid};
 ghost use Rattle.mend.specs.Promises.{lending, MendOf, Mended};

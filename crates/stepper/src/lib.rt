@@ -1,6 +1,7 @@
 // Step by step on the recorder: devices that begin a move only at starts and completions, for given start times. `step_through` asks nothing of its caller;
 // specs/Promises.antt says its complete outcome. No row is made, and no array is longer than the devices or the jobs.
 #![tactic(auto)]
+
 ghost use Rattle.std.specs.Prelude.{◌≡◌, cond, eqb};
 ghost use Rattle.schedule.specs.Quantities.{Valid};
 ghost use Rattle.schedule.specs.inside.Judging.{verdict};

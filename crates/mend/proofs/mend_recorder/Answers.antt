@@ -1,0 +1,50 @@
+-- `mend::mend_recorder` meets its contract.
+use mathlib.Core.Path.{sym, ◌∙◌}
+use native.Mathlib.Omega.{arith}
+use lib.ListN.{length}
+use Rattle.mend.specs.Promises as P
+use Rattle.mend.specs.Promises.{lending, Room}
+use Rattle.mend.proofs.Moves.{moves_few}
+use Rattle.mend.proofs.Promised.{lacks_none, lacks_not, settled_late, settled_given}
+use Rattle.mend.proofs.mend_recorder.Goals as goal
+
+pub returns-then-given-n : goal.returns-then-given-n
+returns-then-given-n c = rw c.refusal.ensures (P.MendOf.unequal c.if-given-n.true)
+
+pub returns-then-lacks_room : goal.returns-then-lacks_room
+returns-then-lacks_room c =
+    rw c.refusal-then-lacks_room.ensures (P.MendOf.short c.if-given-n.false
+    (λ h. lacks_none _ _ _ (sym c.lacks_room.ensures ∙ c.if-lacks_room.true) h.starts h.moved))
+
+pub returns-then-settled : goal.returns-then-settled
+returns-then-settled c =
+    let room : Room c.args.r (lending c.args.starts.now c.args.moved.now) = let h = lacks_not _ _ _ (sym c.lacks_room.ensures ∙ c.if-lacks_room.false) in
+    record { starts = h.0; moved = h.1 } in
+    rw c.refusal_at.ensures (settled_late _ _ _ c.if-given-n.false room c.settle-settled.result c.settle-settled.ensures c.if-settled.true)
+
+pub write_starts-requires : goal.write_starts-requires
+write_starts-requires c =
+    let room : Room c.args.r (lending c.args.starts.now c.args.moved.now) = let h = lacks_not _ _ _ (sym c.lacks_room.ensures ∙ c.if-lacks_room.false) in
+    record { starts = h.0; moved = h.1 } in
+    let r = room in omega (arith, c.requires)
+
+pub list_moves-count-requires : goal.list_moves-count-requires
+list_moves-count-requires c =
+    let room : Room c.args.r (lending c.args.starts.now c.args.moved.now) = let h = lacks_not _ _ _ (sym c.lacks_room.ensures ∙ c.if-lacks_room.false) in
+    record { starts = h.0; moved = h.1 } in
+    let r = room in omega (arith, c.if-given-n.false, c.requires)
+
+pub overflow_cast-count : goal.overflow_cast-count
+overflow_cast-count c =
+    let g = c.args.given.now in
+    let few = moves_few g c.settle-settled.result.starts (length g) in
+    rw c.list_moves-count.ensures.number (omega (arith, c.if-given-n.false, c.requires))
+
+pub returns : goal.returns
+returns c =
+    let room : Room c.args.r (lending c.args.starts.now c.args.moved.now) = let h = lacks_not _ _ _ (sym c.lacks_room.ensures ∙ c.if-lacks_room.false) in
+    record { starts = h.0; moved = h.1 } in
+    let w = c.list_moves-count.ensures in
+    let s = c.settle-settled in
+    rw (c.success.ensures, w.number, w.list, c.write_starts.ensures, c.if-given-n.false)
+    (settled_given _ _ _ c.if-given-n.false room s.result s.ensures c.if-settled.false)
