@@ -1,15 +1,15 @@
 -- The round trips through the doors: a file's tables as bytes are written as that file again, and tables as bytes, once written, are told as the same bytes.
 use mathlib.Core.Path.{◌≡◌, refl, sym, ap, subst, ◌∙◌}
 use mathlib.Core.List.{List, ◌++◌}
-use Prim.Native.Nat.{ℕ, ◌≤◌}
-use native.Mathlib.Decide.{ℕ_discrete}
+use Prim.Native.Nat.{ℕ, zero, suc, ◌≤◌, ◌<◌}
 use native.Mathlib.Omega.{arith}
 use lib.ListN.{length, take, drop}
 use lib.Seq.{take_at}
 use Rattle.tables.specs.declared.Tables.{Tables}
 use Rattle.tables.specs.Layout.{counted, Bytes}
 use Rattle.planner.specs.declared.Answer.{Answer}
-use Rattle.planner.specs.Promises.{success, stops, passes, gives, Written, TablesGiven}
+use Rattle.planner.specs.declared.FileTables.{FileTables}
+use Rattle.planner.specs.Promises.{success, refusal, stops, passes, Unless, Gives, gives, Written, TablesGiven}
 use Rattle.planner.proofs.Refusing.{unless_enough}
 use Rattle.planner.proofs.Writing.{written_listed, listed_written, counted_written}
 use Rattle.calls.specs.Calls.{told}
@@ -41,19 +41,36 @@ bytes_written T few s room result e roomy a after w =
     subst (λ (x : List ℕ). WriteDoor x room result a.number after (told a result)) (sym e)
     (answered (are_tables T few, roomy) (subst (λ (U : Tables). Written U room a after) (sym (tables_back T few)) (counted_written T w)))
 
+-- What is not without being 0 is 0.
+settled : (n : ℕ) → ((n ≡ 0 → ⊥) → ⊥) → n ≡ 0
+settled zero h = refl
+settled (suc n) h = absurd (h (λ e. omega arith))
+
+-- The tables that are given of a file are written as it.
+given_written : (file lent : List ℕ) → Bytes file → (r : FileTables) → TablesGiven file r → r.answer.number ≡ 0 → (room result : List ℕ) → length file ≤ length room → Roomy result
+    → WriteDoor (take (length (table_bytes r.tables)) (table_bytes r.tables ++ drop (length (table_bytes r.tables)) lent)) room result 0 (file ++ drop (length file) room)
+    (told (success r.answer.horizon 0 (length file)) result)
+given_written file lent b r p q room result l roomy =
+    bytes_written r.tables (listed_few file r p q) _ room result (take_at (table_bytes r.tables) (drop (length (table_bytes r.tables)) lent) (length (table_bytes r.tables)) refl)
+    roomy (success r.answer.horizon 0 (length file)) (file ++ drop (length file) room) (listed_written file r room b p q l)
+
+told_of_written : (file lent : List ℕ) → Bytes file → (r : FileTables) → TablesGiven file r → {a : Answer} {after : List ℕ} → D.ToldOf r lent a after → a.number ≡ 0
+    → (room result : List ℕ) → length file ≤ length room → Roomy result
+    → WriteDoor (take a.count after) room result 0 (file ++ drop (length file) room) (told (success a.horizon 0 (length file)) result)
+told_of_written file lent b r p (stops h) z room result l roomy = absurd (h z)
+told_of_written file lent b r p (passes h t) z room result l roomy = fits_written t z room result l roomy
+  where
+    fits_written : {a : Answer} {after : List ℕ} → Unless (length lent < length (table_bytes r.tables)) (refusal 15) lent
+        (Gives (success r.answer.horizon 0 (length (table_bytes r.tables))) (table_bytes r.tables ++ drop (length (table_bytes r.tables)) lent)) a after → a.number ≡ 0
+        → (room result : List ℕ) → length file ≤ length room → Roomy result
+        → WriteDoor (take a.count after) room result 0 (file ++ drop (length file) room) (told (success a.horizon 0 (length file)) result)
+    fits_written (stops s) z room result l roomy = absurd (omega (arith, z))
+    fits_written (passes s gives) z room result l roomy = given_written file lent b r p (settled r.answer.number h) room result l roomy
+
 pub told_written : (file lent : List ℕ) → Bytes file → (a : Answer) (after : List ℕ) → TablesTold file lent a after → a.number ≡ 0
     → (room result : List ℕ) → length file ≤ length room → Roomy result
     → WriteDoor (take a.count after) room result 0 (file ++ drop (length file) room) (told (success a.horizon 0 (length file)) result)
-told_written file lent b a after (D.TablesTold.told p (stops h)) z room result l roomy = absurd (h z)
-told_written file lent b a after (D.TablesTold.told p (passes h (stops s))) z room result l roomy = absurd (omega arith)
-told_written file lent b a after (D.TablesTold.told {r = r} p (passes h (passes s gives))) z room result l roomy =
-    elim (ℕ_discrete r.answer.number 0) [
-      | yes q ↦
-          let bytes = table_bytes r.tables in
-          bytes_written r.tables (listed_few file r p q) (take (length bytes) (bytes ++ drop (length bytes) lent)) room result (take_at bytes (drop (length bytes) lent) (length bytes) refl)
-          roomy _ _ (listed_written file r room b p q l)
-      | no q ↦ absurd (h q)
-    ]
+told_written file lent b a after (D.TablesTold.told {r = r} p t) = told_of_written file lent b r p t
 
 -- ---- from tables
 

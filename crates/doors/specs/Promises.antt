@@ -1,6 +1,6 @@
 -- What the doors promise: for each its complete outcome, the number returned and every lent byte after it. What is answered stands in the promise of the
 -- operation; here is to what a door opens, and how its bytes cross. proofs/Only: each door has one outcome for every input.
-use Rattle.std.specs.Prelude.{◌≡◌, List, ◌++◌, ℕ, suc, ◌-◌, ◌*◌, ◌/◌, ◌≤◌, ◌<◌, ℤ, pos, negsuc, length, get_or, drop, replicate}
+use Rattle.std.specs.Prelude.{◌≡◌, List, ◌++◌, ℕ, suc, ◌-◌, ◌*◌, ◌/◌, ◌<◌, ℤ, pos, negsuc, length, get_or, drop, replicate}
 use Rattle.base.specs.Bytes.{byte_at, pair_at}
 use Rattle.schedule.specs.declared.Recorder.{Recorder}
 use Rattle.schedule.specs.Quantities.{jobs}

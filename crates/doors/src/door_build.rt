@@ -26,13 +26,7 @@ fn opens_to(given: &[u8], res: usize) -> bool
     pair_at(given, 3) == 0
 }
 
-pub fn door_build(
-    parts: &[u8],
-    wanted: &[u8],
-    given: &[u8],
-    out: &mut [u8],
-    res: &mut [u8],
-) -> u8
+pub fn door_build(parts: &[u8], wanted: &[u8], given: &[u8], out: &mut [u8], res: &mut [u8]) -> u8
     ensures { BuildDoor parts.now wanted.now given.now out.old res.old result out.new res.new }
 {
     if !opens_to(given, res.len()) {

@@ -27,13 +27,7 @@ fn mend_bytes(file: &[u8], given: &[u16], out: &mut [u8], moved: &mut [u8]) -> A
     answer
 }
 
-pub fn door_mend(
-    file: &[u8],
-    starts: &[u8],
-    out: &mut [u8],
-    moved: &mut [u8],
-    res: &mut [u8],
-) -> u8
+pub fn door_mend(file: &[u8], starts: &[u8], out: &mut [u8], moved: &mut [u8], res: &mut [u8]) -> u8
     ensures { MendDoor file.now starts.now (lending out.old moved.old) res.old result (lending out.new moved.new) res.new }
 {
     if !is_open(starts.len(), res.len()) {

@@ -2,6 +2,7 @@
 // start times, tables of another length or kind, or a result buffer under 11 bytes; else it tells every answer, a refusal too. include/floebucket.h declares
 // them; specs/Promises.antt says for each the complete outcome.
 #![tactic(auto)]
+
 pub mod door_build; // door_build.rt: a request from part numbers
 pub mod door_margins; // door_margins.rt: margins
 pub mod door_mend; // door_mend.rt: mending

@@ -1,0 +1,10 @@
+-- `doors::door_tables::door_tables` meets its contract.
+use native.Mathlib.Omega.{arith}
+use Rattle.doorway.specs.Doors.{shut, answered}
+use Rattle.doors.proofs.door_tables.door_tables.Goals as goal
+
+pub returns-then-res-lt-RESULT : goal.returns-then-res-lt-RESULT
+returns-then-res-lt-RESULT c = shut (λ o. omega (arith, o, c.if-res-lt-RESULT.true))
+
+pub returns : goal.returns
+returns c = let told = c.tell.ensures in rw (told.0, told.1) (answered c.if-res-lt-RESULT.false c.listing_bytes.ensures)
