@@ -1,10 +1,11 @@
 // The function by which a C program plans with a memory that it lends: `least_plan`, with bytes in and out as the functions of crate calls have them.
 // include/floebucket.h declares it; specs/LeastCall.antt says its outcome, which is complete but for what the memory holds where a plan was looked for, and for 20.
 #![tactic(auto)]
+
 ghost use Rattle.planner.specs.Promises.{OfFile, KeptUnless};
 ghost use Rattle.calls.specs.Calls.{StartsOf};
-ghost use Rattle.cheapest.specs.Promises.{LeastOf, Sought};
-ghost use Rattle.calls_least.specs.LeastCall.{LeastCalled};
+ghost use Rattle.cheapest.specs.Promises.{CountedLeastOf, Sought};
+ghost use Rattle.calls_least.specs.LeastCall.{LeastCalled, LeastInCalled};
 
 use calls::{RESULT, cramped, put_starts, tell};
 use cheapest::least_of;
@@ -13,7 +14,7 @@ use request::read;
 
 // The start times of a plan go to the first bytes; a refusal writes nothing.
 fn least_bytes(file: &[u8], budget: u32, memory: &mut [u64], bytes: &mut [u8]) -> Answer
-    ensures planned { OfFile file.now bytes.old (StartsOf (LeastOf budget) bytes.old) result bytes.new }
+    ensures planned { OfFile file.now bytes.old (StartsOf (CountedLeastOf budget) bytes.old) result bytes.new }
     ensures lent { KeptUnless (Sought result) memory.old memory.new }
 {
     let request = read(file);
@@ -40,7 +41,8 @@ pub fn floe_least(
     starts: &mut [u8],
     res: &mut [u8],
 ) -> u8
-    ensures { LeastCalled file.now budget memory.old starts.old res.old result memory.new starts.new res.new }
+    ensures called { LeastCalled file.now budget starts.old res.old result starts.new res.new }
+    ensures lent { LeastInCalled file.now budget memory.old starts.old res.old result memory.new starts.new res.new }
 {
     if res.len() < RESULT {
         return cramped(file);
