@@ -1,10 +1,11 @@
 // The functions for C. Each calls the function of that name in the library, and promises what that promises: a library's own functions are not seen from C.
 // Every buffer is a pointer and a length. include/floebucket.h declares them all.
 #![tactic(auto)]
+
 ghost use Rattle.calls.specs.Calls.{CheckCalled, RowsCalled, SearchCalled, SearchInCalled, SizesCalled};
 ghost use Rattle.calls_fault.specs.FaultCall.{DevicesFaultDoor, FaultCalled, FaultDoor, JobsFaultDoor, OrderFaultDoor};
 ghost use Rattle.calls_first.specs.FirstCall.{FirstCalled};
-ghost use Rattle.calls_least.specs.LeastCall.{LeastCalled};
+ghost use Rattle.calls_least.specs.LeastCall.{LeastCalled, LeastInCalled};
 ghost use Rattle.calls_step.specs.StepCall.{EndCalled, PassCalled, StartCalled};
 ghost use Rattle.doors.specs.Promises.{BuildDoor, ExportDevicesDoor, ExportJobsDoor, ExportPlanDoor, ImportDevicesDoor, ImportJobsDoor, MarginsDoor, MendDoor, PossibleDoor, StepDoor, TablesDoor, VerdictDoor, WriteDoor};
 ghost use Rattle.mend.specs.Promises.{lending};
@@ -44,7 +45,8 @@ pub extern "C" fn floe_search_in(
     starts: &mut [u8],
     res: &mut [u8],
 ) -> u8
-    ensures { SearchInCalled file.now budget memory.old starts.old res.old result memory.new starts.new res.new }
+    ensures called { SearchCalled file.now budget starts.old res.old result starts.new res.new }
+    ensures lent { SearchInCalled file.now budget memory.old starts.old res.old result memory.new starts.new res.new }
 {
     calls::floe_search_in(file, budget, memory, starts, res)
 }
@@ -78,7 +80,8 @@ pub extern "C" fn floe_least(
     starts: &mut [u8],
     res: &mut [u8],
 ) -> u8
-    ensures { LeastCalled file.now budget memory.old starts.old res.old result memory.new starts.new res.new }
+    ensures called { LeastCalled file.now budget starts.old res.old result starts.new res.new }
+    ensures lent { LeastInCalled file.now budget memory.old starts.old res.old result memory.new starts.new res.new }
 {
     calls_least::floe_least(file, budget, memory, starts, res)
 }
@@ -174,14 +177,14 @@ pub extern "C" fn door_build(
 ) -> u8
     ensures { BuildDoor parts.now wanted.now given.now out.old res.old result out.new res.new }
 {
-    doors::door_build(parts, wanted, given, out, res)
+    doors::door_build::door_build(parts, wanted, given, out, res)
 }
 
 #[unsafe(no_mangle)]
 pub extern "C" fn door_margins(file: &[u8], starts: &[u8], out: &mut [u8], res: &mut [u8]) -> u8
     ensures { MarginsDoor file.now starts.now out.old res.old result out.new res.new }
 {
-    doors::door_margins(file, starts, out, res)
+    doors::door_margins::door_margins(file, starts, out, res)
 }
 
 #[unsafe(no_mangle)]
@@ -194,75 +197,75 @@ pub extern "C" fn door_mend(
 ) -> u8
     ensures { MendDoor file.now starts.now (lending out.old moved.old) res.old result (lending out.new moved.new) res.new }
 {
-    doors::door_mend(file, starts, out, moved, res)
+    doors::door_mend::door_mend(file, starts, out, moved, res)
 }
 
 #[unsafe(no_mangle)]
 pub extern "C" fn door_possible(file: &[u8], budget: u32, starts: &mut [u8], res: &mut [u8]) -> u8
     ensures { PossibleDoor file.now budget starts.old res.old result starts.new res.new }
 {
-    doors::door_possible(file, budget, starts, res)
+    doors::door_possible::door_possible(file, budget, starts, res)
 }
 
 #[unsafe(no_mangle)]
 pub extern "C" fn door_import_devices(text: &[u8], out: &mut [u8], res: &mut [u8]) -> u8
     ensures { ImportDevicesDoor text.now out.old res.old result out.new res.new }
 {
-    doors::door_import_devices(text, out, res)
+    doors::door_sheets::door_import_devices(text, out, res)
 }
 
 #[unsafe(no_mangle)]
 pub extern "C" fn door_export_devices(catalogue: &[u8], out: &mut [u8], res: &mut [u8]) -> u8
     ensures { ExportDevicesDoor catalogue.now out.old res.old result out.new res.new }
 {
-    doors::door_export_devices(catalogue, out, res)
+    doors::door_sheets::door_export_devices(catalogue, out, res)
 }
 
 #[unsafe(no_mangle)]
 pub extern "C" fn door_import_jobs(text: &[u8], out: &mut [u8], res: &mut [u8]) -> u8
     ensures { ImportJobsDoor text.now out.old res.old result out.new res.new }
 {
-    doors::door_import_jobs(text, out, res)
+    doors::door_sheets::door_import_jobs(text, out, res)
 }
 
 #[unsafe(no_mangle)]
 pub extern "C" fn door_export_jobs(records: &[u8], out: &mut [u8], res: &mut [u8]) -> u8
     ensures { ExportJobsDoor records.now out.old res.old result out.new res.new }
 {
-    doors::door_export_jobs(records, out, res)
+    doors::door_sheets::door_export_jobs(records, out, res)
 }
 
 #[unsafe(no_mangle)]
 pub extern "C" fn door_export_plan(file: &[u8], starts: &[u8], out: &mut [u8], res: &mut [u8]) -> u8
     ensures { ExportPlanDoor file.now starts.now out.old res.old result out.new res.new }
 {
-    doors::door_export_plan(file, starts, out, res)
+    doors::door_sheets::door_export_plan(file, starts, out, res)
 }
 
 #[unsafe(no_mangle)]
 pub extern "C" fn door_step(file: &[u8], starts: &[u8], out: &mut [u8], res: &mut [u8]) -> u8
     ensures { StepDoor file.now starts.now out.old res.old result out.new res.new }
 {
-    doors::door_step(file, starts, out, res)
+    doors::door_step::door_step(file, starts, out, res)
 }
 
 #[unsafe(no_mangle)]
 pub extern "C" fn door_tables(file: &[u8], out: &mut [u8], res: &mut [u8]) -> u8
     ensures { TablesDoor file.now out.old res.old result out.new res.new }
 {
-    doors::door_tables(file, out, res)
+    doors::door_tables::door_tables(file, out, res)
 }
 
 #[unsafe(no_mangle)]
 pub extern "C" fn door_verdict(file: &[u8], starts: &[u8], res: &mut [u8]) -> u8
     ensures { VerdictDoor file.now starts.now res.old result res.new }
 {
-    doors::door_verdict(file, starts, res)
+    doors::door_verdict::door_verdict(file, starts, res)
 }
 
 #[unsafe(no_mangle)]
 pub extern "C" fn door_write(given: &[u8], out: &mut [u8], res: &mut [u8]) -> u8
     ensures { WriteDoor given.now out.old res.old result out.new res.new }
 {
-    doors::door_write(given, out, res)
+    doors::door_write::door_write(given, out, res)
 }
