@@ -49,8 +49,8 @@ start_some :
     (R : Recorder) (m : ℕ) (u : Vertex) (j goal x : ℕ) → In j u.unplaced → least_of R (suc m) u ≡ some goal
     → ((i y : ℕ) → i < j → In i u.unplaced → In y (starts R u.time i) → via_child R m u i y ≡ some goal → ⊥)
     → FirstStart R m u j goal x → (x ≡ 2147483647 → ⊥) → FirstChild R m u j x
-start_some R m u j goal x one g no_job_lem (first i q no_start) z = first_by_lem R m u goal g j x one i q no_job_lem no_start
-start_some R m u j goal x one g no_job_lem (nowhere p) z = absurd (z refl)
+start_some R m u j goal x one g no_job (first i q no_start) z = first_by_lem R m u goal g j x one i q no_job no_start
+start_some R m u j goal x one g no_job (nowhere p) z = absurd (z refl)
 
 module _ (R : Recorder) (valid : Valid R) (l : List ℕ) (a time goal budget start : ℕ) where
   module _ (j e : ℕ) (c : Sought R l a time goal start j e) where

@@ -5,6 +5,7 @@ use mathlib.Core.List.{List}
 use Prim.Native.Nat.{ℕ, ◌+◌, ◌*◌, ◌≤◌, ◌<◌}
 use native.Mathlib.Nat.{mul-le-mul}
 use native.Mathlib.Omega.{arith}
+use Rattle.base.specs.Sums.{sum}
 use Rattle.base.proofs.Additions.{sum_most}
 use Rattle.device.specs.Row.{energy_of}
 use Rattle.device.proofs.Least.{energy_most}
@@ -21,6 +22,10 @@ device_most_lem e h l few = omega arith
 -- A sum over k devices, and one device more: what a loop that adds over the devices keeps, and that its sum fits.
 pub devices_more : (made k e : ℕ) → made ≤ 268431360 * k → k < 8 → e ≤ 268431360 → (made + e ≤ 268431360 * (k + 1)) × (made + e ≤ 2147450880)
 devices_more made k e l few one = omega arith
+
+-- A sum over any number of them.
+pub devices_most : (n : ℕ) (f : ℕ → ℕ) → ((k : ℕ) → k < n → f k ≤ 268431360) → sum n f ≤ 268431360 * n
+devices_most = sum_most 268431360
 
 -- The energy of a plan, where each power fits its two bytes.
 pub plan_energy_most :

@@ -42,7 +42,7 @@ module _ (R : Recorder) where
     pub job : In j v.unplaced
     pub start : In x (starts R v.time j)
     pub hits : via_child m v j x ≡ least_of (suc m) v
-    pub no_job_lem : (i y : ℕ) → i < j → In i v.unplaced → In y (starts R v.time i) → via_child m v i y ≡ least_of (suc m) v → ⊥
+    pub no_job : (i y : ℕ) → i < j → In i v.unplaced → In y (starts R v.time i) → via_child m v i y ≡ least_of (suc m) v → ⊥
     pub no_start : (y : ℕ) → y < x → In y (starts R v.time j) → via_child m v j y ≡ least_of (suc m) v → ⊥
 
   -- From child to first child, down to a complete vertex.
