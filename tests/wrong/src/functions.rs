@@ -25,7 +25,7 @@ pub fn function_at(text: &str, wanted: usize) -> Option<String> {
 /// The name of the function that a line begins to declare.
 fn function_name(line: &str) -> Option<String> {
     let mut rest = line.trim_start();
-    for word in ["pub ", "const ", "unsafe ", "extern \"C\" "] {
+    for word in ["pub ", "pub(crate) ", "const ", "unsafe ", "extern \"C\" "] {
         rest = rest.strip_prefix(word).unwrap_or(rest);
     }
     let rest = rest.strip_prefix("fn ")?;
@@ -86,6 +86,10 @@ mod inner {
         1
     }
 }
+
+pub(crate) fn shown() {
+    2
+}
 ";
 
     #[test]
@@ -98,6 +102,7 @@ mod inner {
             assert_eq!(of(line).as_deref(), Some("long"), "{line}");
         }
         assert_eq!(of(22).as_deref(), Some("inside"));
+        assert_eq!(of(27).as_deref(), Some("shown"));
         for line in [1, 2, 3, 4, 10, 11, 19, 20, 24, 25, 99] {
             assert_eq!(of(line), None, "{line}");
         }
