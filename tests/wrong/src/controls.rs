@@ -1,4 +1,5 @@
-//! The controls: right programs of another shape, which the prover must accept with the proofs as they stand.
+//! The controls: right programs of another shape, which the prover must accept with the proofs as they stand, but for names of goals and steps that follow the
+//! text of the code: those a control spells anew.
 
 use crate::edits::Edit;
 use crate::holding::{failed, passed, Verdict};
