@@ -78,7 +78,12 @@ fn is_misfit(text: &str) -> bool {
         "has no `",
         "`rw`: no ",
     ];
-    WORDS.iter().any(|words| text.contains(words)) || takes_arguments(text)
+    // As they begin, where the line is cut off before its words.
+    const FRONTS: [&str; 2] = ["`: record `", "`: `goal."];
+    let has = |words: &&str| text.contains(words);
+    WORDS.iter().any(|words| has(words))
+        || FRONTS.iter().any(|front| has(front))
+        || takes_arguments(text)
 }
 
 /// Whether it is said how many arguments something takes.
@@ -253,6 +258,8 @@ mod tests {
             "refused, as it must be (only because a proof file names what the edit took away, so this says little): ./proofs/a/Answers.antt:1:1: error: `x`",
             "refused, as it must be: ./proofs/a/Answers.antt:1:1: error: `x` does not fit: `rw`: no place",
             "refused, as it must be: ./proofs/a/Answers.antt:1:1: error: `x`: it takes 2 arguments",
+            "refused, as it must be: ./proofs/a/Answers.antt:1:1: error: `x`: `goal.x`: module",
+            "refused, as it must be: ./proofs/a/Answers.antt:1:1: error: `x`: record `Rattle.a.proofs.x.Lts.In-After-refu",
         ];
         for said in misfits {
             let log = format!("rt: must-fail a/b.edit: {said}\n");
