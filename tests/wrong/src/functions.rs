@@ -1,7 +1,10 @@
 //! Which function a line of a file of Rattle belongs to, by the layout that `rt fmt` keeps.
 
-/// The function of which a line (from 1 on) is part: its header, its contract or its body.
+/// The function of which a line (from 1 on) is part: its attributes, its header, its contract or its body.
 pub fn function_at(text: &str, wanted: usize) -> Option<String> {
+    let rest = text.lines().skip(wanted.saturating_sub(1));
+    let attributes = rest.take_while(|line| line.trim_start().starts_with("#["));
+    let wanted = wanted + attributes.count();
     let mut open: Option<(String, &str)> = None;
     for (number, line) in (1..).zip(text.lines()) {
         let indent = &line[..line.len() - line.trim_start().len()];
@@ -98,12 +101,12 @@ pub(crate) fn shown() {
         for line in [5, 6, 8, 9] {
             assert_eq!(of(line).as_deref(), Some("plain"), "{line}");
         }
-        for line in 12..=18 {
+        for line in 11..=18 {
             assert_eq!(of(line).as_deref(), Some("long"), "{line}");
         }
         assert_eq!(of(22).as_deref(), Some("inside"));
         assert_eq!(of(27).as_deref(), Some("shown"));
-        for line in [1, 2, 3, 4, 10, 11, 19, 20, 24, 25, 99] {
+        for line in [1, 2, 3, 4, 10, 19, 20, 24, 25, 99] {
             assert_eq!(of(line), None, "{line}");
         }
     }
