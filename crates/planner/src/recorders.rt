@@ -64,8 +64,8 @@ pub fn rows_of(r: Recorder, starts: &[u16], out: &mut [u8]) -> Answer
     if out.len() < r.devices.count * h {
         return refusal(15);
     }
-    if let Err(fault) = judge(r, starts) {
-        return refusal_at(fault.reason.number(), fault.job);
+    if let Err(misplaced) = judge(r, starts) {
+        return refusal_at(misplaced.reason.number(), misplaced.job);
     }
     let total = write_rows(r, starts, out);
     success(r.horizon, total, 0)

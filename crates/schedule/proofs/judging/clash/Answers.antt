@@ -1,5 +1,5 @@
 -- `schedule::judging::clash` meets its contract.
-use Rattle.std.proofs.Common.{rules, arith}
+use Rattle.std.proofs.Common.{arith}
 use Rattle.schedule.specs.inside.Judging.{clashes}
 use Rattle.schedule.proofs.judging.clash.Goals as goal
 use Rattle.schedule.proofs.judging.clash.Goals.{then-i-j, else-i-j}

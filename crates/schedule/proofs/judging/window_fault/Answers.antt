@@ -1,6 +1,5 @@
 -- `schedule::judging::window_fault` meets its contract.
-use Rattle.std.proofs.Common.{rules, arith}
-use Rattle.base.proofs.Paths.{paths}
+use Rattle.std.proofs.Common.{arith}
 use Rattle.schedule.specs.inside.Judging.{window_fault}
 use Rattle.schedule.proofs.judging.window_fault.Goals as goal
 

@@ -9,7 +9,7 @@ use Rattle.stepper.proofs.fitness.unfit.Goals.{then-is_marked-via-then-is_marked
 pub returns-then-is_marked : goal.returns-then-is_marked
 returns-then-is_marked c =
     elim c.then-is_marked.branch [
-      then-is_marked-via-then-is_marked w ↦ F.Fitness.unfit (mark_unfit _ _ (sym c.is_marked.ensures ∙ w.if-is_marked.true))
+      | then-is_marked-via-then-is_marked w ↦ F.Fitness.unfit (mark_unfit _ _ (sym c.is_marked.ensures ∙ w.if-is_marked.true))
       | then-is_marked-via-else-is_marked+then-has_unlike w ↦ F.Fitness.unfit (unlike_unfit _ _ (decided w.has_unlike.ensures w.if-has_unlike.true))
     ]
 
