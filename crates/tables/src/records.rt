@@ -166,12 +166,10 @@ pub fn devices_at(s: &[u8], kind: Kind, n: usize, from: usize) -> DeviceTable
     ensures { result ≡ devices_held (λ k. device_at kind s.now (after (device_size kind s.now) k from)) n }
 {
     let mut list = [blank_device(); 8];
-    let mut at: usize = from;
-    let mut k: usize = 0;
-    while k < n {
+    let mut at = from;
+    for k in 0..n {
         list[k] = device_at(s, kind, at);
         at += device_size(s, kind, at);
-        k += 1;
     }
     DeviceTable { count: n, list }
 }
@@ -182,10 +180,8 @@ pub fn tasks_at(s: &[u8], n: usize, from: usize) -> TaskTable
     ensures { result ≡ tasks_held (λ i. task_at s.now (from + i * 5)) n }
 {
     let mut list = [blank_task(); 8];
-    let mut i: usize = 0;
-    while i < n {
+    for i in 0..n {
         list[i] = task_at(s, from + i * 5);
-        i += 1;
     }
     TaskTable { count: n, list }
 }
@@ -195,10 +191,8 @@ pub fn jobs_at(s: &[u8], n: usize, from: usize) -> JobTable
     ensures { result ≡ jobs_held (λ j. job_at s.now (from + j * 7)) n }
 {
     let mut list = [blank_job(); 16];
-    let mut j: usize = 0;
-    while j < n {
+    for j in 0..n {
         list[j] = job_at(s, from + j * 7);
-        j += 1;
     }
     JobTable { count: n, list }
 }

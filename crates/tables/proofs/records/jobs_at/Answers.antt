@@ -1,4 +1,3 @@
-use mathlib.Core.Path.{◌≡◌}
 use Prim.Native.Nat.{ℕ, ◌+◌, ◌*◌}
 use native.Mathlib.Omega.{arith}
 use Rattle.base.specs.Lists.{up_to, padded}
@@ -8,16 +7,10 @@ use Rattle.tables.proofs.records.jobs_at.Goals as goal
 
 pub loop-j-init : goal.loop-j-init
 unfolding up_to padded
-loop-j-init c = (omega arith, rw c.blank_job-list.ensures)
+loop-j-init c = rw c.blank_job-list.ensures
 
 pub loop-j-preserved : goal.loop-j-preserved
 loop-j-preserved c =
     let l = c.loop-j in
     let a = c.args in
-    (omega arith, rw (c.job_at.ensures, l.invariant.1) (up_to_fill 16 blank_job (λ (x : ℕ). job_at a.s.now (a.from + x * 7)) l.j (omega arith)))
-
-pub returns : goal.returns
-returns c =
-    let l = c.loop-j in
-    let all : l.j ≡ c.args.n = omega arith in
-    rw (l.invariant.1, all)
+    rw (c.job_at.ensures, l.invariant) (up_to_fill 16 blank_job (λ (x : ℕ). job_at a.s.now (a.from + x * 7)) l.j (omega arith))

@@ -1,4 +1,3 @@
-use mathlib.Core.Path.{◌≡◌}
 use Prim.Native.Nat.{ℕ, ◌+◌, ◌*◌}
 use native.Mathlib.Omega.{arith}
 use Rattle.base.specs.Lists.{up_to, padded}
@@ -8,16 +7,10 @@ use Rattle.tables.proofs.records.tasks_at.Goals as goal
 
 pub loop-i-init : goal.loop-i-init
 unfolding up_to padded
-loop-i-init c = (omega arith, rw c.blank_task-list.ensures)
+loop-i-init c = rw c.blank_task-list.ensures
 
 pub loop-i-preserved : goal.loop-i-preserved
 loop-i-preserved c =
     let l = c.loop-i in
     let a = c.args in
-    (omega arith, rw (c.task_at.ensures, l.invariant.1) (up_to_fill 8 blank_task (λ (x : ℕ). task_at a.s.now (a.from + x * 5)) l.i (omega arith)))
-
-pub returns : goal.returns
-returns c =
-    let l = c.loop-i in
-    let all : l.i ≡ c.args.n = omega arith in
-    rw (l.invariant.1, all)
+    rw (c.task_at.ensures, l.invariant) (up_to_fill 8 blank_task (λ (x : ℕ). task_at a.s.now (a.from + x * 5)) l.i (omega arith))
