@@ -42,14 +42,8 @@ fn push_marker(f: File, kind: Kind) -> File
 {
     match kind {
         Kind::First => f,
-        Kind::Second => {
-            let a = push(f, 255);
-            push(a, 2)
-        }
-        Kind::Third => {
-            let a = push(f, 255);
-            push(a, 3)
-        }
+        Kind::Second => push(push(f, 255), 2),
+        Kind::Third => push(push(f, 255), 3),
     }
 }
 

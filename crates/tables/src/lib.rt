@@ -58,22 +58,16 @@ pub struct JobRecord {
 
 // A table is the first `count` records of its list. The count may be larger than the list: then there are too many.
 #[derive(Clone, Copy)]
-pub struct DeviceTable {
+pub struct Table<T, const N: usize> {
     pub count: usize,
-    pub list: [DeviceRecord; 8],
+    pub list: [T; N],
 }
 
-#[derive(Clone, Copy)]
-pub struct TaskTable {
-    pub count: usize,
-    pub list: [TaskRecord; 8],
-}
+pub type DeviceTable = Table<DeviceRecord, 8>;
 
-#[derive(Clone, Copy)]
-pub struct JobTable {
-    pub count: usize,
-    pub list: [JobRecord; 16],
-}
+pub type TaskTable = Table<TaskRecord, 8>;
+
+pub type JobTable = Table<JobRecord, 16>;
 
 // The horizon field is 0 where there are tasks.
 #[derive(Clone, Copy)]

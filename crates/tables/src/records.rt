@@ -8,7 +8,7 @@ ghost use Rattle.tables.specs.Layout.{kind_of, body_of, devices_held, tasks_held
 ghost use Rattle.tables.specs.inside.Held.{Whole};
 
 use crate::kinds::{device_place, device_size, kind_of, marker_size};
-use crate::{DeviceRecord, DeviceTable, JobRecord, JobTable, Kind, Tables, TaskRecord, TaskTable};
+use crate::{DeviceRecord, DeviceTable, JobRecord, JobTable, Kind, Table, Tables, TaskRecord, TaskTable};
 
 // Both moves take the same time at the same power.
 pub fn leveled(
@@ -171,7 +171,7 @@ pub fn devices_at(s: &[u8], kind: Kind, n: usize, from: usize) -> DeviceTable
         list[k] = device_at(s, kind, at);
         at += device_size(s, kind, at);
     }
-    DeviceTable { count: n, list }
+    Table { count: n, list }
 }
 
 // The n records of a table, from a place on.
@@ -183,7 +183,7 @@ pub fn tasks_at(s: &[u8], n: usize, from: usize) -> TaskTable
     for i in 0..n {
         list[i] = task_at(s, from + i * 5);
     }
-    TaskTable { count: n, list }
+    Table { count: n, list }
 }
 
 pub fn jobs_at(s: &[u8], n: usize, from: usize) -> JobTable
@@ -194,7 +194,7 @@ pub fn jobs_at(s: &[u8], n: usize, from: usize) -> JobTable
     for j in 0..n {
         list[j] = job_at(s, from + j * 7);
     }
-    JobTable { count: n, list }
+    Table { count: n, list }
 }
 
 // The tables that follow the mark of a file of a kind, where they are all there.
@@ -233,23 +233,20 @@ pub fn tables_in(s: &[u8]) -> Tables
 pub fn no_tables() -> Tables
     ensures { result ≡ no_tables }
 {
-    let devices = DeviceTable {
-        count: 0,
-        list: [blank_device(); 8],
-    };
-    let tasks = TaskTable {
-        count: 0,
-        list: [blank_task(); 8],
-    };
-    let jobs = JobTable {
-        count: 0,
-        list: [blank_job(); 16],
-    };
     Tables {
         kind: Kind::First,
         horizon: 0,
-        devices,
-        tasks,
-        jobs,
+        devices: Table {
+            count: 0,
+            list: [blank_device(); 8],
+        },
+        tasks: Table {
+            count: 0,
+            list: [blank_task(); 8],
+        },
+        jobs: Table {
+            count: 0,
+            list: [blank_job(); 16],
+        },
     }
 }
