@@ -1,10 +1,10 @@
 // The tables of a file, record by record.
-ghost use Rattle.std.specs.Prelude.{◌≡◌, ℕ, ◌+◌, ◌*◌, ◌≤◌, ◌<◌, min, length};
+ghost use Rattle.std.specs.Prelude.{◌≡◌, ℕ, List, ◌+◌, ◌*◌, ◌≤◌, ◌<◌, min, length};
 ghost use Rattle.base.specs.Bytes.{byte_at, pair_at};
 ghost use Rattle.base.specs.Refusals.{after};
 ghost use Rattle.tables.specs.Records as Records;
 ghost use Rattle.tables.specs.Records.{first_at, second_at, third_at, power_of, device_at, device_size, task_at, job_at, blank_device, blank_task, blank_job};
-ghost use Rattle.tables.specs.Layout.{kind_of, body_of, devices_held, tasks_held, jobs_held, tables_as, tables_of, no_tables};
+ghost use Rattle.tables.specs.Layout.{kind_of, body_of, devices_held, tasks_held, jobs_held, table_held, tables_as, tables_of, no_tables};
 ghost use Rattle.tables.specs.inside.Held.{Whole};
 
 use crate::kinds::{device_place, device_size, kind_of, marker_size};
@@ -174,27 +174,78 @@ pub fn devices_at(s: &[u8], kind: Kind, n: usize, from: usize) -> DeviceTable
     Table { count: n, list }
 }
 
+// A record that has as many bytes wherever it stands.
+trait Record: Copy + Drop {
+    ghost blank: { Self };
+    ghost SIZE: { ℕ };
+    ghost read_at: { List ℕ → ℕ → Self };
+
+    const SIZE: usize;
+
+    fn blank() -> Self
+        ensures { result ≡ blank };
+
+    fn read(s: &[u8], at: usize) -> Self
+        requires { at + SIZE ≤ length s.now }
+        ensures { result ≡ read_at s.now at };
+}
+
+impl Record for TaskRecord {
+    ghost blank = { blank_task };
+    ghost SIZE = { 5 };
+    ghost read_at = { task_at };
+
+    const SIZE: usize = 5;
+
+    fn blank() -> TaskRecord {
+        blank_task()
+    }
+
+    fn read(s: &[u8], at: usize) -> TaskRecord {
+        task_at(s, at)
+    }
+}
+
+impl Record for JobRecord {
+    ghost blank = { blank_job };
+    ghost SIZE = { 7 };
+    ghost read_at = { job_at };
+
+    const SIZE: usize = 7;
+
+    fn blank() -> JobRecord {
+        blank_job()
+    }
+
+    fn read(s: &[u8], at: usize) -> JobRecord {
+        job_at(s, at)
+    }
+}
+
 // The n records of a table, from a place on.
+fn table_at<T: Record, const N: usize>(s: &[u8], n: usize, from: usize) -> Table<T, N>
+    requires { (n ≤ N) × (from + n * T.SIZE ≤ length s.now) }
+    ensures { result ≡ table_held N T.blank (λ i. T.read_at s.now (from + i * T.SIZE)) n }
+{
+    let mut list = [T::blank(); N];
+    for i in 0..n {
+        list[i] = T::read(s, from + i * T::SIZE);
+    }
+    Table { count: n, list }
+}
+
 pub fn tasks_at(s: &[u8], n: usize, from: usize) -> TaskTable
     requires { (n ≤ 8) × (from + n * 5 ≤ length s.now) }
     ensures { result ≡ tasks_held (λ i. task_at s.now (from + i * 5)) n }
 {
-    let mut list = [blank_task(); 8];
-    for i in 0..n {
-        list[i] = task_at(s, from + i * 5);
-    }
-    Table { count: n, list }
+    table_at(s, n, from)
 }
 
 pub fn jobs_at(s: &[u8], n: usize, from: usize) -> JobTable
     requires { (n ≤ 16) × (from + n * 7 ≤ length s.now) }
     ensures { result ≡ jobs_held (λ j. job_at s.now (from + j * 7)) n }
 {
-    let mut list = [blank_job(); 16];
-    for j in 0..n {
-        list[j] = job_at(s, from + j * 7);
-    }
-    Table { count: n, list }
+    table_at(s, n, from)
 }
 
 // The tables that follow the mark of a file of a kind, where they are all there.
