@@ -5,7 +5,7 @@ ghost use Rattle.tables.specs.Records.{first_bytes, second_bytes, power_bytes, p
 ghost use Rattle.tables.specs.Layout.{marker, count_in, record_in, joined, section_of, bytes_of};
 ghost use Rattle.tables.specs.inside.Held.{limited, held, appended};
 
-use crate::records::{blank_device, blank_job, blank_task};
+use crate::records::{Record, blank_device};
 use crate::{DeviceRecord, File, JobRecord, Kind, TableName, Tables, TaskRecord};
 
 pub fn empty() -> File
@@ -142,8 +142,8 @@ fn push_record(f: File, t: Tables, part: TableName, k: usize) -> File
 {
     match part {
         TableName::Devices => push_device(f, t.kind, record_of(&t.devices.list, k, blank_device())),
-        TableName::Tasks => push_task(f, record_of(&t.tasks.list, k, blank_task())),
-        TableName::Jobs => push_job(f, record_of(&t.jobs.list, k, blank_job())),
+        TableName::Tasks => push_task(f, record_of(&t.tasks.list, k, TaskRecord::blank())),
+        TableName::Jobs => push_job(f, record_of(&t.jobs.list, k, JobRecord::blank())),
     }
 }
 

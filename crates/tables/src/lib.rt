@@ -40,7 +40,7 @@ pub struct DeviceRecord {
 }
 
 // A task as the file gives it: period, running time, and its device set, a bit for each device.
-#[derive(Clone, Copy)]
+#[derive(Clone, Copy, Default)]
 pub struct TaskRecord {
     pub period: u16,
     pub run: u16,
@@ -48,7 +48,7 @@ pub struct TaskRecord {
 }
 
 // A job as the file gives it: release, deadline, running time and device set.
-#[derive(Clone, Copy)]
+#[derive(Clone, Copy, Default)]
 pub struct JobRecord {
     pub release: u16,
     pub deadline: u16,

@@ -8,7 +8,9 @@ ghost use Rattle.tables.specs.Layout.{kind_of, body_of, devices_held, tasks_held
 ghost use Rattle.tables.specs.inside.Held.{Whole};
 
 use crate::kinds::{device_place, device_size, kind_of, marker_size};
-use crate::{DeviceRecord, DeviceTable, JobRecord, JobTable, Kind, Table, Tables, TaskRecord, TaskTable};
+use crate::{
+    DeviceRecord, DeviceTable, JobRecord, JobTable, Kind, Table, Tables, TaskRecord, TaskTable,
+};
 
 // Both moves take the same time at the same power.
 pub fn leveled(
@@ -139,27 +141,6 @@ pub fn blank_device() -> DeviceRecord
     averaged(0, 0, 0, 0)
 }
 
-pub(crate) fn blank_task() -> TaskRecord
-    ensures { result ≡ blank_task }
-{
-    TaskRecord {
-        period: 0,
-        run: 0,
-        set: 0,
-    }
-}
-
-pub(crate) fn blank_job() -> JobRecord
-    ensures { result ≡ blank_job }
-{
-    JobRecord {
-        release: 0,
-        deadline: 0,
-        run: 0,
-        set: 0,
-    }
-}
-
 // The n devices from a place on: each record stands after the one before it.
 pub fn devices_at(s: &[u8], kind: Kind, n: usize, from: usize) -> DeviceTable
     requires { (n ≤ 8) × (after (device_size kind s.now) n from ≤ length s.now) }
@@ -175,9 +156,11 @@ pub fn devices_at(s: &[u8], kind: Kind, n: usize, from: usize) -> DeviceTable
 }
 
 // A record that has as many bytes wherever it stands.
-trait Record: Copy + Drop {
+pub(crate) trait Record: Copy + Drop {
     ghost blank: { Self };
+
     ghost SIZE: { ℕ };
+
     ghost read_at: { List ℕ → ℕ → Self };
 
     const SIZE: usize;
@@ -192,13 +175,15 @@ trait Record: Copy + Drop {
 
 impl Record for TaskRecord {
     ghost blank = { blank_task };
+
     ghost SIZE = { 5 };
+
     ghost read_at = { task_at };
 
     const SIZE: usize = 5;
 
     fn blank() -> TaskRecord {
-        blank_task()
+        TaskRecord::default()
     }
 
     fn read(s: &[u8], at: usize) -> TaskRecord {
@@ -208,13 +193,15 @@ impl Record for TaskRecord {
 
 impl Record for JobRecord {
     ghost blank = { blank_job };
+
     ghost SIZE = { 7 };
+
     ghost read_at = { job_at };
 
     const SIZE: usize = 7;
 
     fn blank() -> JobRecord {
-        blank_job()
+        JobRecord::default()
     }
 
     fn read(s: &[u8], at: usize) -> JobRecord {
@@ -293,11 +280,11 @@ pub fn no_tables() -> Tables
         },
         tasks: Table {
             count: 0,
-            list: [blank_task(); 8],
+            list: [TaskRecord::blank(); 8],
         },
         jobs: Table {
             count: 0,
-            list: [blank_job(); 16],
+            list: [JobRecord::blank(); 16],
         },
     }
 }

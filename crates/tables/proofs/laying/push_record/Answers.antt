@@ -14,7 +14,7 @@ pub returns-in-Devices : goal.returns-in-Devices
 returns-in-Devices c = rw c.in-Devices.is (rw (c.record_of.ensures, c.blank_device.ensures) at c.push_device.ensures)
 
 pub returns-in-Tasks : goal.returns-in-Tasks
-returns-in-Tasks c = rw c.in-Tasks.is (rw (c.record_of-in-Tasks.ensures, c.blank_task.ensures) at c.push_task.ensures)
+returns-in-Tasks c = rw c.in-Tasks.is (rw (c.record_of-in-Tasks.ensures, c.blank.ensures) at c.push_task.ensures)
 
 pub returns-in-Jobs : goal.returns-in-Jobs
-returns-in-Jobs c = rw c.in-Jobs.is (rw (c.record_of-in-Jobs.ensures, c.blank_job.ensures) at c.push_job.ensures)
+returns-in-Jobs c = rw c.in-Jobs.is (rw (c.record_of-in-Jobs.ensures, c.blank-in-Jobs.ensures) at c.push_job.ensures)
