@@ -13,12 +13,12 @@ pub use crate::records::{
     tables_in, task_at, tasks_at,
 };
 
-// The kind of a file: what its first bytes say of the device records in it (rules 75 and 80).
+// The kind of a file: what its first bytes say of the device records in it (rules 75 and 80). Tables as bytes begin with its number.
 #[derive(Clone, Copy)]
 pub enum Kind {
-    First,
-    Second,
-    Third,
+    First = 1,
+    Second = 2,
+    Third = 3,
 }
 
 // A device as a file gives it: the times of waking and of shutting down, the powers working and asleep, and those of the two moves; how many sleep levels there
