@@ -1,20 +1,23 @@
 -- A device and its record as bytes: a device that nothing refuses is sound, and the bytes of a record come back.
 use mathlib.Core.Path.{◌≡◌, refl}
 use mathlib.Core.Bool.{Bool, true, false, cond, not}
-use mathlib.Core.List.{List, [], ◌∷◌, ◌++◌}
+use mathlib.Core.List.{List}
 use Prim.Native.Nat.{ℕ, zero, suc, ◌+◌, ◌*◌, ◌/◌, ◌%◌, ◌≤◌, ◌<◌}
 use native.Mathlib.Omega.{arith}
 use native.Mathlib.Nat.{pos_of_ne-zero}
 use lib.Dec.{eqb, ltb, leb}
-use lib.ListN.{length, set}
+use lib.ListN.{length}
 use borrow.Author.Tests.{eqb-true, eqb-false, leb-false}
-use Rattle.base.specs.Bytes.{byte_at, pair_at, pair_bytes}
+use Rattle.base.specs.Bytes.{byte_at, pair_at}
+use Rattle.base.proofs.Numbered.{some_number}
 use Rattle.device.specs.Row.{Sound, power_at}
 use Rattle.steps.specs.declared.State.{State}
 use Rattle.steps.specs.declared.State.TheVariants.{Working, Asleep, Down, Up}
 use Rattle.steps.specs.declared.Stepped.{Stepped}
 use Rattle.tables.specs.Layout.{Bytes}
-use Rattle.calls_step.specs.StepCall.{device_in, state_bytes, record_in, record_bytes, powers_fault, fault_of}
+use Rattle.calls_step.specs.StepCall.{device_in, record_in, record_bytes, powers_fault, fault_of, code_of}
+use Rattle.calls_step.specs.declared.records.NoStep.{NoStep}
+use Rattle.calls_step.specs.declared.records.NoStep.TheVariants.{Neither, Refused}
 
 -- ---- what is not refused
 
@@ -70,29 +73,12 @@ fit_sound device bytes f =
     falls zero l = omega (arith, f.dearer, f.cheaper)
     falls (suc k) l = absurd (omega arith)
 
+-- Each error has a number.
+pub some_code : (e : NoStep) → 0 < code_of e
+some_code Neither = omega arith
+some_code (Refused r) = some_number r
+
 -- ---- the bytes of a record
-
--- Six bytes, each stored at its place.
-pub stored : (l : List ℕ) (a b c d e f : ℕ) → length l ≡ 6 → set (set (set (set (set (set l 0 a) 1 b) 2 c) 3 d) 4 e) 5 f ≡ a ∷ b ∷ c ∷ d ∷ e ∷ f ∷ []
-stored [] a b c d e f h = absurd (omega arith)
-stored (p ∷ []) a b c d e f h = absurd (omega arith)
-stored (p ∷ q ∷ []) a b c d e f h = absurd (omega arith)
-stored (p ∷ q ∷ r ∷ []) a b c d e f h = absurd (omega arith)
-stored (p ∷ q ∷ r ∷ s ∷ []) a b c d e f h = absurd (omega arith)
-stored (p ∷ q ∷ r ∷ s ∷ t ∷ []) a b c d e f h = absurd (omega arith)
-stored (p ∷ q ∷ r ∷ s ∷ t ∷ u ∷ []) a b c d e f h = refl
-stored (p ∷ q ∷ r ∷ s ∷ t ∷ u ∷ v ∷ l) a b c d e f h = absurd (omega arith)
-
-pub record_bytes_lem : (x : Stepped) → record_bytes x
-    ≡ byte_at (state_bytes x.state) 0 ∷ byte_at (state_bytes x.state) 1 ∷ x.energy / 65536 / 256 ∷ x.energy / 65536 % 256 ∷ x.energy % 65536 / 256 ∷ x.energy % 65536 % 256 ∷ []
-record_bytes_lem x = go x.state
-  where
-    go : (st : State) → state_bytes st ++ (pair_bytes (x.energy / 65536) ++ pair_bytes (x.energy % 65536))
-        ≡ byte_at (state_bytes st) 0 ∷ byte_at (state_bytes st) 1 ∷ x.energy / 65536 / 256 ∷ x.energy / 65536 % 256 ∷ x.energy % 65536 / 256 ∷ x.energy % 65536 % 256 ∷ []
-    go Working = refl
-    go Asleep = refl
-    go (Down n) = refl
-    go (Up n) = refl
 
 four : (e : ℕ) → (e / 65536 / 256 * 256 + e / 65536 % 256) * 65536 + (e % 65536 / 256 * 256 + e % 65536 % 256) ≡ e
 four e = omega arith

@@ -1,14 +1,17 @@
 -- What a C program gets that steps a device by itself (rules 131 to 134): for a start, a completion and ticks that pass one relation between the bytes of a device, those
 -- of its record, and the complete outcome. What a step does stands in steps/specs/Stepping. proofs/Only: there is one outcome for every input.
-use Rattle.std.specs.Prelude.{◌≡◌, Bool, cond, not, List, [], ◌∷◌, ◌++◌, ℕ, ◌+◌, ◌*◌, ◌/◌, ◌%◌, ◌≤◌, ◌<◌, eqb, ltb, leb, length}
+use Rattle.std.specs.Prelude.{◌≡◌, Bool, cond, not, List, [], ◌∷◌, ◌++◌, ℕ, ◌+◌, ◌*◌, ◌/◌, ◌%◌, ◌≤◌, ◌<◌, Result, Ok, Err, eqb, ltb, leb, length}
 use Rattle.base.specs.Bytes.{byte_at, pair_at, pair_bytes}
 use Rattle.base.specs.Refusals.{◌⇒◌, first_that}
+use Rattle.base.specs.Reasons.{number_of}
 use Rattle.device.specs.declared.Device.{Device}
 use Rattle.tables.specs.Records.{first_at}
 use Rattle.request.specs.Format.{device_of}
 use Rattle.steps.specs.declared.State.{State}
 use Rattle.steps.specs.declared.State.TheVariants.{Working, Asleep, Down, Up}
 use Rattle.steps.specs.declared.Stepped.{Stepped}
+use Rattle.calls_step.specs.declared.records.NoStep.{NoStep}
+use Rattle.calls_step.specs.declared.records.NoStep.TheVariants.{Neither, Refused}
 use Rattle.steps.specs.Stepping.{at_start, at_end, pass_over, ruled_to}
 
 -- ---- the bytes
@@ -46,6 +49,15 @@ fault_of device bytes =
     (cond (ltb 3 (byte_at bytes 0)) 255
     (cond (eqb (byte_at device 0) 0) 4
     (powers_fault device))))
+
+-- What the code has for it.
+abbrev pub code_of : NoStep → ℕ
+code_of Neither = 255
+code_of (Refused r) = number_of r
+
+abbrev pub code_in : Result (Unit {0}) NoStep → ℕ
+code_in (Ok u) = 0
+code_in (Err e) = code_of e
 
 -- Refused, which leaves the record as it was; or 15, where what is spent no longer fits its four bytes; or the bytes of the record after the step.
 pub data StepCalled (device bytes : List ℕ) (step : Device → Stepped → Stepped) : ℕ → List ℕ → Type 0 where

@@ -1,9 +1,10 @@
 // A device and its record as bytes.
 ghost use Rattle.std.specs.Prelude.{◌≡◌, length};
-ghost use Rattle.base.specs.Bytes.{byte_at};
-ghost use Rattle.calls_step.specs.StepCall.{device_in, state_named, state_bytes, record_in, record_bytes, powers_fault, fault_of, is_set};
+ghost use Rattle.base.specs.Reasons.{number_in};
+ghost use Rattle.calls_step.specs.StepCall.{device_in, state_named, state_bytes, record_in, record_bytes, powers_fault, code_of, code_in, fault_of};
+ghost use Rattle.calls_step.specs.declared.records.NoStep.TheVariants.{Refused};
 
-use base::pair_at;
+use base::{Reason, pair_at};
 use device::Device;
 use request::device_of;
 use steps::{State, Stepped};
@@ -14,47 +15,57 @@ const DEVICE: usize = 7;
 
 const RECORD: usize = 6;
 
-// What is returned for bytes that are no device or no record, as a door that is shut does.
-const NEITHER: u8 = 255;
+// Why nothing is stepped: the bytes are no device or no record, or the device or its energy is refused.
+#[derive(Clone, Copy)]
+pub enum NoStep {
+    Neither,
+    Refused(Reason),
+}
 
-pub fn is_set(byte: u8) -> bool
-    ensures { result ≡ is_set byte }
-{
-    0 < byte
+impl From<Reason> for NoStep {
+    ghost from_gives = { λ r e. e ≡ Refused r };
+
+    fn from(reason: Reason) -> NoStep {
+        NoStep::Refused(reason)
+    }
+}
+
+impl NoStep {
+    // 255 is what a door that is shut gives too.
+    pub fn code(self) -> u8
+        ensures { result ≡ code_of self }
+    {
+        match self {
+            NoStep::Neither => 255,
+            NoStep::Refused(reason) => reason.number(),
+        }
+    }
 }
 
 // What refuses the powers of a device: Ps < P0 < Pw does not hold.
-fn powers_fault(device: &[u8]) -> u8
+fn powers_fault(device: &[u8]) -> Result<(), Reason>
     requires { length device.now ≡ 7 }
-    ensures { result ≡ powers_fault device.now }
+    ensures { number_in result ≡ powers_fault device.now }
 {
     let moving = pair_at(device, 5);
-    if moving <= pair_at(device, 3) {
-        return 25;
+    if moving <= pair_at(device, 3) || pair_at(device, 1) <= moving {
+        return Err(Reason::UnlikePowers);
     }
-    if pair_at(device, 1) <= moving {
-        return 25;
-    }
-    0
+    Ok(())
 }
 
-// What refuses the bytes of a device and of its record; 0 where nothing does.
-pub fn fault_of(device: &[u8], bytes: &[u8]) -> u8
-    ensures { result ≡ fault_of device.now bytes.now }
+// What refuses the bytes of a device and of its record.
+pub fn fault_of(device: &[u8], bytes: &[u8]) -> Result<(), NoStep>
+    ensures { code_in result ≡ fault_of device.now bytes.now }
 {
-    if device.len() != DEVICE {
-        return NEITHER;
-    }
-    if bytes.len() != RECORD {
-        return NEITHER;
-    }
-    if 3 < bytes[0] {
-        return NEITHER;
+    if device.len() != DEVICE || bytes.len() != RECORD || 3 < bytes[0] {
+        return Err(NoStep::Neither);
     }
     if device[0] == 0 {
-        return 4;
+        return Err(NoStep::Refused(Reason::NoMoveTime));
     }
-    powers_fault(device)
+    powers_fault(device)?;
+    Ok(())
 }
 
 pub fn device_in(device: &[u8]) -> Device
@@ -67,16 +78,11 @@ pub fn device_in(device: &[u8]) -> Device
 fn state_named(byte: u8, left: u8) -> State
     ensures { result ≡ state_named byte left }
 {
-    if byte == 0 {
-        return State::Working;
-    }
-    if byte == 1 {
-        return State::Asleep;
-    }
-    if byte == 2 {
-        State::Down(left)
-    } else {
-        State::Up(left)
+    match byte {
+        0 => State::Working,
+        1 => State::Asleep,
+        2 => State::Down(left),
+        _ => State::Up(left),
     }
 }
 
@@ -90,25 +96,14 @@ pub fn record_in(bytes: &[u8]) -> Stepped
 }
 
 // What a device does, and the ticks left of a move.
-fn byte_of(st: State) -> u8
-    ensures { result ≡ byte_at (state_bytes st) 0 }
+fn state_bytes(st: State) -> [u8; 2]
+    ensures { result ≡ state_bytes st }
 {
     match st {
-        State::Working => 0,
-        State::Asleep => 1,
-        State::Down(left) => 2,
-        State::Up(left) => 3,
-    }
-}
-
-fn left_of(st: State) -> u8
-    ensures { result ≡ byte_at (state_bytes st) 1 }
-{
-    match st {
-        State::Working => 0,
-        State::Asleep => 0,
-        State::Down(left) => left,
-        State::Up(left) => left,
+        State::Working => [0, 0],
+        State::Asleep => [1, 0],
+        State::Down(left) => [2, left],
+        State::Up(left) => [3, left],
     }
 }
 
@@ -116,13 +111,7 @@ pub fn put_record(x: Stepped, bytes: &mut [u8])
     requires { length bytes.old ≡ 6 }
     ensures { bytes.new ≡ record_bytes x }
 {
-    let st = x.state;
-    let high = x.energy / 65536;
-    let low = x.energy % 65536;
-    bytes[0] = byte_of(st);
-    bytes[1] = left_of(st);
-    bytes[2] = (high / 256) as u8;
-    bytes[3] = (high % 256) as u8;
-    bytes[4] = (low / 256) as u8;
-    bytes[5] = (low % 256) as u8;
+    let [does, left] = state_bytes(x.state);
+    let [a, b, c, d] = x.energy.to_be_bytes();
+    bytes.copy_from_slice(&[does, left, a, b, c, d]);
 }

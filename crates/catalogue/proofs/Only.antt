@@ -9,7 +9,8 @@ use native.Mathlib.Omega.{arith}
 use lib.ListN.{length}
 use borrow.Author.Tests.{ltb-true}
 use Rattle.tables.specs.declared.Kind.TheVariants.{First}
-use Rattle.tables.specs.declared.DeviceTable.{DeviceTable}
+use Rattle.tables.specs.declared.Table.{Table}
+use Rattle.tables.specs.declared.DeviceRecord.{DeviceRecord}
 use Rattle.planner.specs.declared.Answer.{Answer}
 use Rattle.planner.specs.Promises.{refusal, Written}
 use Rattle.planner.proofs.Only.{only_written}
@@ -54,12 +55,12 @@ module _ (ps : List Part) (ws : List (List ℕ)) (o : Others) (lent : List ℕ) 
   fault_built (F.OrderFaultOf.none u r l) n = absurd (n refl)
 
   -- Where 21, 22 and 23 pass, the device table d is that of the first part that has each number.
-  pub passed_built : (d : DeviceTable) {a : Answer} {after : List ℕ} → unfit ps ≡ false → repeated (numbers ps) ≡ false → lacking ps ws ≡ false
+  pub passed_built : (d : Table DeviceRecord 8) {a : Answer} {after : List ℕ} → unfit ps ≡ false → repeated (numbers ps) ≡ false → lacking ps ws ≡ false
       → d ≡ devices_of (map (record_of ps) ws) → Written (record { kind = First; horizon = o.horizon; devices = d; tasks = o.tasks; jobs = o.jobs }) lent a after
       → BuiltOf ps ws o lent a after
   passed_built d {a} {after} u r k e w =
       B.BuiltOf.built u r (looked_up ps ws k)
-      (subst (λ (x : DeviceTable). Written (record { kind = First; horizon = o.horizon; devices = x; tasks = o.tasks; jobs = o.jobs }) lent a after) e w)
+      (subst (λ (x : Table DeviceRecord 8). Written (record { kind = First; horizon = o.horizon; devices = x; tasks = o.tasks; jobs = o.jobs }) lent a after) e w)
 
 module _ (ps : List Part) (ws : List (List ℕ)) where
   pub fault_passed : {f : PartFault} → OrderFaultOf ps ws f → f.number ≡ 0 → (unfit ps ≡ false) × (repeated (numbers ps) ≡ false) × (lacking ps ws ≡ false)

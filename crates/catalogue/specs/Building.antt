@@ -4,9 +4,10 @@ use Rattle.std.specs.Prelude.{◌≡◌, true, false, List, map, ℕ, length, ta
 use Rattle.base.specs.Lists.{padded}
 use Rattle.base.specs.Bytes.{pieces}
 use Rattle.tables.specs.declared.Kind.TheVariants.{First}
-use Rattle.tables.specs.declared.DeviceTable.{DeviceTable}
-use Rattle.tables.specs.declared.TaskTable.{TaskTable}
-use Rattle.tables.specs.declared.JobTable.{JobTable}
+use Rattle.tables.specs.declared.Table.{Table}
+use Rattle.tables.specs.declared.DeviceRecord.{DeviceRecord}
+use Rattle.tables.specs.declared.TaskRecord.{TaskRecord}
+use Rattle.tables.specs.declared.JobRecord.{JobRecord}
 use Rattle.tables.specs.declared.Tables.{Tables}
 use Rattle.tables.specs.Records.{first_at, blank_device}
 use Rattle.planner.specs.declared.Answer.{Answer}
@@ -14,16 +15,16 @@ use Rattle.planner.specs.Promises.{refusal, Written}
 use Rattle.catalogue.specs.Parts.{Part, parts_of, numbers, unfit, repeated, lacking, LookedUp}
 
 -- The device table of records, seven bytes each. Its list holds eight; its count is that of all.
-abbrev pub devices_of : List (List ℕ) → DeviceTable
+abbrev pub devices_of : List (List ℕ) → Table DeviceRecord 8
 devices_of ds = record { count = length ds; list = padded 8 blank_device (take 8 (map (λ (d : List ℕ). first_at d 0) ds)) }
 
 -- The other sections: the horizon field, the tasks and the jobs.
 pub record Others : Type 0 where
   pub horizon : ℕ
-  pub tasks : TaskTable
-  pub jobs : JobTable
+  pub tasks : Table TaskRecord 8
+  pub jobs : Table JobRecord 16
 
-abbrev pub others : ℕ → TaskTable → JobTable → Others
+abbrev pub others : ℕ → Table TaskRecord 8 → Table JobRecord 16 → Others
 others h ts js = record { horizon = h; tasks = ts; jobs = js }
 
 -- The tables of the first kind that these records make with them.

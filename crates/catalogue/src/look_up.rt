@@ -9,7 +9,7 @@ ghost use Rattle.catalogue.specs.Faults.{First, unfit_at, repeated_at, lacking_a
 
 use crate::numbers::{is_formed, is_same};
 use base::fewer;
-use tables::{DeviceRecord, DeviceTable, blank_device, first_at};
+use tables::{DeviceRecord, DeviceTable, Table, blank_device, first_at};
 
 // The first part from a place on that has this number; the number of parts where there is none.
 fn find(catalogue: &[u8], from: usize, number: &[u8]) -> usize
@@ -113,7 +113,7 @@ pub(crate) fn devices_of(catalogue: &[u8], wanted: &[u8]) -> DeviceTable
     requires { (unfit (parts_of catalogue.now) ≡ false) × (lacking (parts_of catalogue.now) (pieces 8 wanted.now) ≡ false) }
     ensures { result ≡ devices_of (map (record_of (parts_of catalogue.now)) (pieces 8 wanted.now)) }
 {
-    let mut devices = DeviceTable {
+    let mut devices = Table {
         count: 0,
         list: [blank_device(); 8],
     };

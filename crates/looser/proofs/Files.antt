@@ -13,7 +13,8 @@ use Rattle.schedule.specs.declared.Job.{Job}
 use Rattle.schedule.specs.declared.Recorder.{Recorder}
 use Rattle.schedule.specs.Quantities.{no_device, device, no_job, job, jobs}
 use Rattle.tables.specs.declared.Kind.{Kind}
-use Rattle.tables.specs.declared.DeviceTable.{DeviceTable}
+use Rattle.tables.specs.declared.Table.{Table}
+use Rattle.tables.specs.declared.DeviceRecord.{DeviceRecord}
 use Rattle.tables.specs.Records.{blank_device, blank_job}
 use Rattle.tables.specs.Layout.{kind_of, body_of, task_count, jobs_place, device_in, job_in, tables_as, tables_of}
 use Rattle.request.specs.Format.{device_of, listed_job, horizon_of, devices_in, jobs_of, vacant_device, vacant_job, recorder_as, read_of}
@@ -79,11 +80,11 @@ module _ (k k' : Kind) (s s' : List ℕ) (h : Looser (tables_as k s) (tables_as 
       record {
         same_horizon = omega (arith, horizon_told k s list, h.same_horizon, horizon_told k' s' list');
         same_round = round_told k s list ∙ sym (round_told k' s' list');
-        as_many_devices = devices_told k s ∙ ap (λ (t : DeviceTable). t.count) h.same_devices ∙ sym (devices_told k' s');
+        as_many_devices = devices_told k s ∙ ap (λ (t : Table DeviceRecord 8). t.count) h.same_devices ∙ sym (devices_told k' s');
         same_device = λ i l.
             let m : i < (tables_as k s).devices.count = omega (arith, devices_told k s) in
-            let m' : i < (tables_as k' s').devices.count = omega (arith, ap (λ (t : DeviceTable). t.count) h.same_devices) in
-            device_told k s i m ∙ ap (λ (t : DeviceTable). device_of (get_or t.list i blank_device)) h.same_devices ∙ sym (device_told k' s' i m');
+            let m' : i < (tables_as k' s').devices.count = omega (arith, ap (λ (t : Table DeviceRecord 8). t.count) h.same_devices) in
+            device_told k s i m ∙ ap (λ (t : Table DeviceRecord 8). device_of (get_or t.list i blank_device)) h.same_devices ∙ sym (device_told k' s' i m');
         as_many_jobs = jobs_told k s list ∙ h.as_many_jobs ∙ sym (jobs_told k' s' list');
         same_run = λ j l. let p = pair j l in omega (arith, p.0.same_run, ap (λ (x : Job). x.run) p.1, ap (λ (x : Job). x.run) p.2);
         same_uses = λ j i l. let p = pair j l in rw (p.1, p.2, p.0.same_set);

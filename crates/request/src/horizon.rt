@@ -4,24 +4,19 @@ ghost use Rattle.request.specs.Format.{lcm_from, horizon_of};
 ghost use Rattle.request.specs.inside.Held.{SoundTasks};
 
 use super::euclid;
-use base::smaller;
 
 // The least common multiple of the periods of the tasks whose records begin at a place.
 fn task_horizon(s: &[u8], tasks: usize, from: usize) -> u32
     requires { SoundTasks s.now tasks from }
     ensures { result ≡ min (lcm_from s.now tasks from 1) 4097 }
 {
-    let mut h: u32 = 1;
-    let mut left = tasks;
-    let mut at = from;
-    while 0 < left {
-        let period = base::pair_at(s, at);
-        h = euclid::lcm(h, period as u32);
+    let mut h = 1;
+    for i in 0..tasks {
+        let period = base::pair_at(s, from + i * 5);
+        h = euclid::lcm(h, u32::from(period));
         if 4096 < h {
             return 4097;
         }
-        left -= 1;
-        at += 5;
     }
     h
 }
@@ -32,8 +27,7 @@ pub fn horizon_of(s: &[u8], tasks: usize, from: usize) -> u32
     ensures { result ≡ min (horizon_of s.now tasks from) 4097 }
 {
     if tasks == 0 {
-        let given = base::pair_at(s, 0);
-        smaller(given as u32, 4097)
+        u32::from(base::pair_at(s, 0)).min(4097)
     } else {
         task_horizon(s, tasks, from)
     }

@@ -42,11 +42,10 @@ fn push(js: Jobs, j: Job) -> Jobs
     ensures { result ≡ pushed js j }
 {
     if js.count < 16 {
-        return place(js, JobNumber(js.count), j);
+        place(js, JobNumber(js.count), j)
+    } else {
+        Jobs { count: 17, ..js }
     }
-    let mut out = js;
-    out.count = 17;
-    out
 }
 
 // The job that a task releases at t: due one period later.
@@ -81,10 +80,8 @@ fn tick(s: &[u8], tasks: usize, from: usize, t: u32, before: Jobs) -> Jobs
     ensures { result ≡ packed (unfolded s.now tasks from (t + 1)) }
 {
     let mut js = before;
-    let mut i: usize = 0;
-    while i < tasks {
+    for i in 0..tasks {
         js = release(s, from, TaskNumber(i), t, js);
-        i += 1;
     }
     js
 }
@@ -95,10 +92,8 @@ pub(crate) fn unfold(s: &[u8], tasks: usize, from: usize, h: u32) -> Jobs
     ensures { result ≡ packed (unfolded s.now tasks from h) }
 {
     let mut js = no_jobs();
-    let mut t: u32 = 0;
-    while t < h {
+    for t in 0..h {
         js = tick(s, tasks, from, t, js);
-        t += 1;
     }
     js
 }
@@ -109,10 +104,8 @@ fn listed_jobs(s: &[u8], count: usize, from: usize) -> Jobs
     ensures { result ≡ packed (listed s.now count from) }
 {
     let mut js = no_jobs();
-    let mut j: usize = 0;
-    while j < count {
+    for j in 0..count {
         js = push(js, records::listed_job(s, from, JobNumber(j)));
-        j += 1;
     }
     js
 }
@@ -123,8 +116,8 @@ pub(crate) fn jobs_of(s: &[u8], tasks: usize, from: usize, at: usize, h: u32) ->
     ensures { result ≡ packed (jobs_of s.now tasks from at) }
 {
     if tasks == 0 {
-        let count = s[at] as usize;
-        return listed_jobs(s, count, at + 1);
+        listed_jobs(s, s[at] as usize, at + 1)
+    } else {
+        unfold(s, tasks, from, h)
     }
-    unfold(s, tasks, from, h)
 }

@@ -34,12 +34,10 @@ fn devices_of(s: &[u8], kind: Kind, n: usize) -> Devices
     ensures { result ≡ devices_held (up_to (λ k. device_of (device_at kind s.now (device_place kind s.now k))) n) }
 {
     let mut devices = no_devices();
-    let mut at: usize = 3;
-    let mut k: usize = 0;
-    while k < n {
+    let mut at = 3;
+    for k in 0..n {
         devices.list[k] = records::device_of(tables::device_at(s, kind, at));
         at += tables::device_size(s, kind, at);
-        k += 1;
     }
     devices.count = n;
     devices

@@ -8,17 +8,13 @@ use device::Device;
 use schedule::Job;
 use tables::{DeviceRecord, TaskRecord};
 
-// For each device whether a set names it. Device 0 has the lowest bit, so the bits come off by halving.
+// For each device whether a set names it. Device 0 has the lowest bit.
 pub(crate) fn set_of(set: u8) -> [bool; 8]
     ensures { result ≡ set_of set }
 {
     let mut uses = [false; 8];
-    let mut rest = set;
-    let mut k: usize = 0;
-    while k < 8 {
-        uses[k] = rest % 2 == 1;
-        rest = rest / 2;
-        k += 1;
+    for (k, used) in uses.iter_mut().enumerate() {
+        *used = (set >> k) % 2 == 1;
     }
     uses
 }
@@ -43,8 +39,7 @@ pub(crate) fn task_of(s: &[u8], from: usize, task: TaskNumber) -> TaskRecord
     requires { from + task.0 * 5 + 4 < length s.now }
     ensures { result ≡ task_at s.now (from + task.0 * 5) }
 {
-    let i = task.0;
-    tables::task_at(s, from + i * 5)
+    tables::task_at(s, from + task.0 * 5)
 }
 
 // The job of a number, of those whose records begin at a place.
@@ -52,8 +47,7 @@ pub(crate) fn listed_job(s: &[u8], from: usize, job: JobNumber) -> Job
     requires { from + job.0 * 7 + 6 < length s.now }
     ensures { result ≡ listed_job (job_at s.now (from + job.0 * 7)) }
 {
-    let i = job.0;
-    let j = tables::job_at(s, from + i * 7);
+    let j = tables::job_at(s, from + job.0 * 7);
     Job {
         release: j.release,
         deadline: j.deadline,

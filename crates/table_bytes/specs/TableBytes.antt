@@ -5,9 +5,10 @@ use Rattle.base.specs.Bytes.{byte_at, pair_at, pair_bytes}
 use Rattle.base.specs.Refusals.{after}
 use Rattle.tables.specs.declared.Kind.{Kind}
 use Rattle.tables.specs.declared.Kind.TheVariants.{First, Second, Third}
-use Rattle.tables.specs.declared.DeviceTable.{DeviceTable}
-use Rattle.tables.specs.declared.TaskTable.{TaskTable}
-use Rattle.tables.specs.declared.JobTable.{JobTable}
+use Rattle.tables.specs.declared.Table.{Table}
+use Rattle.tables.specs.declared.DeviceRecord.{DeviceRecord}
+use Rattle.tables.specs.declared.TaskRecord.{TaskRecord}
+use Rattle.tables.specs.declared.JobRecord.{JobRecord}
 use Rattle.tables.specs.declared.Tables.{Tables}
 use Rattle.tables.specs.declared.TableName.TheVariants.{Devices, Tasks, Jobs}
 use Rattle.tables.specs.Records.{device_at, device_size, task_at, job_at}
@@ -31,13 +32,13 @@ pub record AreTables (s : List ℕ) : Type 0 where
   pub ends : jobs_from s + min (pair_at s 7) 16 * 7 ≡ length s
 
 -- The tables: each count as it stands, and the records that are there.
-abbrev pub devices_in : Kind → List ℕ → DeviceTable
+abbrev pub devices_in : Kind → List ℕ → Table DeviceRecord 8
 devices_in k s = record { count = pair_at s 3; list = (devices_held (λ i. device_at k s (after (device_size k s) i 9)) (min (pair_at s 3) 8)).list }
 
-abbrev pub tasks_in : List ℕ → ℕ → TaskTable
+abbrev pub tasks_in : List ℕ → ℕ → Table TaskRecord 8
 tasks_in s from = record { count = pair_at s 5; list = (tasks_held (λ i. task_at s (from + i * 5)) (min (pair_at s 5) 8)).list }
 
-abbrev pub jobs_in : List ℕ → ℕ → JobTable
+abbrev pub jobs_in : List ℕ → ℕ → Table JobRecord 16
 jobs_in s from = record { count = pair_at s 7; list = (jobs_held (λ j. job_at s (from + j * 7)) (min (pair_at s 7) 16)).list }
 
 abbrev pub tables_from : List ℕ → Tables

@@ -8,10 +8,10 @@ ghost use Rattle.tables.specs.Records.{device_size};
 ghost use Rattle.tables.specs.inside.Held.{held};
 ghost use Rattle.table_bytes.specs.TableBytes.{kind_named, tasks_from, jobs_from, AreTables, devices_in, tasks_in, jobs_in, tables_from, kind_byte, head_of, table_bytes, Few};
 
-use base::{fewer, pair_at};
+use base::pair_at;
 use tables::{
-    DeviceTable, File, JobTable, Kind, TableName, Tables, TaskTable, device_size, devices_at,
-    empty, jobs_at, push, push_pair, push_records, tasks_at,
+    DeviceTable, File, JobTable, Kind, Table, TableName, Tables, TaskTable, device_size,
+    devices_at, empty, jobs_at, push, push_pair, push_records, tasks_at,
 };
 
 const HEAD: usize = 9;
@@ -28,10 +28,11 @@ fn count_at(s: &[u8], at: usize) -> usize
 fn kind_named(byte: u8) -> Kind
     ensures { result ≡ kind_named byte }
 {
-    if byte == 3 {
-        return Kind::Third;
+    match byte {
+        3 => Kind::Third,
+        2 => Kind::Second,
+        _ => Kind::First,
     }
-    if byte == 2 { Kind::Second } else { Kind::First }
 }
 
 // Where the records of n devices end, whether they are all there or not.
@@ -39,11 +40,9 @@ fn devices_end(s: &[u8], kind: Kind, n: usize) -> usize
     requires { n ≤ 8 }
     ensures { (result ≡ after (device_size kind s.now) n 9) × (result ≤ 121) }
 {
-    let mut at: usize = HEAD;
-    let mut k: usize = 0;
-    while k < n {
+    let mut at = HEAD;
+    for _k in 0..n {
         at += device_size(s, kind, at);
-        k += 1;
     }
     at
 }
@@ -52,30 +51,21 @@ fn tasks_from(s: &[u8]) -> usize
     requires { 9 ≤ length s.now }
     ensures { (result ≡ tasks_from s.now) × (result ≤ 121) }
 {
-    devices_end(s, kind_named(s[0]), fewer(count_at(s, 3), 8))
+    devices_end(s, kind_named(s[0]), count_at(s, 3).min(8))
 }
 
 fn jobs_from(s: &[u8]) -> usize
     requires { 9 ≤ length s.now }
     ensures { (result ≡ jobs_from s.now) × (result ≤ 161) }
 {
-    tasks_from(s) + fewer(count_at(s, 5), 8) * 5
+    tasks_from(s) + count_at(s, 5).min(8) * 5
 }
 
 // Whether these are tables: of some kind, and as long as their counts say.
 pub fn is_tables(s: &[u8]) -> bool
     ensures { (result ≡ true → AreTables s.now) × (result ≡ false → AreTables s.now → ⊥) }
 {
-    if s.len() < HEAD {
-        return false;
-    }
-    if s[0] < 1 {
-        return false;
-    }
-    if 3 < s[0] {
-        return false;
-    }
-    jobs_from(s) + fewer(count_at(s, 7), 16) * 7 == s.len()
+    HEAD <= s.len() && matches!(s[0], 1..=3) && jobs_from(s) + count_at(s, 7).min(16) * 7 == s.len()
 }
 
 // The count as it stands, and the records that are there.
@@ -84,9 +74,8 @@ fn devices_in(s: &[u8], kind: Kind) -> DeviceTable
     ensures { result ≡ devices_in kind s.now }
 {
     let count = count_at(s, 3);
-    let held = devices_at(s, kind, fewer(count, 8), HEAD);
-    let list = held.list;
-    DeviceTable { count, list }
+    let held = devices_at(s, kind, count.min(8), HEAD);
+    Table { count, ..held }
 }
 
 fn tasks_in(s: &[u8], from: usize) -> TaskTable
@@ -94,9 +83,8 @@ fn tasks_in(s: &[u8], from: usize) -> TaskTable
     ensures { result ≡ tasks_in s.now from }
 {
     let count = count_at(s, 5);
-    let held = tasks_at(s, fewer(count, 8), from);
-    let list = held.list;
-    TaskTable { count, list }
+    let held = tasks_at(s, count.min(8), from);
+    Table { count, ..held }
 }
 
 fn jobs_in(s: &[u8], from: usize) -> JobTable
@@ -104,9 +92,8 @@ fn jobs_in(s: &[u8], from: usize) -> JobTable
     ensures { result ≡ jobs_in s.now from }
 {
     let count = count_at(s, 7);
-    let held = jobs_at(s, fewer(count, 16), from);
-    let list = held.list;
-    JobTable { count, list }
+    let held = jobs_at(s, count.min(16), from);
+    Table { count, ..held }
 }
 
 pub fn tables_from(s: &[u8]) -> Tables
@@ -131,11 +118,7 @@ pub fn tables_from(s: &[u8]) -> Tables
 fn kind_byte(kind: Kind) -> u8
     ensures { result ≡ kind_byte kind }
 {
-    match kind {
-        Kind::First => 1,
-        Kind::Second => 2,
-        Kind::Third => 3,
-    }
+    kind as u8
 }
 
 // The bytes before the records.

@@ -7,11 +7,9 @@ use Rattle.base.specs.Refusals.{after}
 use Rattle.tables.specs.declared.Kind.{Kind}
 use Rattle.tables.specs.declared.Kind.TheVariants.{First, Second, Third}
 use Rattle.tables.specs.declared.DeviceRecord.{DeviceRecord}
-use Rattle.tables.specs.declared.DeviceTable.{DeviceTable}
+use Rattle.tables.specs.declared.Table.{Table}
 use Rattle.tables.specs.declared.TaskRecord.{TaskRecord}
-use Rattle.tables.specs.declared.TaskTable.{TaskTable}
 use Rattle.tables.specs.declared.JobRecord.{JobRecord}
-use Rattle.tables.specs.declared.JobTable.{JobTable}
 use Rattle.tables.specs.declared.Tables.{Tables}
 use Rattle.tables.specs.declared.TableName.{TableName}
 use Rattle.tables.specs.declared.TableName.TheVariants.{Devices, Tasks, Jobs}
@@ -90,14 +88,17 @@ abbrev pub jobs_place : Kind → List ℕ → ℕ
 jobs_place k s = tasks_place k s + 1 + task_count k s * 5
 
 -- The first n records of a table, and blank ones after them.
-abbrev pub devices_held : (ℕ → DeviceRecord) → ℕ → DeviceTable
-devices_held f n = record { count = n; list = padded 8 blank_device (up_to f n) }
+abbrev pub table_held : {A : Type 0} (size : ℕ) (blank : A) → (ℕ → A) → ℕ → Table A size
+table_held size blank f n = record { count = n; list = padded size blank (up_to f n) }
 
-abbrev pub tasks_held : (ℕ → TaskRecord) → ℕ → TaskTable
-tasks_held f n = record { count = n; list = padded 8 blank_task (up_to f n) }
+abbrev pub devices_held : (ℕ → DeviceRecord) → ℕ → Table DeviceRecord 8
+devices_held = table_held 8 blank_device
 
-abbrev pub jobs_held : (ℕ → JobRecord) → ℕ → JobTable
-jobs_held f n = record { count = n; list = padded 16 blank_job (up_to f n) }
+abbrev pub tasks_held : (ℕ → TaskRecord) → ℕ → Table TaskRecord 8
+tasks_held = table_held 8 blank_task
+
+abbrev pub jobs_held : (ℕ → JobRecord) → ℕ → Table JobRecord 16
+jobs_held = table_held 16 blank_job
 
 unfoldable pub tables_as : Kind → List ℕ → Tables
 tables_as k s =

@@ -10,19 +10,11 @@ use crate::Kind;
 pub fn kind_of(s: &[u8]) -> Kind
     ensures { result ≡ kind_of s.now }
 {
-    if s.len() < 2 {
-        return Kind::First;
+    match s {
+        [255, 2, ..] => Kind::Second,
+        [255, 3, ..] => Kind::Third,
+        _ => Kind::First,
     }
-    if s[0] != 255 {
-        return Kind::First;
-    }
-    if s[1] == 2 {
-        return Kind::Second;
-    }
-    if s[1] == 3 {
-        return Kind::Third;
-    }
-    Kind::First
 }
 
 // How many bytes stand before the horizon field.
@@ -31,8 +23,7 @@ pub fn marker_size(kind: Kind) -> usize
 {
     match kind {
         Kind::First => 0,
-        Kind::Second => 2,
-        Kind::Third => 2,
+        Kind::Second | Kind::Third => 2,
     }
 }
 
@@ -40,14 +31,10 @@ pub fn marker_size(kind: Kind) -> usize
 fn third_size(s: &[u8], at: usize) -> usize
     ensures { result ≡ device_size Third s.now at }
 {
-    if s.len() <= at {
+    if s.len().saturating_sub(at) < 6 {
         return 6;
     }
-    if s.len() - at < 6 {
-        return 6;
-    }
-    let levels = s[at + 5] as usize;
-    if levels < 4 { 6 + 2 * levels } else { 14 }
+    6 + 2 * usize::from(s[at + 5]).min(4)
 }
 
 // How many bytes the device record at a place has.
@@ -66,11 +53,9 @@ pub fn device_place(s: &[u8], kind: Kind, n: usize) -> usize
     requires { device_place kind s.now n ≤ length s.now }
     ensures { result ≡ device_place kind s.now n }
 {
-    let mut at: usize = 3;
-    let mut k: usize = 0;
-    while k < n {
+    let mut at = 3;
+    for _k in 0..n {
         at += device_size(s, kind, at);
-        k += 1;
     }
     at
 }

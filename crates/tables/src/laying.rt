@@ -5,12 +5,8 @@ ghost use Rattle.tables.specs.Records.{first_bytes, second_bytes, power_bytes, p
 ghost use Rattle.tables.specs.Layout.{marker, count_in, record_in, joined, section_of, bytes_of};
 ghost use Rattle.tables.specs.inside.Held.{limited, held, appended};
 
-use crate::records::{blank_device, blank_job, blank_task};
-use crate::{
-    DeviceRecord, DeviceTable, File, JobRecord, JobTable, Kind, TableName, Tables, TaskRecord,
-    TaskTable,
-};
-use base::fewer;
+use crate::records::{Record, blank_device};
+use crate::{DeviceRecord, File, JobRecord, Kind, TableName, Tables, TaskRecord};
 
 pub fn empty() -> File
     ensures { result ≡ held [] }
@@ -46,14 +42,8 @@ fn push_marker(f: File, kind: Kind) -> File
 {
     match kind {
         Kind::First => f,
-        Kind::Second => {
-            let a = push(f, 255);
-            push(a, 2)
-        }
-        Kind::Third => {
-            let a = push(f, 255);
-            push(a, 3)
-        }
+        Kind::Second => push(push(f, 255), 2),
+        Kind::Third => push(push(f, 255), 3),
     }
 }
 
@@ -140,22 +130,10 @@ fn push_job(f: File, j: JobRecord) -> File
 }
 
 // The record of a number. One past the end of the list is blank.
-fn device_of(t: DeviceTable, k: usize) -> DeviceRecord
-    ensures { result ≡ get_or t.list k blank_device }
+fn record_of<T: Copy>(list: &[T], k: usize, blank: T) -> T
+    ensures { result ≡ get_or list.now k blank }
 {
-    if k < 8 { t.list[k] } else { blank_device() }
-}
-
-fn task_of(t: TaskTable, i: usize) -> TaskRecord
-    ensures { result ≡ get_or t.list i blank_task }
-{
-    if i < 8 { t.list[i] } else { blank_task() }
-}
-
-fn job_of(t: JobTable, j: usize) -> JobRecord
-    ensures { result ≡ get_or t.list j blank_job }
-{
-    if j < 16 { t.list[j] } else { blank_job() }
+    list.get(k).copied().unwrap_or(blank)
 }
 
 fn push_record(f: File, t: Tables, part: TableName, k: usize) -> File
@@ -163,19 +141,9 @@ fn push_record(f: File, t: Tables, part: TableName, k: usize) -> File
     ensures { result ≡ appended f (record_in t part k) }
 {
     match part {
-        TableName::Devices => {
-            let kind = t.kind;
-            let devices = t.devices;
-            push_device(f, kind, device_of(devices, k))
-        }
-        TableName::Tasks => {
-            let tasks = t.tasks;
-            push_task(f, task_of(tasks, k))
-        }
-        TableName::Jobs => {
-            let jobs = t.jobs;
-            push_job(f, job_of(jobs, k))
-        }
+        TableName::Devices => push_device(f, t.kind, record_of(&t.devices.list, k, blank_device())),
+        TableName::Tasks => push_task(f, record_of(&t.tasks.list, k, TaskRecord::blank())),
+        TableName::Jobs => push_job(f, record_of(&t.jobs.list, k, JobRecord::blank())),
     }
 }
 
@@ -184,9 +152,9 @@ fn count_of(t: Tables, part: TableName) -> usize
     ensures { result ≡ count_in (limited t) part }
 {
     match part {
-        TableName::Devices => fewer(t.devices.count, 9),
-        TableName::Tasks => fewer(t.tasks.count, 9),
-        TableName::Jobs => fewer(t.jobs.count, 17),
+        TableName::Devices => t.devices.count.min(9),
+        TableName::Tasks => t.tasks.count.min(9),
+        TableName::Jobs => t.jobs.count.min(17),
     }
 }
 
@@ -196,10 +164,8 @@ pub fn push_records(f: File, t: Tables, part: TableName, n: usize) -> File
     ensures { result ≡ appended f (joined (record_in t part) n) }
 {
     let mut out = f;
-    let mut k: usize = 0;
-    while k < n {
+    for k in 0..n {
         out = push_record(out, t, part, k);
-        k += 1;
     }
     out
 }

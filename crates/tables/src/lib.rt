@@ -13,12 +13,12 @@ pub use crate::records::{
     tables_in, task_at, tasks_at,
 };
 
-// The kind of a file: what its first bytes say of the device records in it (rules 75 and 80).
+// The kind of a file: what its first bytes say of the device records in it (rules 75 and 80). Tables as bytes begin with its number.
 #[derive(Clone, Copy)]
 pub enum Kind {
-    First,
-    Second,
-    Third,
+    First = 1,
+    Second = 2,
+    Third = 3,
 }
 
 // A device as a file gives it: the times of waking and of shutting down, the powers working and asleep, and those of the two moves; how many sleep levels there
@@ -40,7 +40,7 @@ pub struct DeviceRecord {
 }
 
 // A task as the file gives it: period, running time, and its device set, a bit for each device.
-#[derive(Clone, Copy)]
+#[derive(Clone, Copy, Default)]
 pub struct TaskRecord {
     pub period: u16,
     pub run: u16,
@@ -48,7 +48,7 @@ pub struct TaskRecord {
 }
 
 // A job as the file gives it: release, deadline, running time and device set.
-#[derive(Clone, Copy)]
+#[derive(Clone, Copy, Default)]
 pub struct JobRecord {
     pub release: u16,
     pub deadline: u16,
@@ -58,22 +58,16 @@ pub struct JobRecord {
 
 // A table is the first `count` records of its list. The count may be larger than the list: then there are too many.
 #[derive(Clone, Copy)]
-pub struct DeviceTable {
+pub struct Table<T, const N: usize> {
     pub count: usize,
-    pub list: [DeviceRecord; 8],
+    pub list: [T; N],
 }
 
-#[derive(Clone, Copy)]
-pub struct TaskTable {
-    pub count: usize,
-    pub list: [TaskRecord; 8],
-}
+pub type DeviceTable = Table<DeviceRecord, 8>;
 
-#[derive(Clone, Copy)]
-pub struct JobTable {
-    pub count: usize,
-    pub list: [JobRecord; 16],
-}
+pub type TaskTable = Table<TaskRecord, 8>;
+
+pub type JobTable = Table<JobRecord, 16>;
 
 // The horizon field is 0 where there are tasks.
 #[derive(Clone, Copy)]

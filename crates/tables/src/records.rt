@@ -1,14 +1,16 @@
 // The tables of a file, record by record.
-ghost use Rattle.std.specs.Prelude.{◌≡◌, ℕ, ◌+◌, ◌*◌, ◌≤◌, ◌<◌, min, length};
+ghost use Rattle.std.specs.Prelude.{◌≡◌, ℕ, List, ◌+◌, ◌*◌, ◌≤◌, ◌<◌, min, length};
 ghost use Rattle.base.specs.Bytes.{byte_at, pair_at};
 ghost use Rattle.base.specs.Refusals.{after};
 ghost use Rattle.tables.specs.Records as Records;
 ghost use Rattle.tables.specs.Records.{first_at, second_at, third_at, power_of, device_at, device_size, task_at, job_at, blank_device, blank_task, blank_job};
-ghost use Rattle.tables.specs.Layout.{kind_of, body_of, devices_held, tasks_held, jobs_held, tables_as, tables_of, no_tables};
+ghost use Rattle.tables.specs.Layout.{kind_of, body_of, devices_held, tasks_held, jobs_held, table_held, tables_as, tables_of, no_tables};
 ghost use Rattle.tables.specs.inside.Held.{Whole};
 
 use crate::kinds::{device_place, device_size, kind_of, marker_size};
-use crate::{DeviceRecord, DeviceTable, JobRecord, JobTable, Kind, Tables, TaskRecord, TaskTable};
+use crate::{
+    DeviceRecord, DeviceTable, JobRecord, JobTable, Kind, Table, Tables, TaskRecord, TaskTable,
+};
 
 // Both moves take the same time at the same power.
 pub fn leveled(
@@ -139,68 +141,98 @@ pub fn blank_device() -> DeviceRecord
     averaged(0, 0, 0, 0)
 }
 
-pub(crate) fn blank_task() -> TaskRecord
-    ensures { result ≡ blank_task }
-{
-    TaskRecord {
-        period: 0,
-        run: 0,
-        set: 0,
-    }
-}
-
-pub(crate) fn blank_job() -> JobRecord
-    ensures { result ≡ blank_job }
-{
-    JobRecord {
-        release: 0,
-        deadline: 0,
-        run: 0,
-        set: 0,
-    }
-}
-
 // The n devices from a place on: each record stands after the one before it.
 pub fn devices_at(s: &[u8], kind: Kind, n: usize, from: usize) -> DeviceTable
     requires { (n ≤ 8) × (after (device_size kind s.now) n from ≤ length s.now) }
     ensures { result ≡ devices_held (λ k. device_at kind s.now (after (device_size kind s.now) k from)) n }
 {
     let mut list = [blank_device(); 8];
-    let mut at: usize = from;
-    let mut k: usize = 0;
-    while k < n {
+    let mut at = from;
+    for k in 0..n {
         list[k] = device_at(s, kind, at);
         at += device_size(s, kind, at);
-        k += 1;
     }
-    DeviceTable { count: n, list }
+    Table { count: n, list }
+}
+
+// A record that has as many bytes wherever it stands.
+pub(crate) trait Record: Copy + Drop {
+    ghost blank: { Self };
+
+    ghost SIZE: { ℕ };
+
+    ghost read_at: { List ℕ → ℕ → Self };
+
+    const SIZE: usize;
+
+    fn blank() -> Self
+        ensures { result ≡ blank };
+
+    fn read(s: &[u8], at: usize) -> Self
+        requires { at + SIZE ≤ length s.now }
+        ensures { result ≡ read_at s.now at };
+}
+
+impl Record for TaskRecord {
+    ghost blank = { blank_task };
+
+    ghost SIZE = { 5 };
+
+    ghost read_at = { task_at };
+
+    const SIZE: usize = 5;
+
+    fn blank() -> TaskRecord {
+        TaskRecord::default()
+    }
+
+    fn read(s: &[u8], at: usize) -> TaskRecord {
+        task_at(s, at)
+    }
+}
+
+impl Record for JobRecord {
+    ghost blank = { blank_job };
+
+    ghost SIZE = { 7 };
+
+    ghost read_at = { job_at };
+
+    const SIZE: usize = 7;
+
+    fn blank() -> JobRecord {
+        JobRecord::default()
+    }
+
+    fn read(s: &[u8], at: usize) -> JobRecord {
+        job_at(s, at)
+    }
 }
 
 // The n records of a table, from a place on.
+fn table_at<T: Record, const N: usize>(s: &[u8], n: usize, from: usize) -> Table<T, N>
+    requires { (n ≤ N) × (from + n * T.SIZE ≤ length s.now) }
+    ensures { result ≡ table_held N T.blank (λ i. T.read_at s.now (from + i * T.SIZE)) n }
+{
+    let mut list = [T::blank(); N];
+    for i in 0..n {
+        list[i] = T::read(s, from + i * T::SIZE);
+    }
+    Table { count: n, list }
+}
+
 pub fn tasks_at(s: &[u8], n: usize, from: usize) -> TaskTable
     requires { (n ≤ 8) × (from + n * 5 ≤ length s.now) }
     ensures { result ≡ tasks_held (λ i. task_at s.now (from + i * 5)) n }
 {
-    let mut list = [blank_task(); 8];
-    let mut i: usize = 0;
-    while i < n {
-        list[i] = task_at(s, from + i * 5);
-        i += 1;
-    }
-    TaskTable { count: n, list }
+    table_at(s, n, from)
 }
 
 pub fn jobs_at(s: &[u8], n: usize, from: usize) -> JobTable
     requires { (n ≤ 16) × (from + n * 7 ≤ length s.now) }
     ensures { result ≡ jobs_held (λ j. job_at s.now (from + j * 7)) n }
 {
-    let mut list = [blank_job(); 16];
-    let mut j: usize = 0;
-    while j < n {
-        list[j] = job_at(s, from + j * 7);
-        j += 1;
-    }
-    JobTable { count: n, list }
+    table_at(s, n, from)
 }
 
 // The tables that follow the mark of a file of a kind, where they are all there.
@@ -239,23 +271,20 @@ pub fn tables_in(s: &[u8]) -> Tables
 pub fn no_tables() -> Tables
     ensures { result ≡ no_tables }
 {
-    let devices = DeviceTable {
-        count: 0,
-        list: [blank_device(); 8],
-    };
-    let tasks = TaskTable {
-        count: 0,
-        list: [blank_task(); 8],
-    };
-    let jobs = JobTable {
-        count: 0,
-        list: [blank_job(); 16],
-    };
     Tables {
         kind: Kind::First,
         horizon: 0,
-        devices,
-        tasks,
-        jobs,
+        devices: Table {
+            count: 0,
+            list: [blank_device(); 8],
+        },
+        tasks: Table {
+            count: 0,
+            list: [TaskRecord::blank(); 8],
+        },
+        jobs: Table {
+            count: 0,
+            list: [JobRecord::blank(); 16],
+        },
     }
 }

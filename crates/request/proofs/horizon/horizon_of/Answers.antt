@@ -5,7 +5,7 @@ use Rattle.request.proofs.horizon.horizon_of.Goals as goal
 
 pub returns-then-tasks-eq0 : goal.returns-then-tasks-eq0
 unfolding horizon_of
-returns-then-tasks-eq0 c = rw (eq-eqb _ _ c.if-tasks-eq0.true, ← c.pair_at-given.ensures) c.smaller.ensures
+returns-then-tasks-eq0 c = rw (eq-eqb _ _ c.if-tasks-eq0.true, ← c.pair_at.ensures, ← c.from.ensures) c.min.ensures
 
 pub returns-else-tasks-eq0 : goal.returns-else-tasks-eq0
 unfolding horizon_of

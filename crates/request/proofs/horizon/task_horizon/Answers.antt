@@ -1,50 +1,59 @@
 use mathlib.Core.Path.{◌≡◌, refl, ◌∙◌}
-use Prim.Native.Nat.{◌+◌, ◌-◌}
+use Prim.Native.Nat.{ℕ, ◌+◌, ◌-◌, ◌*◌, ◌<◌}
+use mathlib.Core.List.{List}
 use native.Mathlib.Omega.{arith}
+use Rattle.base.specs.Bytes.{pair_at}
+use Rattle.request.specs.Euclid.{lcm_of}
 use Rattle.request.specs.Format.{lcm_from}
 use Rattle.request.specs.inside.Held.{SoundTasks}
 use Rattle.request.proofs.Checked.{sound_first, sound_next}
 use Rattle.request.proofs.Multiples.{lcm_none, lcm_more, le_lcm_from}
 use Rattle.request.proofs.horizon.task_horizon.Goals as goal
 
-pub loop-left-init : goal.loop-left-init
-loop-left-init c = (c.requires, omega arith, refl)
+-- The tasks after task i, and the least common multiple with them.
+rest : (s : List ℕ) (n from i : ℕ) → i < n → SoundTasks s (n - i) (from + i * 5) → SoundTasks s (n - (i + 1)) (from + (i + 1) * 5)
+rest s n from i l ok =
+    let e : n - (i + 1) ≡ n - i - 1 = omega arith in
+    let f : from + (i + 1) * 5 ≡ from + i * 5 + 5 = omega arith in
+    rw (e, f) (sound_next _ _ _ (omega arith) ok)
+
+step : (s : List ℕ) (n from i h : ℕ) → i < n → lcm_from s (n - i) (from + i * 5) h ≡ lcm_from s (n - (i + 1)) (from + (i + 1) * 5) (lcm_of h (pair_at s (from + i * 5)))
+step s n from i h l =
+    let e : n - (i + 1) ≡ n - i - 1 = omega arith in
+    let f : from + (i + 1) * 5 ≡ from + i * 5 + 5 = omega arith in
+    rw (e, f) (lcm_more s (n - i) (from + i * 5) h (omega arith))
+
+pub loop-i-init : goal.loop-i-init
+loop-i-init c =
+    let e : c.args.tasks - 0 ≡ c.args.tasks = omega arith in
+    let f : c.args.from + 0 ≡ c.args.from = omega arith in
+    rw (e, f) (c.requires, omega arith, refl)
 
 pub pair_at-period-requires : goal.pair_at-period-requires
-pair_at-period-requires c = omega (arith, c.loop-left.invariant.0.there)
+pair_at-period-requires c = omega (arith, c.requires.there)
 
 pub lcm-h-requires : goal.lcm-h-requires
 lcm-h-requires c =
-    let l = c.loop-left in
-    let p = sound_first _ _ _ c.loop-left-test.true l.invariant.0 in
-    rw c.pair_at-period.ensures (l.invariant.1, p.1, p.0)
+    let l = c.loop-i in
+    let p = sound_first _ _ _ (omega arith) l.invariant.0 in
+    rw (c.from.ensures, c.pair_at-period.ensures) (l.invariant.1, p.1, p.0)
 
 pub returns-then-h-gt4096 : goal.returns-then-h-gt4096
 returns-then-h-gt4096 c =
-    let step : (let a = c.args in
-    let l = c.loop-left in
-    lcm_from a.s.now a.tasks a.from 1 ≡ lcm_from a.s.now (l.left - 1) (l.at + 5) c.lcm-h.result) = let l = c.loop-left in
-    rw (c.lcm-h.ensures, c.pair_at-period.ensures) (l.invariant.2 ∙ lcm_more _ _ _ _ c.loop-left-test.true) in
-    let rest : SoundTasks c.args.s.now (c.loop-left.left - 1) (c.loop-left.at + 5) = sound_next _ _ _ c.loop-left-test.true c.loop-left.invariant.0 in
-    let l = c.loop-left in
-    let s = c.args.s.now in
-    omega (arith, step, le_lcm_from s (l.left - 1) (l.at + 5) c.lcm-h.result (λ i m. (rest.periods i m).0))
+    let l = c.loop-i in
+    let a = c.args in
+    let t : l.i < a.tasks = omega arith in
+    let more = rw (← c.pair_at-period.ensures, ← c.from.ensures, ← c.lcm-h.ensures) at (step a.s.now a.tasks a.from l.i l.h t) in
+    omega (arith, more, le_lcm_from a.s.now (a.tasks - (l.i + 1)) (a.from + (l.i + 1) * 5) c.lcm-h.result (λ i m. ((rest a.s.now a.tasks a.from l.i t l.invariant.0).periods i m).0))
 
-pub overflow_add-at : goal.overflow_add-at
-overflow_add-at c =
-    let rest : SoundTasks c.args.s.now (c.loop-left.left - 1) (c.loop-left.at + 5) = sound_next _ _ _ c.loop-left-test.true c.loop-left.invariant.0 in
-    omega (arith, rest.there)
-
-pub loop-left-preserved : goal.loop-left-preserved
-loop-left-preserved c =
-    let step : (let a = c.args in
-    let l = c.loop-left in
-    lcm_from a.s.now a.tasks a.from 1 ≡ lcm_from a.s.now (l.left - 1) (l.at + 5) c.lcm-h.result) = let l = c.loop-left in
-    rw (c.lcm-h.ensures, c.pair_at-period.ensures) (l.invariant.2 ∙ lcm_more _ _ _ _ c.loop-left-test.true) in
-    let rest : SoundTasks c.args.s.now (c.loop-left.left - 1) (c.loop-left.at + 5) = sound_next _ _ _ c.loop-left-test.true c.loop-left.invariant.0 in
-    (rest, c.if-h-gt4096.false, step)
+pub loop-i-preserved : goal.loop-i-preserved
+loop-i-preserved c =
+    let l = c.loop-i in
+    let a = c.args in
+    let t : l.i < a.tasks = omega arith in
+    (rest a.s.now a.tasks a.from l.i t l.invariant.0, omega arith, rw (c.lcm-h.ensures, c.from.ensures, c.pair_at-period.ensures) (l.invariant.2 ∙ step a.s.now a.tasks a.from l.i l.h t))
 
 pub returns : goal.returns
 returns c =
-    let l = c.loop-left in
-    omega (arith, lcm_none c.args.s.now l.left l.at l.h c.loop-left-test.false)
+    let l = c.loop-i in
+    omega (arith, lcm_none c.args.s.now (c.args.tasks - l.i) (c.args.from + l.i * 5) l.h (omega arith))

@@ -7,6 +7,6 @@ pub returns-then-tasks-eq0 : goal.returns-then-tasks-eq0
 unfolding jobs_of
 returns-then-tasks-eq0 c = rw (eq-eqb _ _ c.if-tasks-eq0.true) c.listed_jobs.ensures
 
-pub returns : goal.returns
+pub returns-else-tasks-eq0 : goal.returns-else-tasks-eq0
 unfolding jobs_of
-returns c = rw (ne_eqb _ _ c.if-tasks-eq0.false, ← c.requires.2) c.unfold.ensures
+returns-else-tasks-eq0 c = rw (ne_eqb _ _ c.if-tasks-eq0.false, ← c.requires.2) c.unfold.ensures

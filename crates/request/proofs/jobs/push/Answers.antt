@@ -7,6 +7,6 @@ pub returns-then-js-lt16 : goal.returns-then-js-lt16
 unfolding pushed
 returns-then-js-lt16 c = rw c.place.ensures (search paths)
 
-pub returns : goal.returns
+pub returns-else-js-lt16 : goal.returns-else-js-lt16
 unfolding pushed
-returns c = search paths
+returns-else-js-lt16 c = search paths

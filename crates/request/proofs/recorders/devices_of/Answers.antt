@@ -12,31 +12,30 @@ use Rattle.request.proofs.recorders.devices_of.Goals as goal
 
 pub loop-k-init : goal.loop-k-init
 unfolding up_to
-loop-k-init c = (omega arith, refl, c.no_devices-devices.ensures)
+loop-k-init c = (refl, c.no_devices-devices.ensures)
 
 pub device_at-requires : goal.device_at-requires
 device_at-requires c =
     let l = c.loop-k in
     let a = c.args in
-    rw l.invariant.1 (omega (arith, after_one (device_size a.kind a.s.now) l.k a.n 3 c.loop-k-test.true, c.requires))
+    rw l.invariant.0 (omega (arith, after_one (device_size a.kind a.s.now) l.k a.n 3 (omega arith), c.requires))
 
 pub overflow_add-at : goal.overflow_add-at
 overflow_add-at c =
     let l = c.loop-k in
     let a = c.args in
-    rw (c.device_size-at.ensures, l.invariant.1) (omega (arith, after_one (device_size a.kind a.s.now) l.k a.n 3 c.loop-k-test.true, c.requires))
+    rw (c.device_size-at.ensures, l.invariant.0) (omega (arith, after_one (device_size a.kind a.s.now) l.k a.n 3 (omega arith), c.requires))
 
 pub loop-k-preserved : goal.loop-k-preserved
 loop-k-preserved c =
     let l = c.loop-k in
     let a = c.args in (
-      omega arith,
-      rw (c.device_size-at.ensures, l.invariant.1, add-one l.k) (sym (after_more (device_size a.kind a.s.now) l.k 3)),
-      rw (c.device_of.ensures, c.device_at.ensures, l.invariant.2, l.invariant.1, up_to_fill 8 vacant_device (λ (x : ℕ). device_of (device_at a.kind a.s.now (device_place a.kind a.s.now x))) l.k (omega arith)),
+      rw (c.device_size-at.ensures, l.invariant.0, add-one l.k) (sym (after_more (device_size a.kind a.s.now) l.k 3)),
+      rw (c.device_of.ensures, c.device_at.ensures, l.invariant.1, l.invariant.0, up_to_fill 8 vacant_device (λ (x : ℕ). device_of (device_at a.kind a.s.now (device_place a.kind a.s.now x))) l.k (omega arith)),
     )
 
 pub returns : goal.returns
 returns c =
     let l = c.loop-k in
     let all : l.k ≡ c.args.n = omega arith in
-    rw (l.invariant.2, all, length_up_to)
+    rw (l.invariant.1, all, length_up_to)

@@ -5,10 +5,10 @@ use Prim.Native.Nat.{ℕ, ◌<◌}
 use native.Mathlib.Omega.{arith}
 use lib.ListN.{length, get_or-eq_default}
 use lib.Dec.{eqb}
+use borrow.Author.Tests.{ne_eqb}
 use Rattle.base.specs.Bytes.{byte_at}
-use Rattle.base.proofs.Paths.{paths}
 use Rattle.base.proofs.Cases.{cond_cases}
-use Rattle.tables.specs.declared.Kind.TheVariants.{First}
+use Rattle.tables.specs.declared.Kind.TheVariants.{First, Second, Third}
 use Rattle.tables.specs.Layout.{kind_of}
 use Rattle.tables.proofs.kinds.kind_of.Goals as goal
 
@@ -19,21 +19,33 @@ short s h =
     let none : byte_at s 1 ≡ 0 = get_or-eq_default s 0 {n = 1} (omega arith) in
     rw none (cond_cases (λ k. First ≡ k) (eqb (byte_at s 0) 255) (λ _. refl) (λ _. refl))
 
-pub returns-then-s-lt2 : goal.returns-then-s-lt2
-returns-then-s-lt2 c = short c.args.s.now c.if-s-lt2.true
-
-pub returns-then-s : goal.returns-then-s
+second : (s : List ℕ) → byte_at s 0 ≡ 255 → byte_at s 1 ≡ 2 → Second ≡ kind_of s
 unfolding kind_of
-returns-then-s c = search paths
+second s h l = rw (h, l)
 
-pub returns-then-s-eq2 : goal.returns-then-s-eq2
+third : (s : List ℕ) → byte_at s 0 ≡ 255 → byte_at s 1 ≡ 3 → Third ≡ kind_of s
 unfolding kind_of
-returns-then-s-eq2 c = search paths
+third s h l = rw (h, l)
 
-pub returns-then-s-eq3 : goal.returns-then-s-eq3
+unmarked : (s : List ℕ) → (byte_at s 0 ≡ 255 → ⊥) → First ≡ kind_of s
 unfolding kind_of
-returns-then-s-eq3 c = search paths
+unmarked s h = rw (ne_eqb _ 255 h)
 
-pub returns : goal.returns
+other : (s : List ℕ) → (byte_at s 1 ≡ 2 → ⊥) → (byte_at s 1 ≡ 3 → ⊥) → First ≡ kind_of s
 unfolding kind_of
-returns c = search paths
+other s h l = rw (ne_eqb _ 2 h, ne_eqb _ 3 l) (cond_cases (λ k. First ≡ k) (eqb (byte_at s 0) 255) (λ _. refl) (λ _. refl))
+
+pub returns-in-255 : goal.returns-in-255
+returns-in-255 c = second c.args.s.now (omega arith) (omega arith)
+
+pub returns-in-255-2 : goal.returns-in-255-2
+returns-in-255-2 c = third c.args.s.now (omega arith) (omega arith)
+
+pub returns-in_default : goal.returns-in_default
+returns-in_default c = short c.args.s.now (omega arith)
+
+pub returns-in_default-2 : goal.returns-in_default-2
+returns-in_default-2 c = other c.args.s.now (omega arith) (omega arith)
+
+pub returns-in_default-3 : goal.returns-in_default-3
+returns-in_default-3 c = unmarked c.args.s.now (omega arith)

@@ -23,19 +23,13 @@ fits T p f n k out o l room =
 
 pub loop-k-init : goal.loop-k-init
 unfolding joined appended
-loop-k-init c = (omega arith, refl)
+loop-k-init c = refl
 
 pub push_record-out-requires : goal.push_record-out-requires
 push_record-out-requires c =
     let l = c.loop-k in
     let a = c.args in
-    fits a.t a.part a.f a.n l.k l.out l.invariant.1 c.loop-k-test.true c.requires
+    fits a.t a.part a.f a.n l.k l.out l.invariant (omega arith) c.requires
 
 pub loop-k-preserved : goal.loop-k-preserved
-loop-k-preserved c = (omega arith, rw (c.push_record-out.ensures, c.loop-k.invariant.1, appended_more, joined_more))
-
-pub returns : goal.returns
-returns c =
-    let l = c.loop-k in
-    let all : l.k ≡ c.args.n = omega arith in
-    rw (l.invariant.1, all)
+loop-k-preserved c = rw (c.push_record-out.ensures, c.loop-k.invariant, appended_more, joined_more)

@@ -1,4 +1,4 @@
-use mathlib.Core.Path.{◌≡◌, refl, sym}
+use mathlib.Core.Path.{refl, sym}
 use Prim.Native.Nat.{ℕ}
 use native.Mathlib.Omega.{arith}
 use native.Mathlib.Numerals.{add-one}
@@ -11,31 +11,24 @@ use Rattle.tables.proofs.records.devices_at.Goals as goal
 
 pub loop-k-init : goal.loop-k-init
 unfolding up_to padded
-loop-k-init c = (omega arith, refl, rw c.blank_device-list.ensures)
+loop-k-init c = (refl, rw c.blank_device-list.ensures)
 
 pub device_at-requires : goal.device_at-requires
 device_at-requires c =
     let l = c.loop-k in
     let a = c.args in
-    rw l.invariant.1 (omega (arith, after_one (device_size a.kind a.s.now) l.k a.n a.from c.loop-k-test.true, c.requires))
+    rw l.invariant.0 (omega (arith, after_one (device_size a.kind a.s.now) l.k a.n a.from (omega arith), c.requires))
 
 pub overflow_add-at : goal.overflow_add-at
 overflow_add-at c =
     let l = c.loop-k in
     let a = c.args in
-    rw (c.device_size-at.ensures, l.invariant.1) (omega (arith, after_one (device_size a.kind a.s.now) l.k a.n a.from c.loop-k-test.true, c.requires))
+    rw (c.device_size-at.ensures, l.invariant.0) (omega (arith, after_one (device_size a.kind a.s.now) l.k a.n a.from (omega arith), c.requires))
 
 pub loop-k-preserved : goal.loop-k-preserved
 loop-k-preserved c =
     let l = c.loop-k in
     let a = c.args in (
-      omega arith,
-      rw (c.device_size-at.ensures, l.invariant.1, add-one l.k) (sym (after_more (device_size a.kind a.s.now) l.k a.from)),
-      rw (c.device_at.ensures, l.invariant.2, l.invariant.1) (up_to_fill 8 blank_device (λ (x : ℕ). device_at a.kind a.s.now (after (device_size a.kind a.s.now) x a.from)) l.k (omega arith)),
+      rw (c.device_size-at.ensures, l.invariant.0, add-one l.k) (sym (after_more (device_size a.kind a.s.now) l.k a.from)),
+      rw (c.device_at.ensures, l.invariant.1, l.invariant.0) (up_to_fill 8 blank_device (λ (x : ℕ). device_at a.kind a.s.now (after (device_size a.kind a.s.now) x a.from)) l.k (omega arith)),
     )
-
-pub returns : goal.returns
-returns c =
-    let l = c.loop-k in
-    let all : l.k ≡ c.args.n = omega arith in
-    rw (l.invariant.2, all)

@@ -4,4 +4,4 @@ use Rattle.tables.proofs.records.no_tables.Goals as goal
 
 pub returns : goal.returns
 unfolding up_to padded
-returns c = rw (c.blank_job.ensures, c.blank_task.ensures, c.blank_device.ensures)
+returns c = rw (c.blank-2.ensures, c.blank.ensures, c.blank_device.ensures)
