@@ -27,10 +27,3 @@ pub enum Turn {
     Ends,
     Goes(State),
 }
-
-// How many bytes a field has with its quotes, and whether no quote in it is stray or open.
-#[derive(Clone, Copy)]
-pub struct Cut {
-    pub size: usize,
-    pub whole: bool,
-}
