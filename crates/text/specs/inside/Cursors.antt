@@ -1,7 +1,7 @@
 -- The same text by places, as the code goes along it, two quotes between quotes left as they stand (`raw_of`). Nobody need believe these: no promise speaks of
 -- them. proofs/Scanning: they are the lines, fields and numbers of the definitions.
 use Rattle.std.specs.Prelude
-use Rattle.std.specs.Prelude.{Bool, true, false, cond, ◌&&◌, List, [], ◌∷◌, Some, None, ℕ, suc, ◌+◌, ◌-◌, ◌*◌, min, length, take, drop, get_or, eqb, ltb}
+use Rattle.std.specs.Prelude.{Bool, true, false, cond, ◌&&◌, List, [], ◌∷◌, Some, None, ℕ, suc, ◌+◌, ◌-◌, ◌*◌, min, length, take, drop, get_or, eqb, leb, ltb}
 use Rattle.std.proofs.Math.Option
 use Rattle.std.proofs.Math.Option.{Option, none, some}
 use Rattle.base.specs.Lists.{all}
@@ -10,7 +10,7 @@ use Rattle.text.specs.declared.State.TheVariants.{Fresh, Plain, Quoted, Closed}
 use Rattle.text.specs.declared.Turn.{Turn}
 use Rattle.text.specs.declared.Turn.TheVariants.{Stray, Ends, Goes}
 use Rattle.text.specs.Grammar.{cr, lf, quote, Step, stray, ends, goes, step, fields_from}
-use Rattle.text.specs.Numerals.{digit}
+use Rattle.text.specs.Numerals.{digit, value_from}
 
 -- ---- lines
 
@@ -88,14 +88,14 @@ field_at o i = get_or (Option.get_or o []) i []
 
 -- ---- numbers
 
--- The value of digits, never above 65,536: nothing wraps, however many there are.
-unfoldable pub capped_from : ℕ → List ℕ → ℕ
-capped_from v [] = v
-capped_from v (b ∷ s) = capped_from (min (v * 10 + (b - 48)) 65536) s
+-- The number that the digits s make behind one read so far, if it has 16 bits; and that of a field, which has one digit at least.
+abbrev pub number_from : ℕ → List ℕ → Prelude.Option ℕ
+number_from v s = cond (all digit s && leb (value_from v s) 65535) (Some (value_from v s)) None
 
--- 65,536 for what is no number of 16 bits.
-abbrev pub number_from : ℕ → List ℕ → ℕ
-number_from v s = cond (all digit s) (capped_from v s) 65536
+abbrev pub number_of : List ℕ → Prelude.Option ℕ
+number_of f = cond (ltb 0 (length f)) (number_from 0 f) None
 
-abbrev pub number_of : List ℕ → ℕ
-number_of f = cond (ltb 0 (length f)) (number_from 0 f) 65536
+-- It is a number of at most m.
+abbrev pub fits : ℕ → Prelude.Option ℕ → Bool
+fits m None = false
+fits m (Some n) = leb n m
