@@ -13,8 +13,8 @@ use Rattle.tables.specs.inside.Held.{limited, held}
 use Rattle.tables.proofs.Appending.{held_front, held_long}
 use Rattle.tables.proofs.Back.{unmarked}
 use Rattle.tables.proofs.Joining.{limited_fits}
-use Rattle.request.specs.Format.{read_as, accepted, handed_on}
-use Rattle.request.proofs.Accepted.{accepted_by, refused_by}
+use Rattle.std.proofs.lemmas.Result.{err_from_is_err_and}
+use Rattle.request.specs.Format.{Reading, read_as, accepted, refused}
 use Rattle.request.proofs.Limiting.{read_limited, accepted_limited}
 use Rattle.planner.specs.Promises as P
 use Rattle.planner.proofs.Refusing.{unless_enough}
@@ -34,6 +34,31 @@ written_as :
     (T : Tables) (lent : List ℕ) (R : Recorder) (s : List ℕ) (n : ℕ) → read_as T.kind (layout_of T) ≡ accepted R → s ≡ bytes_of T → n ≡ length (bytes_of T) → n ≤ length lent
     → P.Written T lent (P.success R.horizon 0 n) (s ++ drop (length s) lent)
 written_as T lent R s n r e f h = rw (e, f) (P.Written.read r (unless_enough (omega arith) P.gives))
+
+-- What is read of the bytes is what is read of the layout.
+module _ (T : Tables) (f : File) (e : f ≡ held (bytes_of (limited T))) where
+  long : f.count ≡ length (take f.count f.bytes)
+  long = sym (length-take-le f.count f.bytes (fits))
+    where
+      fits : f.count ≤ length f.bytes
+      fits = rw e (held_long (bytes_of (limited T)) (limited_fits T))
+
+  laid : take f.count f.bytes ≡ bytes_of (limited T)
+  laid = rw e (held_front (bytes_of (limited T)))
+
+  reads : read_as T.kind (drop (length (marker T.kind)) (take f.count f.bytes)) ≡ read_as T.kind (layout_of T)
+  reads =
+      ap (λ (s : List ℕ). read_as T.kind (drop (length (marker T.kind)) s)) laid
+      ∙ ap (λ (s : List ℕ). read_as T.kind s) (limited-mark T).1 ∙ read-as-limited T
+
+  -- Where it is accepted no count is limited.
+  module _ (R : Recorder) (r : read_as T.kind (layout_of T) ≡ accepted R) where
+    whole : take f.count f.bytes ≡ bytes_of T
+    whole = laid ∙ ap bytes_of (accepted_limited _ _ r)
+
+    size : f.count ≡ length (bytes_of T)
+    unfolding held
+    size = ap (λ (f : File). f.count) e ∙ ap length (ap bytes_of (accepted_limited _ _ r))
 
 pub slice_bounds-bytes-end : goal.slice_bounds-bytes-end
 slice_bounds-bytes-end c =
