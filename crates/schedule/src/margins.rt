@@ -11,8 +11,8 @@ use crate::Recorder;
 fn margin_of(deadline: u16, start: u16, run: u16) -> i32
     ensures { result ≡ sub_ℕ deadline (start + run) }
 {
-    let end = start as u32 + run as u32;
-    deadline as i32 - end as i32
+    let end = u32::from(start) + u32::from(run);
+    i32::from(deadline) - end as i32
 }
 
 // Writes each job's margin into the lent numbers, and keeps the places after the last job.
@@ -21,10 +21,8 @@ pub fn write_margins(r: Recorder, starts: &[u16], out: &mut [i32])
     ensures { out.new ≡ up_to (margin r starts.now) (jobs r) ++ drop (jobs r) out.old }
 {
     let jobs = r.jobs;
-    let mut j = 0;
-    while j < jobs.count {
+    for j in 0..jobs.count {
         let job = jobs.list[j];
         out[j] = margin_of(job.deadline, starts[j], job.run);
-        j += 1;
     }
 }
