@@ -11,8 +11,8 @@ use crate::Recorder;
 fn margin_of(deadline: u16, start: u16, run: u16) -> i32
     ensures { result ≡ sub_ℕ deadline (start + run) }
 {
-    let end = u32::from(start) + u32::from(run);
-    i32::from(deadline) - end as i32
+    let end = start as u32 + run as u32;
+    deadline as i32 - end as i32
 }
 
 // Writes each job's margin into the lent numbers, and keeps the places after the last job.

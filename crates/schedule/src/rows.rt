@@ -32,7 +32,7 @@ pub fn write_rows(r: Recorder, starts: &[u16], out: &mut [u8]) -> u32
 {
     let devices = r.devices;
     let sleeps = r.sleeps;
-    let h = usize::from(r.horizon);
+    let h = r.horizon as usize;
     let order = running_order(starts);
     let mut sum: u32 = 0;
     for k in 0..devices.count {
