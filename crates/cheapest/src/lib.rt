@@ -47,11 +47,7 @@ fn copy(s: &[u16], out: &mut [u16])
     requires { length s.now ≤ length out.old }
     ensures { out.new ≡ s.now ++ drop (length s.now) out.old }
 {
-    let mut i: usize = 0;
-    while i < s.len() {
-        out[i] = s[i];
-        i += 1;
-    }
+    out[..s.len()].copy_from_slice(s);
 }
 
 // The schedule that is found, written into the lent list, and the answer with its energy.

@@ -9,33 +9,29 @@ ghost use Rattle.extras.specs.inside.Tabled.{Room, Tabled};
 ghost use Rattle.extras.specs.inside.Parts.{LaidGaps, LaidDevice};
 
 use crate::jobs::lay_jobs;
-use crate::shape::{NO_FALL, Shape, shape_with};
+use crate::shape::{Shape, shape_with};
 use crate::{EXTRAS, FALLS, FEET, LOWS, RISES};
-use base::wide;
 use device::{Device, gap_trip};
 use flat::{Flat, deep_power, device_count, device_of, horizon_of};
 
-// A gap's extra, and whether the gap is slept through at the deepest level: then every longer one is, and has the same extra.
+// A gap's extra, and whether the gap is slept through at the deepest level: then every longer one is, and has the same extra. No Option: a gap has an extra either way.
 #[derive(Clone, Copy)]
 struct Gap {
     extra: u32,
     deepest: bool,
 }
 
-// The gap of g ticks, where `last` is the extra of the one before it and `deepest` whether that one is slept through at the deepest level.
-fn next_gap(d: Device, sleep: u32, g: u16, last: u32, deepest: bool) -> Gap
-    requires { Sound d × ((sleep ≡ deep d) × ((g ≤ 4096) × (deepest ≡ true → Stays d g last))) }
+// The gap of g ticks, where `last` is the one before it.
+fn next_gap(d: Device, sleep: u32, g: u16, last: Gap) -> Gap
+    requires { Sound d × ((sleep ≡ deep d) × ((g ≤ 4096) × (last.deepest ≡ true → Stays d g last.extra))) }
     ensures { (result.extra ≡ extra d g) × (result.deepest ≡ true → Stays d (g + 1) result.extra) }
 {
-    if deepest {
-        return Gap {
-            extra: last,
-            deepest: true,
-        };
+    if last.deepest {
+        return last;
     }
     let trip = gap_trip(d, g);
     Gap {
-        extra: trip.cost - sleep * wide(g),
+        extra: trip.cost - sleep * u32::from(g),
         deepest: trip.level == d.levels as usize,
     }
 }
@@ -45,23 +41,16 @@ fn lay_gaps(d: Device, sleep: u32, k: usize, h: u16, extras: &mut [u32]) -> Shap
     requires { Sound d × ((sleep ≡ deep d) × ((k < 8) × ((h ≤ 4096) × (208 + 8 * h ≤ length extras.old)))) }
     ensures { LaidGaps d k h extras.old extras.new × (result ≡ shape_of d (suc h)) }
 {
-    let mut shape = Shape {
-        cap: 0,
-        rise: 0,
-        fall: 0,
-        foot: 0,
-        low: NO_FALL,
+    let mut shape = Shape::NONE;
+    let mut last = Gap {
+        extra: 0,
+        deepest: false,
     };
-    let mut last: u32 = 0;
-    let mut deepest = false;
-    let mut g: u16 = 0;
-    while g <= h {
-        let gap = next_gap(d, sleep, g, last, deepest);
+    for g in 0..=h {
+        let gap = next_gap(d, sleep, g, last);
         extras[EXTRAS + 8 * g as usize + k] = gap.extra;
-        shape = shape_with(shape, wide(g), last, gap.extra);
-        last = gap.extra;
-        deepest = gap.deepest;
-        g += 1;
+        shape = shape_with(shape, u32::from(g), last.extra, gap.extra);
+        last = gap;
     }
     shape
 }
@@ -73,7 +62,7 @@ fn lay_device(r: &Flat, k: usize, extras: &mut [u32])
 {
     let shape = lay_gaps(
         device_of(r, k),
-        wide(deep_power(r, k)),
+        u32::from(deep_power(r, k)),
         k,
         horizon_of(r),
         extras,
@@ -89,11 +78,8 @@ pub fn lay_extras(r: &Flat, extras: &mut [u32])
     requires { Valid (recorder_of r.now) × Room (recorder_of r.now) extras.old }
     ensures { Tabled (recorder_of r.now) extras.new }
 {
-    let m = device_count(r);
-    let mut k: usize = 0;
-    while k < m {
+    for k in 0..device_count(r) {
         lay_device(r, k, extras);
-        k += 1;
     }
     lay_jobs(r, extras);
 }

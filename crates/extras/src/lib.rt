@@ -6,8 +6,6 @@ ghost use Rattle.std.specs.Prelude.{◌≡◌, ◌+◌, ◌*◌, ◌<◌, ◌≤
 ghost use Rattle.extras.specs.inside.Tabled.{extra_at, cap_at, rise_at, fall_at, least_from};
 ghost use Rattle.extras.specs.inside.Jobs.{used_count_at, last_at, used_at};
 
-use base::smaller;
-
 pub mod laying; // laying.rt: the table filled
 mod jobs; // jobs.rt: the last start and the devices of each job
 mod shape; // shape.rt: cap, rise, fall, foot and low, gap by gap
@@ -37,6 +35,7 @@ const LISTS: usize = 72;
 const EXTRAS: usize = 200;
 
 // The extra of a gap of g ticks.
+#[tactic(auto, unfolding(crate::specs::inside::Tabled::extra_at))]
 pub fn extra_of(extras: &[u32], k: usize, g: u32) -> u32
     requires { (k < 8) × ((g ≤ 4096) × (208 + 8 * g ≤ length extras.now)) }
     ensures { result ≡ extra_at extras.now k g }
@@ -45,6 +44,7 @@ pub fn extra_of(extras: &[u32], k: usize, g: u32) -> u32
 }
 
 // From which length on the extra stays the same.
+#[tactic(auto, unfolding(crate::specs::inside::Tabled::cap_at))]
 pub fn cap_of(extras: &[u32], k: usize) -> u32
     requires { (k < 8) × (40 ≤ length extras.now) }
     ensures { result ≡ cap_at extras.now k }
@@ -53,6 +53,7 @@ pub fn cap_of(extras: &[u32], k: usize) -> u32
 }
 
 // By how much one tick more raises it at most.
+#[tactic(auto, unfolding(crate::specs::inside::Tabled::rise_at))]
 pub fn rise_of(extras: &[u32], k: usize) -> u32
     requires { (k < 8) × (40 ≤ length extras.now) }
     ensures { result ≡ rise_at extras.now k }
@@ -61,6 +62,7 @@ pub fn rise_of(extras: &[u32], k: usize) -> u32
 }
 
 // By how much it lowers it at most.
+#[tactic(auto, unfolding(crate::specs::inside::Tabled::fall_at))]
 pub fn fall_of(extras: &[u32], k: usize) -> u32
     requires { (k < 8) × (40 ≤ length extras.now) }
     ensures { result ≡ fall_at extras.now k }
@@ -69,18 +71,21 @@ pub fn fall_of(extras: &[u32], k: usize) -> u32
 }
 
 // What no gap of g ticks or more has less than: from the foot on its own extra, and before it no more than what a fall leads to.
+#[tactic(auto, unfolding(crate::specs::inside::Tabled::least_from, crate::specs::inside::Tabled::foot_at, crate::specs::inside::Tabled::low_at))]
 pub fn least_from(extras: &[u32], k: usize, g: u32) -> u32
     requires { (k < 8) × ((g ≤ 4096) × (208 + 8 * g ≤ length extras.now)) }
     ensures { result ≡ least_from extras.now k g }
 {
     let extra = extra_of(extras, k, g);
     if g < extras[FEET + k] {
-        return smaller(extra, extras[LOWS + k]);
+        extra.min(extras[LOWS + k])
+    } else {
+        extra
     }
-    extra
 }
 
 // How many devices job j uses.
+#[tactic(auto, unfolding(crate::specs::inside::Jobs::used_count_at))]
 pub fn used_count(extras: &[u32], j: usize) -> u32
     requires { (j < 16) × (208 ≤ length extras.now) }
     ensures { result ≡ used_count_at extras.now j }
@@ -89,6 +94,7 @@ pub fn used_count(extras: &[u32], j: usize) -> u32
 }
 
 // The last start from which job j meets its deadline.
+#[tactic(auto, unfolding(crate::specs::inside::Jobs::last_at))]
 pub fn last_start(extras: &[u32], j: usize) -> u32
     requires { (j < 16) × (208 ≤ length extras.now) }
     ensures { result ≡ last_at extras.now j }
@@ -97,6 +103,7 @@ pub fn last_start(extras: &[u32], j: usize) -> u32
 }
 
 // The one of its devices before which there are i.
+#[tactic(auto, unfolding(crate::specs::inside::Jobs::used_at))]
 pub fn used_at(extras: &[u32], j: usize, i: u32) -> usize
     requires { (j < 16) × ((i < 8) × (208 ≤ length extras.now)) }
     ensures { result ≡ used_at extras.now j i }

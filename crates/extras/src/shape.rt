@@ -2,11 +2,6 @@
 ghost use Rattle.std.specs.Prelude.{◌≡◌};
 ghost use Rattle.extras.specs.inside.Shapes.{shape_with};
 
-use base::{larger, smaller};
-
-// What it falls to where it has not: more than any extra.
-pub const NO_FALL: u32 = 4294967295;
-
 // Of the gaps up to some length: from which on they have the same extra, by how much one tick more raises it and lowers it at most, from which on it no longer falls,
 // and to what it falls at least.
 #[derive(Clone, Copy)]
@@ -18,30 +13,37 @@ pub struct Shape {
     pub low: u32,
 }
 
+impl Shape {
+    // Of no gap. Where no extra has fallen, low is what min starts from: no Option, since the table holds numbers and takes the min with this one.
+    pub const NONE: Shape = Shape {
+        cap: 0,
+        rise: 0,
+        fall: 0,
+        foot: 0,
+        low: u32::MAX,
+    };
+}
+
 // The same with the gap of g ticks, whose extra is y, that of the gap before it x.
+#[tactic(auto, unfolding(crate::specs::inside::Shapes::shape_with))]
 pub fn shape_with(s: Shape, g: u32, x: u32, y: u32) -> Shape
     ensures { result ≡ shape_with s g x y }
 {
     if x < y {
-        let rise = larger(s.rise, y - x);
-        return Shape {
+        Shape {
             cap: g,
-            rise,
-            fall: s.fall,
-            foot: s.foot,
-            low: s.low,
-        };
-    }
-    if y < x {
-        let fall = larger(s.fall, x - y);
-        let low = smaller(s.low, y);
-        return Shape {
+            rise: s.rise.max(y - x),
+            ..s
+        }
+    } else if y < x {
+        Shape {
             cap: g,
-            rise: s.rise,
-            fall,
+            fall: s.fall.max(x - y),
             foot: g,
-            low,
-        };
+            low: s.low.min(y),
+            ..s
+        }
+    } else {
+        s
     }
-    s
 }

@@ -12,6 +12,7 @@ use schedule::{Job, Recorder};
 
 pub type Flat = [u16; 320];
 
+#[tactic(auto, unfolding(crate::specs::inside::Flat::recorder_of))]
 pub fn horizon_of(r: &Flat) -> u16
     ensures { result ≡ (recorder_of r.now).horizon }
 {
@@ -19,6 +20,7 @@ pub fn horizon_of(r: &Flat) -> u16
 }
 
 // The counts are read through a reference of their own, of which it is known that the number fits its type.
+#[tactic(auto, unfolding(crate::specs::inside::Flat::recorder_of))]
 pub fn job_count(r: &Flat) -> usize
     ensures { result ≡ jobs (recorder_of r.now) }
 {
@@ -26,6 +28,7 @@ pub fn job_count(r: &Flat) -> usize
     *count as usize
 }
 
+#[tactic(auto, unfolding(crate::specs::inside::Flat::recorder_of))]
 pub fn device_count(r: &Flat) -> usize
     ensures { result ≡ (recorder_of r.now).devices.count }
 {
@@ -33,6 +36,7 @@ pub fn device_count(r: &Flat) -> usize
     *count as usize
 }
 
+#[tactic(auto, unfolding(crate::specs::inside::Flat::recorder_of))]
 pub fn is_round(r: &Flat) -> bool
     ensures { result ≡ (recorder_of r.now).round }
 {
@@ -102,96 +106,71 @@ pub fn deep_power(r: &Flat, k: usize) -> u16
 }
 
 // What a job has in its column: its times, and 1 for each device that it uses.
+#[tactic(auto, unfolding(crate::specs::inside::Flat::job_number))]
 fn job_number(job: Job, row: usize) -> u16
     requires { row < 11 }
     ensures { result ≡ job_number job row }
 {
-    if row == 0 {
-        return job.release;
+    match row {
+        0 => job.release,
+        1 => job.deadline,
+        2 => job.run,
+        _ => u16::from(job.uses[row - 3]),
     }
-    if row == 1 {
-        return job.deadline;
-    }
-    if row == 2 {
-        return job.run;
-    }
-    job.uses[row - 3] as u16
 }
 
 // What a device has in its row.
+#[tactic(auto, unfolding(crate::specs::inside::Flat::device_number))]
 fn device_number(device: Device, column: usize) -> u16
     requires { column < 10 }
     ensures { result ≡ device_number device column }
 {
-    if column == 0 {
-        return device.shut as u16;
+    match column {
+        0 => u16::from(device.shut),
+        1 => u16::from(device.wake),
+        2 => device.pw,
+        3 => device.pd,
+        4 => device.pu,
+        5 => u16::from(device.levels),
+        _ => device.powers[column - 6],
     }
-    if column == 1 {
-        return device.wake as u16;
-    }
-    if column == 2 {
-        return device.pw;
-    }
-    if column == 3 {
-        return device.pd;
-    }
-    if column == 4 {
-        return device.pu;
-    }
-    if column == 5 {
-        return device.levels as u16;
-    }
-    device.powers[column - 6]
 }
 
 // Whether sleeps are numbered.
+#[tactic(auto, unfolding(crate::specs::inside::Flat::numbered))]
 fn is_numbered(sleeps: Sleeps) -> bool
     ensures { result ≡ numbered sleeps }
 {
-    match sleeps {
-        Sleeps::Plain => false,
-        Sleeps::Numbered => true,
-    }
+    matches!(sleeps, Sleeps::Numbered)
 }
 
 // What the recorder has in the last row: the horizon, the counts, 1 for a round, and 1 where sleeps are numbered.
+#[tactic(auto, unfolding(crate::specs::inside::Flat::own_number))]
 fn own_number(r: Recorder, column: usize) -> u16
     requires { Valid r }
     ensures { result ≡ own_number r column }
 {
-    if column == 0 {
-        return r.horizon;
+    match column {
+        0 => r.horizon,
+        1 => r.jobs.count as u16,
+        2 => r.devices.count as u16,
+        3 => u16::from(r.round),
+        _ => u16::from(is_numbered(r.sleeps)),
     }
-    if column == 1 {
-        return r.jobs.count as u16;
-    }
-    if column == 2 {
-        return r.devices.count as u16;
-    }
-    if column == 3 {
-        return r.round as u16;
-    }
-    let sleeps = r.sleeps;
-    is_numbered(sleeps) as u16
 }
 
 // The number that stands in a row and a column of the recorder laid flat.
+#[tactic(auto, unfolding(crate::specs::inside::Flat::number_of))]
 fn number_of(r: Recorder, row: usize, column: usize) -> u16
     requires { Valid r × ((row < 20) × (column < 16)) }
     ensures { result ≡ number_of r row column }
 {
-    if row < 11 {
-        let jobs = r.jobs;
-        return job_number(jobs.list[column], row);
+    match row {
+        0..11 => job_number(r.jobs.list[column], row),
+        11..19 if column < 10 => device_number(r.devices.list[row - 11], column),
+        11..19 => 0,
+        _ => own_number(r, column),
     }
-    if row < 19 {
-        if column < 10 {
-            let devices = r.devices;
-            return device_number(devices.list[row - 11], column);
-        }
-        return 0;
-    }
-    own_number(r, column)
 }
 
 pub fn flat_of(r: Recorder) -> Flat
@@ -199,10 +178,8 @@ pub fn flat_of(r: Recorder) -> Flat
     ensures { recorder_of result ≡ r }
 {
     let mut flat = [0u16; 320];
-    let mut i = 0;
-    while i < 320 {
-        flat[i] = number_of(r, i / 16, i % 16);
-        i += 1;
+    for (i, number) in flat.iter_mut().enumerate() {
+        *number = number_of(r, i / 16, i % 16);
     }
     flat
 }

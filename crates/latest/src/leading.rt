@@ -5,7 +5,6 @@ ghost use Rattle.flat.specs.inside.Flat.{recorder_of};
 ghost use Rattle.latest.specs.inside.Latest.{latest_of, Laid, Leads, Led};
 
 use crate::{Table, all_jobs, offered, power};
-use base::later;
 use flat::{Flat, job_count, release_of, run_of};
 
 // The job that goes first, of the set m from time t on.
@@ -13,19 +12,12 @@ fn first_job(r: &Flat, table: &Table, t: u16, m: usize) -> usize
     requires { Valid (recorder_of r.now) × (Laid (recorder_of r.now) table.now × ((0 < m) × ((m < 2 ^ jobs (recorder_of r.now)) × (t < latest_of (recorder_of r.now) m)))) }
     ensures { Leads (recorder_of r.now) t m result }
 {
-    let n = job_count(r);
-    let mut rest = m;
-    let mut p: usize = 1;
-    let mut j: usize = 0;
-    while j < n {
-        if t < offered(r, table, m, p, rest, j, 0) {
+    for j in 0..job_count(r) {
+        if t < offered(r, table, m, j, 0) {
             return j;
         }
-        rest = rest / 2;
-        p = p * 2;
-        j += 1;
     }
-    j
+    unreachable!()
 }
 
 // Writes the starts of the first run of all jobs into the lent list, by job number.
@@ -37,7 +29,7 @@ pub fn lay_starts(r: &Flat, table: &Table, starts: &mut [u16])
     let mut m = all_jobs(r);
     while 0 < m {
         let j = first_job(r, table, t, m);
-        let s = later(t, release_of(r, j));
+        let s = t.max(release_of(r, j));
         starts[j] = s;
         t = s + run_of(r, j);
         m = m - power(j);

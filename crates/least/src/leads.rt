@@ -1,12 +1,11 @@
 // By how much the rest may fall from one start of a job to the next; how long a vertex waits.
-ghost use Rattle.std.specs.Prelude.{◌≡◌, cond, ◌+◌, ◌-◌, ◌<◌, ◌≤◌};
+ghost use Rattle.std.specs.Prelude.{◌≡◌, cond, ◌+◌, ◌<◌, ◌≤◌, IfSome};
 ghost use Rattle.schedule.specs.Quantities.{uses};
 ghost use Rattle.flat.specs.inside.Flat.{recorder_of};
 ghost use Rattle.vertex.specs.inside.Shown.{unused};
 ghost use Rattle.extras.specs.inside.Tabled.{Tabled, rise_at, fall_at};
 ghost use Rattle.least.specs.inside.Shown.{falls_by, Ordered};
 
-use base::{smaller, wide};
 use extras::{cap_of, fall_of, rise_of};
 use flat::{Flat, device_count, horizon_of, is_round, is_used};
 use vertex::cells::Cells;
@@ -17,13 +16,13 @@ fn fall_with(r: &Flat, extras: &[u32], round: bool, k: usize, j: usize, end: u32
     requires { Tabled (recorder_of r.now) extras.now × ((k < (recorder_of r.now).devices.count) × (j < 16)) }
     ensures { (result ≡ cond (uses (recorder_of r.now) k j) (cond (unused round end) (rise_at extras.now k + fall_at extras.now k) (rise_at extras.now k)) 0) × (result ≤ 536862720) }
 {
-    if is_used(r, k, j) {
-        if is_unused(round, end) {
-            return rise_of(extras, k) + fall_of(extras, k);
-        }
-        return rise_of(extras, k);
+    if !is_used(r, k, j) {
+        0
+    } else if is_unused(round, end) {
+        rise_of(extras, k) + fall_of(extras, k)
+    } else {
+        rise_of(extras, k)
     }
-    0
 }
 
 // By how much all devices can.
@@ -32,31 +31,23 @@ pub fn falls_of(r: &Flat, extras: &[u32], v: &Cells, j: usize) -> u32
     ensures { result ≡ falls_by (recorder_of r.now) (rise_at extras.now) (fall_at extras.now) v.now j }
 {
     let round = is_round(r);
-    let m = device_count(r);
-    let mut sum: u32 = 0;
-    let mut k: usize = 0;
-    while k < m {
+    let mut sum = 0;
+    for k in 0..device_count(r) {
         sum += fall_with(r, extras, round, k, j, v[k]);
-        k += 1;
     }
     sum
 }
 
-// The sooner of `until` and the time at which device k, last used up to `end`, has been idle as long as its cap, if that is still to come.
-fn wait_with(cap: u32, unused: bool, end: u32, ahead: u32, time: u32, until: u32) -> u32
-    requires { (cap ≤ 4096) × ((end ≤ 4096) × (time < until)) }
-    ensures { time < result }
+// When a device, last used up to `end`, has been idle as long as its cap, if it is there and that is still to come.
+fn capped_at(cap: u32, unused: bool, end: u32, ahead: u32, time: u32) -> Option<u32>
+    requires { (cap ≤ 4096) × (end ≤ 4096) }
+    ensures { IfSome result (λ t. time < t) }
 {
-    if ahead == 0 {
-        return until;
+    if ahead == 0 || unused || end + cap <= time {
+        None
+    } else {
+        Some(end + cap)
     }
-    if unused {
-        return until;
-    }
-    if end + cap <= time {
-        return until;
-    }
-    smaller(until, end + cap)
 }
 
 // Up to which time a vertex looks at starts itself; from there on it is the same vertex at that time. It is when one more device has reached its cap; with all there,
@@ -66,22 +57,13 @@ pub fn wait_of(r: &Flat, extras: &[u32], v: &Cells, time: u32) -> u32
     ensures { (result ≤ (recorder_of r.now).horizon) × (result < (recorder_of r.now).horizon → time < result) }
 {
     let round = is_round(r);
-    let m = device_count(r);
-    let mut until: u32 = 8192;
-    let mut k: usize = 0;
-    while k < m {
-        until = wait_with(
-            cap_of(extras, k),
-            is_unused(round, v[k]),
-            v[k],
-            v[16 + k],
-            time,
-            until,
-        );
-        k += 1;
+    let mut until: Option<u32> = None;
+    for k in 0..device_count(r) {
+        let unused = is_unused(round, v[k]);
+        if let Some(t) = capped_at(cap_of(extras, k), unused, v[k], v[16 + k], time) {
+            until = Some(until.map_or(t, |sooner| sooner.min(t)));
+        }
     }
-    if until == 8192 {
-        until = (time / 32 + 1) * 32;
-    }
-    smaller(until, wide(horizon_of(r)))
+    let until = until.unwrap_or((time / 32 + 1) * 32);
+    until.min(u32::from(horizon_of(r)))
 }

@@ -37,8 +37,7 @@ pub fn look(memory: &[u64], q: Key) -> Spot
     let from = 4 * row_of(q, rows);
     let mut slot = from;
     let mut least: u64 = 8;
-    let mut i = from;
-    while i < from + 4 {
+    for i in from..from + 4 {
         if is_at(memory, i, q) {
             return Spot {
                 slot: i,
@@ -50,7 +49,6 @@ pub fn look(memory: &[u64], q: Key) -> Spot
             least = effort;
             slot = i;
         }
-        i += 1;
     }
     Spot { slot, known: 0 }
 }
@@ -59,13 +57,7 @@ pub fn look(memory: &[u64], q: Key) -> Spot
 fn effort_of(entered: u32) -> u64
     ensures { result < 8 }
 {
-    let mut x = entered;
-    let mut effort: u64 = 0;
-    while 4 <= x && effort < 7 {
-        x = x / 4;
-        effort += 1;
-    }
-    effort
+    u64::from((entered.max(1).ilog2() / 2).min(7))
 }
 
 // What is known of a vertex once `best` is worked out for a limit.

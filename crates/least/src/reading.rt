@@ -194,11 +194,9 @@ fn read_off(
 fn lift_of(extras: &[u32]) -> u32
     requires { 40 ≤ length extras.now }
 {
-    let mut most: u32 = 0;
-    let mut k: usize = 0;
-    while k < 8 {
-        most = larger(most, rise_of(extras, k));
-        k += 1;
+    let mut most = 0;
+    for k in 0..8 {
+        most = most.max(rise_of(extras, k));
     }
     most % 268435456 * 8
 }

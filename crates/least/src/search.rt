@@ -47,11 +47,7 @@ fn raised(slack: u32, lift: u32) -> u32
 fn is_enough(known: u32, slack: u32) -> bool
     ensures { result ≡ (eqb (known % 2) 1 || leb slack (known / 2)) }
 {
-    if known % 2 == 1 {
-        true
-    } else {
-        slack <= known / 2
-    }
+    known % 2 == 1 || slack <= known / 2
 }
 
 // One more than the last start of job j after which the jobs of the set can still be run; 0 where there is none.

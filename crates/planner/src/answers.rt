@@ -1,10 +1,11 @@
 // The answers, each made in one place.
 ghost use Rattle.std.specs.Prelude.{◌≡◌};
 ghost use Rattle.planner.specs.Promises as Promises;
+ghost use Rattle.planner.specs.inside.Found.{answer_in};
 
 use crate::Answer;
 use base::JobNumber;
-use visit::Found;
+use visit::{Found, Unfound};
 
 pub fn success(horizon: u16, energy: u32, count: u32) -> Answer
     ensures { result ≡ Promises.success horizon energy count }
@@ -57,11 +58,11 @@ pub fn refusal_after(number: u8, count: u32) -> Answer
 }
 
 // The answer of a search, by what it found.
-pub fn answer_of(horizon: u16, found: Found) -> Answer
-    ensures { ((found.number ≡ 0 → ⊥) → result ≡ Promises.refusal_after found.number found.count) × (found.number ≡ 0 → result ≡ Promises.success horizon found.energy found.count) }
+pub fn answer_of(horizon: u16, found: Result<Found, Unfound>) -> Answer
+    ensures { result ≡ answer_in horizon found }
 {
-    if found.number != 0 {
-        return refusal_after(found.number, found.count);
+    match found {
+        Ok(f) => success(horizon, f.energy, f.count),
+        Err(f) => refusal_after(f.reason.number(), f.count),
     }
-    success(horizon, found.energy, found.count)
 }

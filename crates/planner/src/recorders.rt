@@ -45,9 +45,8 @@ pub fn verdict_of(r: Recorder, starts: &[u16]) -> Answer
     if starts.len() != r.jobs.count {
         return refusal(14);
     }
-    let verdict = judge(r, starts);
-    if verdict.number != 0 {
-        return refusal_at(verdict.number, verdict.job);
+    if let Err(fault) = judge(r, starts) {
+        return refusal_at(fault.reason.number(), fault.job);
     }
     let energy = plan_energy(r, starts);
     success(r.horizon, energy, 0)
@@ -65,9 +64,8 @@ pub fn rows_of(r: Recorder, starts: &[u16], out: &mut [u8]) -> Answer
     if out.len() < r.devices.count * h {
         return refusal(15);
     }
-    let judged = judge(r, starts);
-    if judged.number != 0 {
-        return refusal_at(judged.number, judged.job);
+    if let Err(misplaced) = judge(r, starts) {
+        return refusal_at(misplaced.reason.number(), misplaced.job);
     }
     let total = write_rows(r, starts, out);
     success(r.horizon, total, 0)

@@ -5,17 +5,19 @@ use mathlib.Core.Option.{Option, none, some}
 use mathlib.Core.List.{List}
 use Prim.Native.Nat.{ℕ, zero, suc}
 use native.Mathlib.Omega.{arith}
+use Rattle.std.specs.Prelude.{Result}
 use Rattle.base.proofs.Cases.{test_cases}
 use Rattle.schedule.specs.declared.Recorder.{Recorder}
 use Rattle.schedule.specs.Quantities.{jobs, Valid}
 use Rattle.schedule.specs.Visiting.{Vertex, Visited, counted, root, choices, cut_a, cut_b, better, complete, examine}
 use Rattle.visit.specs.declared.Found.{Found}
+use Rattle.visit.specs.declared.Unfound.{Unfound}
 use Rattle.visit.specs.inside.Stops.{unless_ended, visit_by, visited_by}
 use Rattle.visit.specs.inside.Lent.{Finds}
 use Rattle.visit.specs.inside.Lent as Visit
 use Rattle.visit.proofs.Stopping.{choices_same}
-use Rattle.planner.specs.declared.Answer.{Answer}
-use Rattle.planner.specs.Promises.{success, refusal_after, stops, gives_such}
+use Rattle.planner.specs.inside.Found.{answer_in}
+use Rattle.planner.specs.Promises.{stops, gives_such}
 use Rattle.planner.proofs.Refusing.{unless_enough, unless_some}
 use Rattle.possible.specs.TillFound.{unless_found, found, enter, visit_till_found, visited_till_found}
 use Rattle.possible.specs.inside.Bare.{Bare}
@@ -51,7 +53,7 @@ module _ (R : Recorder) where
 
 -- ---- the answer
 
--- f and l are what the search without devices found, and a is the answer that is made of it.
+-- f and l are what the search without devices found.
 module _ (R : Recorder) (valid : Valid R) (Q : Recorder) (bare : Bare R Q) (budget : ℕ) (lent : List ℕ) where
   visited_is : visited_by Q true ≡ visited_till_found R
   visited_is = visited_till Q ∙ visited_same R Q bare
@@ -62,17 +64,13 @@ module _ (R : Recorder) (valid : Valid R) (Q : Recorder) (bare : Bare R Q) (budg
   best_is : (o : Option (List ℕ)) → (visited_by Q true).best ≡ o → (visited_till_found R).best ≡ o
   best_is o e = ap (λ (w : Visited). w.best) (sym visited_is) ∙ e
 
-  pub first_is :
-      (f : Found) (l : List ℕ) (a : Answer) → Finds Q (visited_by Q true) budget lent f l
-      → ((f.number ≡ 0 → ⊥) → a ≡ refusal_after f.number f.count) × (f.number ≡ 0 → a ≡ success R.horizon f.energy f.count)
-      → PossibleOf budget lent R a l
-  first_is f l a (Visit.Finds.short q) is = rw (is.0 (λ z. omega (arith, z))) (stops (omega (arith, q, bare.count)))
-  first_is f l a (Visit.Finds.beyond room q) is =
-      rw (is.0 (λ z. omega (arith, z))) (unless_enough (omega (arith, room, bare.count)) (stops (omega (arith, q, count_is))))
-  first_is f l a (Visit.Finds.nowhere room covered q) is =
-      rw (is.0 (λ z. omega (arith, z)), count_is)
+  pub first_is : (f : Result Found Unfound) (l : List ℕ) → Finds Q (visited_by Q true) budget lent f l → PossibleOf budget lent R (answer_in R.horizon f) l
+  first_is f l (Visit.Finds.short q) = stops (omega (arith, q, bare.count))
+  first_is f l (Visit.Finds.beyond room q) = unless_enough (omega (arith, room, bare.count)) (stops (omega (arith, q, count_is)))
+  first_is f l (Visit.Finds.nowhere room covered q) =
+      rw count_is
       (unless_enough (omega (arith, room, bare.count)) (unless_enough (omega (arith, covered, count_is)) (stops (found_none R valid (best_is none q)))))
-  first_is f l a (Visit.Finds.found {s = s} room covered q) is =
+  first_is f l (Visit.Finds.found {s = s} room covered q) =
       let first = found_first R valid s (best_is (some s) q) in
-      rw (is.1 refl, bare_energy R Q bare s, count_is, bare.count)
+      rw (bare_energy R Q bare s, count_is, bare.count)
       (unless_enough (omega (arith, room, bare.count)) (unless_enough (omega (arith, covered, count_is)) (unless_some first.feasible (gives_such first))))

@@ -16,10 +16,8 @@ fn idle_job(job: Job) -> Job
     ensures { result ≡ idle_job job }
 {
     Job {
-        release: job.release,
-        deadline: job.deadline,
-        run: job.run,
         uses: [false; 8],
+        ..job
     }
 }
 
@@ -28,22 +26,13 @@ fn without_devices(r: Recorder) -> Recorder
     requires { Valid r }
     ensures { Bare r result }
 {
-    let sleeps = r.sleeps;
     let mut devices = r.devices;
     devices.count = 0;
     let mut jobs = r.jobs;
-    let mut j: usize = 0;
-    while j < 16 {
+    for j in 0..16 {
         jobs.list[j] = idle_job(jobs.list[j]);
-        j += 1;
     }
-    Recorder {
-        horizon: r.horizon,
-        round: r.round,
-        sleeps,
-        devices,
-        jobs,
-    }
+    Recorder { devices, jobs, ..r }
 }
 
 // The first schedule of a recorder.

@@ -2,7 +2,8 @@
 use mathlib.Core.Path.{◌≡◌, refl, sym, subst}
 use mathlib.Core.List.{List}
 use mathlib.Core.Option.{Option, none, some}
-use mathlib.Core.Logic.{inl, inr, ⊎_elim}
+use mathlib.Core.Logic.{inl, inr}
+use Rattle.std.proofs.lemmas.Option.{IfSome_then}
 use Prim.Native.Nat.{ℕ, suc, ◌+◌, ◌<◌}
 use native.Mathlib.Omega.{arith}
 use Rattle.schedule.specs.declared.Recorder.{Recorder}
@@ -41,10 +42,8 @@ module _ (R : Recorder) (ex l : List ℕ) (tabled : Tabled R ex) (a time : ℕ) 
   looked_asks memory right slack q q-is spot looked =
       record {
         key = q-is;
-        told = λ some_Known m u h t st s. ⊎_elim
-            (λ (z : spot.count ≡ 0). absurd (omega arith))
-            (λ (c : Counts R (cap_at ex) q spot.count). c some_Known (key_by R (cap_at ex) l a time) slack q-is m u h.reached (shown_named (suc m) u h t) st s)
-            (right_looked (Counts R (cap_at ex)) memory right q spot looked);
+        told = IfSome_then spot.count (right_looked (Counts R (cap_at ex)) memory right q spot looked)
+            (λ n c m u h t st s. c.1 c.0 (key_by R (cap_at ex) l a time) slack q-is m u h.reached (shown_named (suc m) u h t) st s);
       }
 
   -- What is seen of one vertex may be kept.

@@ -1,7 +1,9 @@
 -- The memory stays right: what is found of a key has P, and an entry may be written that has it.
 use mathlib.Core.Path.{◌≡◌, refl, ◌∙◌, subst}
 use mathlib.Core.List.{List}
-use mathlib.Core.Logic.{◌⊎◌, inl, inr, by_cases}
+use mathlib.Core.Logic.{by_cases}
+use Rattle.std.specs.Prelude.{IfSome}
+use Rattle.std.proofs.lemmas.Option.{IfSome_then}
 use Prim.Native.Nat.{ℕ, ◌+◌, ◌*◌, ◌%◌, ◌≤◌, ◌<◌}
 use native.Mathlib.Nat.{add-zero}
 use native.Mathlib.Omega.{arith}
@@ -130,12 +132,8 @@ module _ (P : Key → ℕ → Type 0) (l : List ℕ) where
   unfolding Right
   found right q i n fits k e = subst (λ (z : ℕ). P q z) e (subst (λ (z : Key). P z (count_at l i)) k (right i fits))
 
-  pub right_looked : Right P l → (q : Key) (r : Spot) → Looked l q r → (r.count ≡ 0) ⊎ P q r.count
-  right_looked right q r h = go h.known
-    where
-      go : (r.count ≡ 0) ⊎ ((6 * r.slot + 6 ≤ length l) × (key_at l r.slot ≡ q) × (count_at l r.slot ≡ r.count)) → (r.count ≡ 0) ⊎ P q r.count
-      go (inl e) = inl e
-      go (inr p) = inr (found right q r.slot r.count p.0 p.1 p.2)
+  pub right_looked : Right P l → (q : Key) (r : Spot) → Looked l q r → IfSome r.count (λ n. (0 < n) × P q n)
+  right_looked right q r h = IfSome_then r.count h.known (λ n k. (k.0, found right q r.slot n k.1 k.2 k.3))
 
   -- An entry that has P written.
   right_wrote : Right P l → (q : Key) (i n : ℕ) → 6 * i + 6 ≤ length l → n < 4294967296 → P q n → Right P (wrote l i q n)

@@ -13,12 +13,12 @@ use stored::Key;
 use stored::naming::key_of;
 use vertex::cells::Cells;
 
-// The key of a vertex with its slack, the place that it has, and how many vertices are counted below: 0 where that is not known.
+// The key of a vertex with its slack, the place that it has, and how many vertices are counted below, where that is known.
 #[derive(Clone, Copy)]
 pub struct Asked {
     pub key: Key,
     pub slot: usize,
-    pub count: u32,
+    pub count: Option<u32>,
 }
 
 pub fn ask(
@@ -34,10 +34,6 @@ pub fn ask(
     ensures { Asks (recorder_of r.now) (cap_at extras.now) v.now set time slack result }
 {
     let key = slacked(key_of(r, extras, v, set, time), slack);
-    let spot = look(memory, key);
-    Asked {
-        key,
-        slot: spot.slot,
-        count: spot.count,
-    }
+    let Spot { slot, count } = look(memory, key);
+    Asked { key, slot, count }
 }

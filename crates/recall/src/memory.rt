@@ -10,11 +10,11 @@ const TWO29: u64 = 536870912;
 
 const TWO32: u64 = 4294967296;
 
-// A place for a key, and how many vertices are counted below a vertex with it: 0 where that is not known.
+// A place for a key, and how many vertices are counted below a vertex with it, where that is known.
 #[derive(Clone, Copy)]
 pub struct Spot {
     pub slot: usize,
-    pub count: u32,
+    pub count: Option<u32>,
 }
 
 // The key with its slack, which stands above the 29 bits of the head.
@@ -24,10 +24,7 @@ pub fn slacked(q: Key, slack: u32) -> Key
 {
     Key {
         head: q.head + TWO29 * slack as u64,
-        idle: q.idle,
-        idle4: q.idle4,
-        first: q.first,
-        first4: q.first4,
+        ..q
     }
 }
 
@@ -46,16 +43,22 @@ pub fn look(memory: &[u64], q: Key) -> Spot
 {
     let entries = memory.len() / 6;
     if entries == 0 {
-        return Spot { slot: 0, count: 0 };
+        return Spot {
+            slot: 0,
+            count: None,
+        };
     }
     let slot = row_of(q, entries);
     if is_at(memory, slot, q) {
-        return Spot {
-            slot,
-            count: (memory[6 * slot + 5] % TWO32) as u32,
-        };
+        let count = (memory[6 * slot + 5] % TWO32) as u32;
+        if 0 < count {
+            return Spot {
+                slot,
+                count: Some(count),
+            };
+        }
     }
-    Spot { slot, count: 0 }
+    Spot { slot, count: None }
 }
 
 // Writes entry i, if there is room for it.

@@ -1,5 +1,5 @@
 -- For callers: what a file that is accepted guarantees, and what is handed on of a reading.
-use mathlib.Core.Path.{◌≡◌, refl, sym, ap, subst, ◌∙◌}
+use mathlib.Core.Path.{◌≡◌, sym, ap, subst, ◌∙◌}
 use mathlib.Core.Bool.{false}
 use mathlib.Core.List.{List}
 use mathlib.Core.Logic.{◌⊎◌, ⊎_elim}
@@ -18,14 +18,13 @@ use Rattle.base.proofs.Records.{first_each}
 use Rattle.device.specs.Row.{Sound, power_at}
 use Rattle.schedule.specs.declared.Recorder.{Recorder}
 use Rattle.schedule.specs.Quantities.{no_job, no_device, Valid}
-use Rattle.request.specs.declared.Request.{Request}
 use Rattle.request.specs.declared.Section.TheVariants.{DeviceRecords}
 use Rattle.tables.specs.declared.Kind.{Kind}
 use Rattle.tables.specs.declared.DeviceRecord.{DeviceRecord}
 use Rattle.tables.specs.Records.{device_at}
 use Rattle.tables.specs.Layout.{marker, kind_of, body_of, device_place, task_count, tasks_place, jobs_place}
 use Rattle.tables.proofs.Back.{mark_front}
-use Rattle.request.specs.Format.{Reading, refused, accepted, device_of, no_lower, powers_table, device_table, size_of, record_fault, horizon_of, jobs_of, count_of, fault_as, horizon_in, devices_in, jobs_in, vacant_device, vacant_job, recorder_as, read_as, read_of, handed_on}
+use Rattle.request.specs.Format.{refused, accepted, device_of, no_lower, powers_table, device_table, size_of, record_fault, horizon_of, jobs_of, count_of, fault_as, horizon_in, devices_in, jobs_in, vacant_device, vacant_job, recorder_as, read_as, read_of}
 use Rattle.request.proofs.Checked.{device_clear}
 use Rattle.request.proofs.Faultless.{Faultless, faultless, length_jobs, jobs_end, device_most, place_most}
 use Rattle.request.proofs.Fitting.{Fits, listed_fit, unfolded_fit}
@@ -162,32 +161,3 @@ longest k = length (marker k) + (117 + 8 * device_most k)
 pub accepted_short : (s : List ℕ) (R : Recorder) → read_of s ≡ accepted R → length s ≤ longest (kind_of s)
 unfolding read_of
 accepted_short s R e = omega (arith, short_as (kind_of s) (body_of s) R e, length-append (marker (kind_of s)) (body_of s), ap length (mark_front s))
-
--- ---- what is handed on
-
--- A reading that is refused has another number than 0.
-handed_zero : (w : Reading) (r : Request) → ((n : ℕ) → w ≡ refused n → n ≡ 0 → ⊥) → r ≡ handed_on w → r.number ≡ 0 → w ≡ accepted r.recorder
-unfolding handed_on
-handed_zero (refused n) r pos e z = absurd (pos n refl (cc))
-handed_zero (accepted R) r pos e z = cc
-
-handed_other : (w : Reading) (r : Request) → r ≡ handed_on w → (r.number ≡ 0 → ⊥) → w ≡ refused r.number
-unfolding handed_on
-handed_other (refused n) r e h = cc
-handed_other (accepted R) r e h = absurd (h (cc))
-
--- Number 0 says that the file is accepted, with the recorder; any other is its refusal.
-module _ (k : Kind) (s : List ℕ) (r : Request) (e : r ≡ handed_on (read_as k s)) where
-  pub accepted_by : r.number ≡ 0 → read_as k s ≡ accepted r.recorder
-  accepted_by z = handed_zero (read_as k s) r (λ n q. (refused_as k s n q).1) e z
-
-  pub refused_by : (r.number ≡ 0 → ⊥) → read_as k s ≡ refused r.number
-  refused_by h = handed_other (read_as k s) r e h
-
-module _ (s : List ℕ) (r : Request) (e : r ≡ handed_on (read_of s)) where
-  pub read_accepted : r.number ≡ 0 → read_of s ≡ accepted r.recorder
-  unfolding read_of
-  read_accepted z = accepted_by (kind_of s) (body_of s) r e z
-
-  pub read_refused : (r.number ≡ 0 → ⊥) → read_of s ≡ refused r.number
-  read_refused h = handed_other (read_of s) r e h

@@ -1,8 +1,10 @@
 -- The request file (rules 8 to 15, 75 to 77 and 80 to 83): from a list of bytes to the recorder, or to its refusal, one of the numbers 1 to 13 or 26. The bytes are looked at in their
 -- order, and whatever is wrong first gives the number: each section takes the place where it begins, and goes on with the next.
-use Rattle.std.specs.Prelude.{ℕ, zero, suc, ◌+◌, ◌-◌, ◌*◌, ◌/◌, ◌%◌, ◌^◌, List, [], ◌∷◌, ◌++◌, Bool, false, cond, not, ◌&&◌, ◌||◌, length, replicate, ltb, leb, eqb}
+use Rattle.std.specs.Prelude.{ℕ, zero, suc, ◌+◌, ◌-◌, ◌*◌, ◌/◌, ◌%◌, ◌^◌, List, [], ◌∷◌, ◌++◌, Bool, false, cond, not, ◌&&◌, ◌||◌, length, replicate, ltb, leb, eqb, Result, Ok, Err}
 use Rattle.base.specs.Bytes.{byte_at, pair_at}
 use Rattle.base.specs.Lists.{up_to, padded}
+use Rattle.base.specs.declared.reasons.Reason.{Reason}
+use Rattle.base.specs.Reasons.{number_of}
 use Rattle.base.specs.Refusals.{Refusal, ◌⇒◌, first_that, or_else, first_of}
 use Rattle.device.specs.declared.Device.{Device}
 use Rattle.device.specs.declared.Sleeps.{Sleeps}
@@ -18,7 +20,6 @@ use Rattle.tables.specs.declared.TaskRecord.{TaskRecord}
 use Rattle.tables.specs.declared.JobRecord.{JobRecord}
 use Rattle.tables.specs.Records.{device_at, device_size, task_at, job_at}
 use Rattle.tables.specs.Layout.{kind_of, body_of, device_place, tasks_place, task_count, jobs_place}
-use Rattle.request.specs.declared.Request.{Request}
 use Rattle.request.specs.declared.Section.{Section}
 use Rattle.request.specs.declared.Section.TheVariants.{DeviceRecords, TaskRecords, JobRecords}
 use Rattle.request.specs.Euclid.{lcm_of}
@@ -254,10 +255,7 @@ recorder_in s = recorder_as (kind_of s) (body_of s)
 unfoldable pub read_of : List ℕ → Reading
 read_of s = read_as (kind_of s) (body_of s)
 
--- What the code hands on of a reading: its number, with the recorder or an empty one.
-abbrev pub no_recorder : Recorder
-no_recorder = record { horizon = 0; round = false; sleeps = Plain; devices = devices_held []; jobs = jobs_held [] }
-
-unfoldable pub handed_on : Reading → Request
-handed_on (refused n) = record { number = n; recorder = no_recorder }
-handed_on (accepted R) = record { number = 0; recorder = R }
+-- The reading that the code gives: a recorder, or the reason of the refusal.
+abbrev pub reading_in : Result Recorder Reason → Reading
+reading_in (Ok R) = accepted R
+reading_in (Err e) = refused (number_of e)

@@ -11,12 +11,13 @@ mod sections; // sections.rt: the sections in turn, and the first fault
 
 ghost use Rattle.std.specs.Prelude.{◌≡◌, ◌≤◌, length, drop};
 ghost use Rattle.tables.specs.Layout.{marker};
-ghost use Rattle.request.specs.Format.{read_as, read_of, handed_on};
+ghost use Rattle.request.specs.Format.{read_as, read_of, reading_in};
 
 pub use crate::checks::{head_of, record_fault, size_of};
 pub use crate::horizon::horizon_of;
 pub use crate::records::device_of;
 pub use crate::sections::{is_mixed, job_count};
+use base::Reason;
 use schedule::Recorder;
 use tables::Kind;
 
@@ -28,24 +29,17 @@ pub enum Section {
     JobRecords(usize, u32),
 }
 
-// What reading a file gives: its refusal number with an empty recorder, or 0 and the recorder.
-#[derive(Clone, Copy)]
-pub struct Request {
-    pub number: u8,
-    pub recorder: Recorder,
-}
-
 // Reads a file of whatever bytes, by its own kind.
-pub fn read(s: &[u8]) -> Request
-    ensures { result ≡ handed_on (read_of s.now) }
+pub fn read(s: &[u8]) -> Result<Recorder, Reason>
+    ensures { reading_in result ≡ read_of s.now }
 {
     read_by(s, tables::kind_of(s))
 }
 
 // Reads a file by a kind, whatever its first bytes say: what stands in the place of the mark is passed over.
-pub fn read_by(s: &[u8], kind: Kind) -> Request
+pub fn read_by(s: &[u8], kind: Kind) -> Result<Recorder, Reason>
     requires { length (marker kind) ≤ length s.now }
-    ensures { result ≡ handed_on (read_as kind (drop (length (marker kind)) s.now)) }
+    ensures { reading_in result ≡ read_as kind (drop (length (marker kind)) s.now) }
 {
     let from = tables::marker_size(kind);
     read_as(&s[from..], kind)
@@ -53,18 +47,9 @@ pub fn read_by(s: &[u8], kind: Kind) -> Request
 
 // Reads what follows the mark of a file of a kind. A first pass looks for a fault; only a file without one is laid out, so that no loop carries both a fault and
 // an array.
-fn read_as(s: &[u8], kind: Kind) -> Request
-    ensures { result ≡ handed_on (read_as kind s.now) }
+fn read_as(s: &[u8], kind: Kind) -> Result<Recorder, Reason>
+    ensures { reading_in result ≡ read_as kind s.now }
 {
-    let number = sections::fault_of(s, kind);
-    if number == 0 {
-        let recorder = recorders::recorder_in(s, kind);
-        Request {
-            number: 0,
-            recorder,
-        }
-    } else {
-        let recorder = recorders::no_recorder();
-        Request { number, recorder }
-    }
+    sections::fault_of(s, kind)?;
+    Ok(recorders::recorder_in(s, kind))
 }

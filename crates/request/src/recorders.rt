@@ -3,7 +3,7 @@ ghost use Rattle.std.specs.Prelude.{◌≡◌, [], ℕ, ◌≤◌, length};
 ghost use Rattle.base.specs.Lists.{up_to};
 ghost use Rattle.tables.specs.Records.{device_at};
 ghost use Rattle.tables.specs.Layout.{device_place};
-ghost use Rattle.request.specs.Format.{device_of, devices_held, sleeps_in, fault_as, recorder_as, no_recorder};
+ghost use Rattle.request.specs.Format.{device_of, devices_held, sleeps_in, fault_as, recorder_as};
 
 use super::{horizon, jobs, records};
 use device::{Device, Sleeps};
@@ -48,8 +48,7 @@ fn sleeps_in(kind: Kind) -> Sleeps
     ensures { result ≡ sleeps_in kind }
 {
     match kind {
-        Kind::First => Sleeps::Plain,
-        Kind::Second => Sleeps::Plain,
+        Kind::First | Kind::Second => Sleeps::Plain,
         Kind::Third => Sleeps::Numbered,
     }
 }
@@ -69,21 +68,6 @@ pub(crate) fn recorder_in(s: &[u8], kind: Kind) -> Recorder
         horizon: h as u16,
         round: 0 < tasks,
         sleeps: sleeps_in(kind),
-        devices,
-        jobs,
-    }
-}
-
-// What is handed on with a refusal.
-pub(crate) fn no_recorder() -> Recorder
-    ensures { result ≡ no_recorder }
-{
-    let devices = no_devices();
-    let jobs = jobs::no_jobs();
-    Recorder {
-        horizon: 0,
-        round: false,
-        sleeps: Sleeps::Plain,
         devices,
         jobs,
     }

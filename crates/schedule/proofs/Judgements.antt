@@ -9,14 +9,16 @@ use native.Mathlib.Omega.{arith}
 use lib.Dec.{ltb, eqb}
 use lib.ListN.{length}
 use borrow.Author.Tests.{ltb-true, ltb-false, eqb-true, eqb-false}
+use Rattle.base.specs.declared.reasons.Reason.{Reason}
+use Rattle.base.specs.Reasons.{number_of}
 use Rattle.base.proofs.Cases.{cond_cases}
+use Rattle.base.proofs.Numbered.{some_number}
 use Rattle.device.specs.declared.Sleeps.TheVariants.{Plain}
 use Rattle.schedule.specs.declared.Jobs.{Jobs}
 use Rattle.schedule.specs.declared.Recorder.{Recorder}
-use Rattle.schedule.specs.declared.judging.Verdict.{Verdict}
 use Rattle.schedule.specs.Quantities.{jobs, release, deadline, run}
 use Rattle.schedule.specs.Listing.{start, Released, InTime, Runs, Feasible, Overlaps, Met, Fault, early, late, overlap}
-use Rattle.schedule.specs.inside.Judging.{Judgement, faulty, feasible, Windows, missed, met, window_fault, clashes, Decides, holds, fails}
+use Rattle.schedule.specs.inside.Judging.{window_fault, clashes, Decides, holds, fails}
 
 -- A recorder of these jobs: what a loop over them says of it, it says of every recorder that holds them.
 abbrev pub holding : Jobs → Recorder
@@ -33,14 +35,14 @@ denied (fails n) e = n
 
 module _ (R : Recorder) (s : List ℕ) where
   -- One job's own fault, and none.
-  pub window_missed : (j n : ℕ) → j < jobs R → Met R s j → n ≡ window_fault (release R j) (deadline R j) (run R j) (start s j) → (n ≡ 0 → ⊥) → Fault R s n j
+  pub window_missed : (j : ℕ) (e : Reason) → j < jobs R → Met R s j → number_of e ≡ window_fault (release R j) (deadline R j) (run R j) (start s j) → Fault R s (number_of e) j
   unfolding window_fault
-  window_missed j n l m =
-      cond_cases (λ (w : ℕ). n ≡ w → (n ≡ 0 → ⊥) → Fault R s n j) (ltb (start s j) (release R j))
-      (λ q e ne. subst (λ (w : ℕ). Fault R s w j) (sym e) (early l m (ltb-true (start s j) (release R j) q)))
-      (λ q. cond_cases (λ (w : ℕ). n ≡ w → (n ≡ 0 → ⊥) → Fault R s n j) (ltb (deadline R j) (start s j + run R j))
-      (λ p e ne. subst (λ (w : ℕ). Fault R s w j) (sym e) (late l m (ltb-false (start s j) (release R j) q) (ltb-true (deadline R j) (start s j + run R j) p)))
-      (λ p e ne. absurd (ne e)))
+  window_missed j e l m =
+      cond_cases (λ (w : ℕ). number_of e ≡ w → Fault R s (number_of e) j) (ltb (start s j) (release R j))
+      (λ q i. subst (λ (w : ℕ). Fault R s w j) (sym i) (early l m (ltb-true (start s j) (release R j) q)))
+      (λ q. cond_cases (λ (w : ℕ). number_of e ≡ w → Fault R s (number_of e) j) (ltb (deadline R j) (start s j + run R j))
+      (λ p i. subst (λ (w : ℕ). Fault R s w j) (sym i) (late l m (ltb-false (start s j) (release R j) q) (ltb-true (deadline R j) (start s j + run R j) p)))
+      (λ p i. absurd (omega (arith, some_number e, i))))
 
   pub window_met : (j : ℕ) → 0 ≡ window_fault (release R j) (deadline R j) (run R j) (start s j) → Released R s j × InTime R s j
   unfolding window_fault
@@ -51,19 +53,11 @@ module _ (R : Recorder) (s : List ℕ) where
       (λ p e. absurd (omega arith))
       (λ p e. (ltb-false (start s j) (release R j) q, ltb-false (deadline R j) (start s j + run R j) p)))
 
-  -- No fault has the number 0, so the number tells the two cases apart.
+  -- No fault has the number 0.
   pub fault_some : {n j : ℕ} → Fault R s n j → n ≡ 0 → ⊥
   fault_some (early l m h) e = omega arith
   fault_some (late l m h k) e = omega arith
   fault_some (overlap l m o f) e = omega arith
-
-  pub windows_met : {v : Verdict} → Windows R s v → v.number ≡ 0 → Met R s (jobs R)
-  windows_met (missed f) e = absurd (fault_some f e)
-  windows_met (met m) e = m
-
-  pub windows_missed : {v : Verdict} → Windows R s v → (v.number ≡ 0 → ⊥) → Judgement R s v
-  windows_missed (missed f) ne = faulty f
-  windows_missed (met m) ne = absurd (ne refl)
 
   -- Job i clashes with job j exactly where it is another and each starts before the other ends.
   abbrev clash : ℕ → ℕ → Bool
@@ -139,12 +133,3 @@ module _ (R : Recorder) (s : List ℕ) where
   fault_infeasible (early {j = j} l m h) g = unreleased j h (g.released j l) (g.in_time j l)
   fault_infeasible (late {j = j} l m r h) g = untimely j h (g.released j l) (g.in_time j l)
   fault_infeasible (overlap {j = j} l m o f) g = o.another (g.apart o.other j o.tick o.known l o.there o.here)
-
-  -- What a judgement's number says.
-  pub judgement_fault : {v : Verdict} → Judgement R s v → (v.number ≡ 0 → ⊥) → Fault R s v.number v.job.0
-  judgement_fault (faulty f) ne = f
-  judgement_fault (feasible g) ne = absurd (ne refl)
-
-  pub judgement_feasible : {v : Verdict} → Judgement R s v → v.number ≡ 0 → Feasible R s
-  judgement_feasible (faulty f) e = absurd (fault_some f e)
-  judgement_feasible (feasible g) e = g

@@ -9,7 +9,7 @@ mod ordering; // ordering.rt: the jobs in running order
 mod rows; // rows.rt: the rows of a plan and its energy
 mod using; // using.rt: the uses of one device, in running order
 
-pub use crate::judging::{Verdict, judge};
+pub use crate::judging::{Misplaced, judge};
 pub use crate::margins::write_margins;
 pub use crate::ordering::running_order;
 pub use crate::rows::{plan_energy, write_rows};

@@ -1,22 +1,21 @@
 -- What the code's tests of 25 and 24 say, and the cases of the promise that they lead to.
-use mathlib.Core.Path.{◌≡◌, refl, sym, ap, ◌∙◌}
-use mathlib.Core.Bool.{true, false, cond}
+use mathlib.Core.Path.{◌≡◌, refl}
+use mathlib.Core.Bool.{true, false}
 use mathlib.Core.List.{List}
 use Prim.Native.Nat.{ℕ, ◌≤◌, ◌<◌}
 use native.Mathlib.Omega.{arith}
 use lib.Dec.{eqb}
 use lib.ListN.{length}
-use borrow.Author.Tests.{eqb-true, eqb-false, ne_eqb}
+use borrow.Author.Tests.{eqb-true, eqb-false}
 use Rattle.base.specs.Bytes.{byte_at}
+use Rattle.base.specs.declared.reasons.Reason.{Reason}
+use Rattle.base.specs.Reasons.{number_of}
+use Rattle.base.proofs.Numbered.{some_number}
 use Rattle.schedule.specs.declared.Recorder.{Recorder}
-use Rattle.schedule.specs.declared.judging.Verdict.{Verdict}
 use Rattle.schedule.specs.Quantities.{jobs}
 use Rattle.schedule.specs.Listing.{Feasible}
-use Rattle.schedule.specs.inside.Judging.{verdict, Judgement}
-use Rattle.schedule.specs.inside.Judging as J
-use Rattle.schedule.proofs.Judgements.{fault_some}
 use Rattle.planner.specs.declared.Answer.{Answer}
-use Rattle.planner.specs.Promises.{refusal, refusal_at, Unless, stops, passes, faulty, feasible}
+use Rattle.planner.specs.Promises.{refusal, Unless, stops, passes, feasible}
 use Rattle.stepper.specs.Promises.{Unfit, marked, unlike, Brief, StepsOf}
 use Rattle.stepper.specs.inside.Fitness.{Fitness, Unlike}
 use Rattle.stepper.specs.inside.Fitness as F
@@ -38,33 +37,20 @@ module _ (file : List ℕ) (R : Recorder) where
   none_unfit e h (marked m) = eqb-false (byte_at file 0) 255 e m
   none_unfit e h (unlike {k = k} l u) = h (record { which = k; known = l; unlike = u })
 
-  -- The first fault, of the start times or of the recorder, and what is refused by it; or none.
-  module _ (starts lent : List ℕ) (e : length starts ≡ jobs R) (room : R.devices.count ≤ length lent) where
-    fitness_refused : Feasible R starts → {n : ℕ} → Fitness file R n → (n ≡ 0 → ⊥) → StepsOf file starts lent R (refusal n) lent
-    fitness_refused f (F.Fitness.unfit u) ne = past R starts lent e room (feasible f (stops u))
-    fitness_refused f (F.Fitness.brief u b) ne = past R starts lent e room (feasible f (passes u (stops b)))
-    fitness_refused f (F.Fitness.fit u b) ne = absurd (ne refl)
+  -- What is refused by the recorder; or nothing is.
+  module _ (starts lent : List ℕ) (room : R.devices.count ≤ length lent) where
+    refused : Feasible R starts → {n : ℕ} → Fitness file R n → 0 < n → StepsOf file starts lent R (refusal n) lent
+    refused f (F.Fitness.unfit u) l = past R starts lent f.one_each room (feasible f (stops u))
+    refused f (F.Fitness.brief u b) l = past R starts lent f.one_each room (feasible f (passes u (stops b)))
+    refused f (F.Fitness.fit u b) l = absurd (omega arith)
 
-    fitness_fit : {n : ℕ} → Fitness file R n → n ≡ 0 → (Unfit file R → ⊥) × (Brief R → ⊥)
-    fitness_fit (F.Fitness.unfit u) q = absurd (omega arith)
-    fitness_fit (F.Fitness.brief u b) q = absurd (omega arith)
-    fitness_fit (F.Fitness.fit u b) q = (u, b)
+    pub unfit_refused : Feasible R starts → (e : Reason) → Fitness file R (number_of e) → StepsOf file starts lent R (refusal (number_of e)) lent
+    unfit_refused f e h = refused f h (some_number e)
 
-    pub first_refused : (judged v : Verdict) (n : ℕ) → Judgement R starts judged → Fitness file R n → v ≡ cond (eqb judged.number 0) (verdict n 0) judged
-        → (v.number ≡ 0 → ⊥) → StepsOf file starts lent R (refusal_at v.number v.job.0) lent
-    first_refused judged v n (J.Judgement.faulty {n = m} {j = i} f) h is ne =
-        let q : v ≡ verdict m i = rw (ne_eqb m 0 (fault_some R starts f)) at is in
-        rw q (past R starts lent e room (faulty f))
-    first_refused judged v n (J.Judgement.feasible g) h is ne =
-        let q : v ≡ verdict n 0 = is in
-        rw q (fitness_refused g h (λ z. ne (ap (λ (x : Verdict). x.number) q ∙ z)))
+  fit_at_0 : {n : ℕ} → Fitness file R n → n ≡ 0 → (Unfit file R → ⊥) × (Brief R → ⊥)
+  fit_at_0 (F.Fitness.unfit u) q = absurd (omega arith)
+  fit_at_0 (F.Fitness.brief u b) q = absurd (omega arith)
+  fit_at_0 (F.Fitness.fit u b) q = (u, b)
 
-    pub first_fit : (judged v : Verdict) (n : ℕ) → Judgement R starts judged → Fitness file R n → v ≡ cond (eqb judged.number 0) (verdict n 0) judged
-        → v.number ≡ 0 → Feasible R starts × (Unfit file R → ⊥) × (Brief R → ⊥)
-    first_fit judged v n (J.Judgement.faulty {n = m} {j = i} f) h is z =
-        let q : v ≡ verdict m i = rw (ne_eqb m 0 (fault_some R starts f)) at is in
-        absurd (fault_some R starts f (sym (ap (λ (x : Verdict). x.number) q) ∙ z))
-    first_fit judged v n (J.Judgement.feasible g) h is z =
-        let q : v ≡ verdict n 0 = is in
-        let w = fitness_fit h (sym (ap (λ (x : Verdict). x.number) q) ∙ z) in
-        (g, w.0, w.1)
+  pub fit_passes : Fitness file R 0 → (Unfit file R → ⊥) × (Brief R → ⊥)
+  fit_passes h = fit_at_0 h refl

@@ -1,11 +1,13 @@
 // Whether a recorder can be stepped (rule 96): refusals 25 and 24.
 ghost use Rattle.std.specs.Prelude.{◌≡◌, ◌≤◌, eqb};
 ghost use Rattle.base.specs.Bytes.{byte_at};
+ghost use Rattle.base.specs.Reasons.{number_in};
 ghost use Rattle.schedule.specs.inside.Judging.{Decides};
 ghost use Rattle.schedule.specs.Quantities.{Valid};
 ghost use Rattle.stepper.specs.Promises.{Brief};
 ghost use Rattle.stepper.specs.inside.Fitness.{Fitness, Unlike, Outrun};
 
+use base::Reason;
 use schedule::{Devices, Job, Recorder};
 
 // Whether the file begins with FF.
@@ -69,19 +71,16 @@ fn has_brief(r: Recorder) -> bool
     false
 }
 
-// The number that refuses the recorder of a file, or 0.
-pub fn unfit(file: &[u8], r: Recorder) -> u8
+// Whether the recorder of a file can be stepped.
+pub fn unfit(file: &[u8], r: Recorder) -> Result<(), Reason>
     requires { Valid r }
-    ensures { Fitness file.now r result }
+    ensures { Fitness file.now r (number_in result) }
 {
-    if is_marked(file) {
-        return 25;
-    }
-    if has_unlike(r) {
-        return 25;
+    if is_marked(file) || has_unlike(r) {
+        return Err(Reason::UnlikePowers);
     }
     if has_brief(r) {
-        return 24;
+        return Err(Reason::BriefJob);
     }
-    0
+    Ok(())
 }

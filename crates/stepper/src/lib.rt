@@ -2,34 +2,18 @@
 // specs/Promises.antt says its complete outcome. No row is made, and no array is longer than the devices or the jobs.
 #![tactic(auto)]
 
-ghost use Rattle.std.specs.Prelude.{◌≡◌, cond, eqb};
 ghost use Rattle.schedule.specs.Quantities.{Valid};
-ghost use Rattle.schedule.specs.inside.Judging.{verdict};
 ghost use Rattle.stepper.specs.Promises.{StepsOf, SteppedThrough};
 
 use crate::devices::run_devices;
 use crate::fitness::unfit;
-use base::JobNumber;
 use planner::{Answer, refusal, refusal_at, success};
 use request::read;
-use schedule::{Recorder, Verdict, judge};
+use schedule::{Recorder, judge};
 
 mod devices; // devices.rt: the devices over a round
 mod fitness; // fitness.rt: refusals 25 and 24
 mod ordering; // ordering.rt: the jobs in running order, for one device
-
-// The fault of the start times, if there is one, and else that of the recorder, which names no job (rule 96).
-fn first_fault(judged: Verdict, number: u8) -> Verdict
-    ensures { result ≡ cond (eqb judged.number 0) (verdict number 0) judged }
-{
-    if judged.number > 0 {
-        return judged;
-    }
-    Verdict {
-        number,
-        job: JobNumber(0),
-    }
-}
 
 // The devices of a file's recorder, stepped through the round.
 pub fn steps_of(file: &[u8], r: Recorder, starts: &[u16], energies: &mut [u32]) -> Answer
@@ -42,10 +26,12 @@ pub fn steps_of(file: &[u8], r: Recorder, starts: &[u16], energies: &mut [u32]) 
     if energies.len() < r.devices.count {
         return refusal(15);
     }
-    let judged = judge(r, starts);
-    let fault = first_fault(judged, unfit(file, r));
-    if fault.number != 0 {
-        return refusal_at(fault.number, fault.job);
+    if let Err(fault) = judge(r, starts) {
+        return refusal_at(fault.reason.number(), fault.job);
+    }
+    // A fault of the recorder names no job (rule 96).
+    if let Err(reason) = unfit(file, r) {
+        return refusal(reason.number());
     }
     let energy = run_devices(r, starts, energies);
     success(r.horizon, energy, 0)

@@ -9,17 +9,12 @@ pub fn is_key(memory: &[u64], at: usize, head: u64, q: Key) -> bool
     requires { at + 5 ≤ length memory.now }
     ensures { result ≡ true → Holds memory.now at head q }
 {
-    if head != q.head {
-        return false;
-    }
-    if memory[at + 1] != q.idle {
-        return false;
-    }
-    if memory[at + 2] != q.idle4 {
-        return false;
-    }
-    if memory[at + 3] != q.first {
-        return false;
-    }
-    memory[at + 4] == q.first4
+    let held = Key {
+        head,
+        idle: memory[at + 1],
+        idle4: memory[at + 2],
+        first: memory[at + 3],
+        first4: memory[at + 4],
+    };
+    held == q
 }

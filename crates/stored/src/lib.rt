@@ -9,7 +9,7 @@ pub mod naming; // naming.rt: the key of a vertex
 const TWO32: u64 = 4294967296;
 
 // head: the set of the unplaced jobs, and 65,536 times the time. Then the idle times of the devices from 0 and from 4 on, and their first uses, sixteen bits each.
-#[derive(Clone, Copy)]
+#[derive(Clone, Copy, PartialEq, Eq)]
 pub struct Key {
     pub head: u64,
     pub idle: u64,
@@ -40,9 +40,5 @@ pub fn row_of(q: Key, n: usize) -> usize
 pub fn clear(memory: &mut [u64])
     ensures { (i : ℕ) → get_or memory.new i 0 ≡ 0 }
 {
-    let mut i: usize = 0;
-    while i < memory.len() {
-        memory[i] = 0;
-        i += 1;
-    }
+    memory.fill(0);
 }

@@ -6,7 +6,6 @@ ghost use Rattle.vertex.specs.inside.Shown.{Ordered};
 ghost use Rattle.stored.specs.inside.Naming.{idle_by, first_by, four, key_by};
 
 use crate::Key;
-use base::{smaller, wide};
 use extras::cap_of;
 use flat::{Flat, device_count, horizon_of, is_round};
 use vertex::cells::Cells;
@@ -18,12 +17,10 @@ fn idle_with(cap: u32, unused: bool, h: u32, end: u32, first: u32, ahead: u32, t
     ensures { result ≡ cond (ltb 0 ahead) (cond unused 0 (min (time - end) cap)) (min (first + (h - end)) cap) }
 {
     if 0 < ahead {
-        if unused {
-            return 0;
-        }
-        return smaller(time - end, cap);
+        if unused { 0 } else { (time - end).min(cap) }
+    } else {
+        (first + (h - end)).min(cap)
     }
-    smaller(first + (h - end), cap)
 }
 
 fn idle_of(r: &Flat, extras: &[u32], v: &Cells, k: usize, time: u32) -> u64
@@ -31,9 +28,9 @@ fn idle_of(r: &Flat, extras: &[u32], v: &Cells, k: usize, time: u32) -> u64
     ensures { (result ≡ idle_by (recorder_of r.now) (cap_at extras.now) v.now time k) × (result < 65536) }
 {
     if k < device_count(r) {
-        let h = wide(horizon_of(r));
+        let h = u32::from(horizon_of(r));
         let unused = is_unused(is_round(r), v[k]);
-        return idle_with(
+        u64::from(idle_with(
             cap_of(extras, k),
             unused,
             h,
@@ -41,9 +38,10 @@ fn idle_of(r: &Flat, extras: &[u32], v: &Cells, k: usize, time: u32) -> u64
             v[8 + k],
             v[16 + k],
             time,
-        ) as u64;
+        ))
+    } else {
+        0
     }
-    0
 }
 
 // When it was first used, up to its cap, as long as it is needed.
@@ -51,12 +49,11 @@ fn first_of(r: &Flat, extras: &[u32], v: &Cells, k: usize) -> u64
     requires { Tabled (recorder_of r.now) extras.now × (k < 8) }
     ensures { (result ≡ first_by (recorder_of r.now) (cap_at extras.now) v.now k) × (result < 65536) }
 {
-    if k < device_count(r) {
-        if 0 < v[16 + k] {
-            return smaller(v[8 + k], cap_of(extras, k)) as u64;
-        }
+    if k < device_count(r) && 0 < v[16 + k] {
+        u64::from(v[8 + k].min(cap_of(extras, k)))
+    } else {
+        0
     }
-    0
 }
 
 // Four numbers of sixteen bits in one word.

@@ -2,24 +2,25 @@
 use mathlib.Core.Path.{◌≡◌, refl, sym, ap, subst, ◌∙◌}
 use mathlib.Core.Bool.{Bool, true, false, cond, true≢false}
 use mathlib.Core.List.{List, [], ◌∷◌, ◌++◌}
+use Rattle.std.specs.Prelude.{Some, None}
 use mathlib.Core.Option
 use mathlib.Core.Option.{Option, none, some}
 use Prim.Native.Nat.{ℕ, zero, suc, ◌+◌, ◌-◌, ◌<◌, ◌≤◌}
 use native.Mathlib.Omega.{arith}
 use native.Mathlib.Numerals.{add-one}
 use native.Mathlib.Decide.{dec_lt}
-use lib.ListN.{length, take, drop, get_or}
-use lib.Seq.{drop-cons, drop-length, take-nil}
+use lib.ListN.{length, take, drop, get_or, length-drop}
+use lib.Seq.{drop-cons, drop-length, drop-drop, take-nil}
 use lib.Dec.{eqb}
 use borrow.Author.Tests.{eqb-true, eq-eqb, ne_eqb}
 use Rattle.base.proofs.Cases.{test_cases}
 use Rattle.base.proofs.Numbers.{length_nil}
+use Rattle.base.proofs.Pieces.{part_rest}
 use Rattle.text.specs.declared.State.{State}
 use Rattle.text.specs.declared.State.TheVariants.{Fresh, Plain, Quoted, Closed}
 use Rattle.text.specs.Grammar.{comma, quote, Step, stray, ends, goes, step, kept, then, after, fields_from, unread}
 use Rattle.text.specs.declared.Turn.TheVariants.{Stray, Ends, Goes}
-use Rattle.text.specs.declared.Cut.{Cut}
-use Rattle.text.specs.inside.Cursors.{raw, raw_of, turn_of, is_over, onward, cut_from, cut_of, starts_quoted, first_field, counted, field_at}
+use Rattle.text.specs.inside.Cursors.{Cut, raw, raw_of, turn_of, is_over, onward, cut_from, cut_of, told, starts_quoted, first_field, counted, field_at}
 use Rattle.text.proofs.Split.{kept_then}
 
 -- ---- byte by byte
@@ -59,8 +60,11 @@ pub record Reaches (c : Cut) (n : ℕ) (b : Bool) : Type 0 where
   pub size : c.size ≡ n
   pub whole : c.whole ≡ b
 
-pub reached : (c : Cut) (n : ℕ) (b : Bool) → Reaches c n b → record { size = n; whole = b } ≡ c
-reached c n b r = rw (← r.size, ← r.whole)
+pub told_stray : (c : Cut) (n : ℕ) → Reaches c n false → None ≡ told c
+told_stray c n r = rw r.whole
+
+pub told_whole : (c : Cut) (n : ℕ) → Reaches c n true → Some n ≡ told c
+told_whole c n r = rw (r.whole, r.size)
 
 -- From what is known so far, and what the bytes from here on say.
 pub further : (s : List ℕ) (i : ℕ) (q : State) (m to : ℕ) {b : Bool} → Reaches (cut_of s) (i + (cut_from q (drop i s)).size) (cut_from q (drop i s)).whole
@@ -293,14 +297,52 @@ cut_both (b ∷ s) e w = subst Both (sym (eqb-true b quote e)) (quoted_both s) w
     Both : ℕ → Type 0
     Both c = (cut_of (c ∷ s)).whole ≡ true → 2 ≤ (cut_of (c ∷ s)).size
 
+pub told_size : (c : Cut) (n : ℕ) → told c ≡ Some n → n ≡ c.size
+told_size c n e = go c.whole c.size e
+  where
+    go : (b : Bool) (m : ℕ) → cond b (Some m) None ≡ Some n → n ≡ m
+    go true m f = cc
+    go false m f = cc
+
+-- Of what is left of a line from a place on: the first field is whole, has so many bytes and lies within.
+pub record WholeAt (s : List ℕ) (at n : ℕ) : Type 0 where
+  pub size : (cut_of (drop at s)).size ≡ n
+  pub whole : (cut_of (drop at s)).whole ≡ true
+  pub within : at + n ≤ length s
+
+module _ (s : List ℕ) (at : ℕ) where
+  told_rest : told (cut_of (take (length s - at) (drop at s))) ≡ told (cut_of (drop at s))
+  told_rest = ap (λ (l : List ℕ). told (cut_of l)) (part_rest s at)
+
+  pub told_some : (n : ℕ) → at ≤ length s → Some n ≡ told (cut_of (take (length s - at) (drop at s))) → WholeAt s at n
+  told_some n h e = go (cut_of (drop at s)) refl (sym (e ∙ told_rest))
+    where
+      go : (c : Cut) → cut_of (drop at s) ≡ c → told c ≡ Some n → WholeAt s at n
+      go c q e =
+          test_cases (λ b. c.whole ≡ b → cond b (Some c.size) None ≡ Some n → WholeAt s at n) c.whole
+          (λ _ w f. let z : c.size ≡ n = cc in
+          let size = ap (λ (x : Cut). x.size) q ∙ z in
+          record { size = size; whole = ap (λ (x : Cut). x.whole) q ∙ w; within = omega (arith, cut_within (drop at s), length-drop at s) })
+          (λ _ w f. cc)
+          refl
+          e
+
+  pub told_none : None ≡ told (cut_of (take (length s - at) (drop at s))) → (cut_of (drop at s)).whole ≡ false
+  told_none e =
+      go (cut_of (drop at s)).whole (cut_of (drop at s)).size (sym (e ∙ told_rest))
+    where
+      go : (b : Bool) (n : ℕ) → cond b (Some n) None ≡ None → b ≡ false
+      go true n f = cc
+      go false n f = refl
+
 -- ---- counting the fields, and finding one
 
 counted_then : (k : ℕ) (f : List ℕ) (o : Option (List (List ℕ))) → counted k (then f o) ≡ counted (k + 1) o
 counted_then k f none = refl
-counted_then k f (some fs) = omega arith
+counted_then k f (some fs) = let e : k + length (f ∷ fs) ≡ k + 1 + length fs = omega arith in rw e
 
 module _ (s : List ℕ) where
-  pub count_stray : (k : ℕ) → (cut_of s).whole ≡ false → counted k (raw_of s) ≡ 0
+  pub count_stray : (k : ℕ) → (cut_of s).whole ≡ false → counted k (raw_of s) ≡ None
   count_stray k w = ap (counted k) (first_cut s) ∙ rw w
 
   module _ (w : (cut_of s).whole ≡ true) where
@@ -311,7 +353,7 @@ module _ (s : List ℕ) where
     more_fields : (cut_of s).size < length s → raw_of s ≡ then (first_field s) (raw_of (drop ((cut_of s).size + 1) s))
     more_fields h = first_cut s ∙ rw (w, drop-cons s (cut_of s).size 0 h, add-one)
 
-    pub count_last : (k : ℕ) → (cut_of s).size ≡ length s → counted k (raw_of s) ≡ k + 1
+    pub count_last : (k : ℕ) → (cut_of s).size ≡ length s → counted k (raw_of s) ≡ Some (k + 1)
     count_last k e = ap (counted k) (only_field e)
 
     pub count_more : (k : ℕ) → (cut_of s).size < length s → counted k (raw_of s) ≡ counted (k + 1) (raw_of (drop ((cut_of s).size + 1) s))
@@ -323,6 +365,9 @@ module _ (s : List ℕ) (r : unread (raw_of s) ≡ false) where
   read_whole =
       test_cases (λ x. x ≡ true) (cut_of s).whole (λ w. refl)
       (λ w. absurd (true≢false (sym (ap unread (first_cut s) ∙ rw w) ∙ r)))
+
+  pub read_told : told (cut_of s) ≡ Some (cut_of s).size
+  read_told = rw read_whole
 
   pub read_more : (cut_of s).size < length s → unread (raw_of (drop ((cut_of s).size + 1) s)) ≡ false
   read_more h = go (raw_of (drop ((cut_of s).size + 1) s)) (sym (ap unread (more_fields s read_whole h)) ∙ r)
@@ -359,23 +404,53 @@ module _ (s : List ℕ) (r : unread (raw_of s) ≡ false) where
       go none (suc i) = refl
       go (some fs) i = refl
 
--- It has at least one field; so none is counted exactly where it is not read.
-pub count_some : (s : List ℕ) → unread (raw_of s) ≡ false → (counted 0 (raw_of s) ≡ 0 → ⊥)
-count_some s r e =
-    elim (dec_lt (cut_of s).size (length s)) [
-      | yes h ↦
-          let m = more_fields s (read_whole s r) h in
-          go (raw_of (drop ((cut_of s).size + 1) s)) (sym (ap unread m) ∙ r) (sym (ap (counted 0) m) ∙ e)
-      | no h ↦ omega (arith, sym (ap (counted 0) (only_field s (read_whole s r) (omega (arith, cut_within s)))) ∙ e)
-    ]
-  where
-    go : (o : Option (List (List ℕ))) → unread (then (first_field s) o) ≡ false → counted 0 (then (first_field s) o) ≡ 0 → ⊥
-    go none e f = true≢false e
-    go (some fs) e f = omega arith
+-- From a place on: the place behind the field's comma, and what is found there.
+module _ (s : List ℕ) (at n : ℕ) (w : WholeAt s at n) where
+  behind_comma : drop ((cut_of (drop at s)).size + 1) (drop at s) ≡ drop (at + n + 1) s
+  behind_comma =
+      let e : at + ((cut_of (drop at s)).size + 1) ≡ at + n + 1 = omega (arith, w.size) in
+      drop-drop ((cut_of (drop at s)).size + 1) at s ∙ ap (λ (x : ℕ). drop x s) e
 
-pub count_read : (o : Option (List (List ℕ))) → (counted 0 o ≡ 0 → ⊥) → (unread o ≡ false) × (counted 0 o ≡ length (Option.get_or o []))
-count_read none h = absurd (h refl)
-count_read (some fs) h = (refl, omega arith)
+  at_end : at + n ≡ length s → (cut_of (drop at s)).size ≡ length (drop at s)
+  at_end e = omega (arith, w.size, length-drop at s)
+
+  before_end : (at + n ≡ length s → ⊥) → (cut_of (drop at s)).size < length (drop at s)
+  before_end e = omega (arith, w.size, w.within, length-drop at s)
+
+  pub last_counted : (k : ℕ) → at + n ≡ length s → counted k (raw_of (drop at s)) ≡ Some (k + 1)
+  last_counted k e = count_last (drop at s) w.whole k (at_end e)
+
+  pub next_counted : (k : ℕ) → (at + n ≡ length s → ⊥) → counted k (raw_of (drop at s)) ≡ counted (k + 1) (raw_of (drop (at + n + 1) s))
+  next_counted k e = count_more (drop at s) w.whole k (before_end e) ∙ rw behind_comma
+
+  module _ (r : unread (raw_of (drop at s)) ≡ false) where
+    pub next_read : (at + n ≡ length s → ⊥) → unread (raw_of (drop (at + n + 1) s)) ≡ false
+    next_read e = rw behind_comma at (read_more (drop at s) r (before_end e))
+
+    pub past_last : (j k : ℕ) → k < j → at + n ≡ length s → field_at (raw_of (drop at s)) (j - k) ≡ []
+    past_last j k h e =
+        let one : j - k ≡ suc (j - k - 1) = omega arith in
+        ap (field_at (raw_of (drop at s))) one ∙ field_past (drop at s) r (j - k - 1) (at_end e)
+
+    pub next_field : (j k : ℕ) → k < j → (at + n ≡ length s → ⊥)
+        → field_at (raw_of (drop at s)) (j - k) ≡ field_at (raw_of (drop (at + n + 1) s)) (j - (k + 1))
+    next_field j k h e =
+        let one : j - k ≡ suc (j - (k + 1)) = omega arith in
+        ap (field_at (raw_of (drop at s))) one ∙ field_later (drop at s) r (j - (k + 1)) (before_end e) ∙ rw behind_comma
+
+-- The same of what is left from a place on.
+pub rest_told : (s : List ℕ) (at : ℕ) → unread (raw_of (drop at s)) ≡ false
+    → told (cut_of (take (length s - at) (drop at s))) ≡ Some (cut_of (drop at s)).size
+rest_told s at r = told_rest s at ∙ read_told (drop at s) r
+
+-- None is counted exactly where it is not read.
+pub count_read : (o : Option (List (List ℕ))) (n : ℕ) → counted 0 o ≡ Some n → (unread o ≡ false) × (n ≡ length (Option.get_or o []))
+count_read none n e = cc
+count_read (some fs) n e = (refl, let f : 0 + length fs ≡ n = cc in omega arith)
+
+pub count_none : (o : Option (List (List ℕ))) → counted 0 o ≡ None → unread o ≡ true
+count_none none e = refl
+count_none (some fs) e = cc
 
 -- The first field as a part of a slice: without its quotes, or all of it.
 module _ (s : List ℕ) where

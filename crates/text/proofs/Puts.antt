@@ -1,7 +1,7 @@
 -- Laws of bytes that are put one after the other.
-use mathlib.Core.Path.{◌≡◌, sym, ap, ◌∙◌}
+use mathlib.Core.Path.{◌≡◌, refl, sym, ap, ◌∙◌}
 use mathlib.Core.List.{List, [], ◌∷◌, ◌++◌, append_assoc}
-use Prim.Native.Nat.{ℕ, suc, ◌+◌, ◌<◌, ◌≤◌}
+use Prim.Native.Nat.{ℕ, zero, suc, ◌+◌, ◌<◌, ◌≤◌}
 use native.Mathlib.Omega.{arith}
 use native.Mathlib.Numerals.{add-one}
 use lib.ListN.{length, set, get_or, take, drop, length-append, length-drop, take-append-drop}
@@ -67,6 +67,47 @@ length_field a = length-append (digits_of a) (comma ∷ [])
 
 pub length_more : (a b : ℕ) (ns : List ℕ) → length (line_text (a ∷ b ∷ ns)) ≡ length (digits_of a ++ comma ∷ []) + length (line_text (b ∷ ns))
 length_more a b ns = ap length (line_more a b ns) ∙ length-append (digits_of a ++ comma ∷ []) (line_text (b ∷ ns))
+
+-- What stands in a line before number i: the numbers before it, and a comma if there are some.
+abbrev pub led : List ℕ → ℕ → List ℕ
+led ns zero = []
+led ns (suc i) = numbers_text (take (suc i) ns) ++ comma ∷ []
+
+pub led_some : (ns : List ℕ) (i : ℕ) → 0 < i → led ns i ≡ numbers_text (take i ns) ++ comma ∷ []
+led_some ns zero h = absurd (omega arith)
+led_some ns (suc i) h = refl
+
+pub led_none : (ns : List ℕ) (i : ℕ) → i ≤ 0 → led ns i ≡ numbers_text (take i ns)
+led_none ns zero h = refl
+led_none ns (suc i) h = absurd (omega arith)
+
+texts_more : (ns : List ℕ) (i : ℕ) → i < length ns → numbers_text (take (suc i) ns) ≡ led ns i ++ digits_of (get_or ns i 0)
+texts_more [] i h = absurd (omega arith)
+texts_more (n ∷ ns) zero h = refl
+texts_more (n ∷ []) (suc i) h = absurd (omega arith)
+texts_more (n ∷ m ∷ ns) (suc i) h = rw (texts_more (m ∷ ns) i (omega arith)) (after (led (m ∷ ns) i) i refl)
+  where
+    after : (t : List ℕ) (i : ℕ) → led (m ∷ ns) i ≡ t
+        → digits_of n ++ comma ∷ (t ++ digits_of (get_or (m ∷ ns) i 0)) ≡ led (n ∷ m ∷ ns) (suc i) ++ digits_of (get_or (m ∷ ns) i 0)
+    after t zero e = rw (← e, append_assoc)
+    after t (suc i) e = rw (← e, append_assoc, append_assoc, append_assoc)
+
+pub numbers_more : (ns : List ℕ) (i : ℕ) → i < length ns → numbers_text (take (i + 1) ns) ≡ led ns i ++ digits_of (get_or ns i 0)
+numbers_more ns i h = rw add-one (texts_more ns i h)
+
+texts_fewer : (ns : List ℕ) (i : ℕ) → length (numbers_text (take i ns)) ≤ length (numbers_text ns)
+texts_fewer ns zero = omega arith
+texts_fewer [] (suc i) = omega arith
+texts_fewer (n ∷ []) (suc zero) = omega arith
+texts_fewer (n ∷ []) (suc (suc i)) = omega arith
+texts_fewer (n ∷ m ∷ ns) (suc zero) = omega (arith, length-append (digits_of n) (comma ∷ numbers_text (m ∷ ns)))
+texts_fewer (n ∷ m ∷ ns) (suc (suc i)) =
+    omega (arith, length-append (digits_of n) (comma ∷ numbers_text (m ∷ ns)), length-append (digits_of n) (comma ∷ numbers_text (take (suc i) (m ∷ ns))), texts_fewer (m ∷ ns) (suc i))
+
+-- So a line that has room has it for what stands before each number, and for that number.
+pub line_room : (ns : List ℕ) (i : ℕ) → i < length ns → length (led ns i) + length (digits_of (get_or ns i 0)) + 2 ≤ length (line_text ns)
+line_room ns i h =
+    omega (arith, ap length (numbers_more ns i h), length-append (led ns i) (digits_of (get_or ns i 0)), texts_fewer ns (i + 1), length-append (numbers_text ns) (cr ∷ lf ∷ []))
 
 -- Numbers have five digits at most.
 pub three_few : (a b c : ℕ) → length (line_text (a ∷ b ∷ c ∷ [])) ≤ 19

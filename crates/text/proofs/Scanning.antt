@@ -2,18 +2,19 @@
 use mathlib.Core.Path.{◌≡◌, refl, sym, ap, ◌∙◌}
 use mathlib.Core.Bool.{Bool, true, false, cond, ◌&&◌}
 use mathlib.Core.List.{List, [], ◌∷◌}
-use Prim.Native.Nat.{ℕ, zero, suc, ◌+◌, ◌-◌, ◌*◌, ◌<◌, ◌≤◌, min}
+use Rattle.std.specs.Prelude.{Some, None}
+use Prim.Native.Nat.{ℕ, zero, suc, ◌+◌, ◌-◌, ◌*◌, ◌<◌, ◌≤◌}
 use native.Mathlib.Omega.{arith}
 use native.Mathlib.Numerals.{add-one}
-use lib.ListN.{length, take, drop, get_or, length-drop, drop_of_length-le, get_or-eq_default}
+use lib.ListN.{length, take, drop, get_or, length-drop, drop_of_length-le}
 use lib.Seq.{drop-cons, drop-length, drop-drop, get_or-drop}
 use lib.Dec.{eqb, leb, ltb}
-use borrow.Author.Tests.{leb-true, leb-false, le-leb, lt-leb, lt-ltb, le-ltb, eq-eqb, ne_eqb, ltb-true, ltb-false}
-use Rattle.base.proofs.Cases.{cond_cases, test_cases, both}
+use borrow.Author.Tests.{leb-true, leb-false, le-leb, lt-leb, lt-ltb, le-ltb, ltb-true, ltb-false}
+use Rattle.base.proofs.Cases.{cond_cases, test_cases, both, and_right}
 use Rattle.base.specs.Lists.{all}
 use Rattle.text.specs.Grammar.{cr, lf, onto, lines_of}
 use Rattle.text.specs.Numerals.{digit, value_from, value_of, is_number}
-use Rattle.text.specs.inside.Cursors.{breaks_at, line_length, next_line, capped_from, number_from, number_of}
+use Rattle.text.specs.inside.Cursors.{breaks_at, line_length, next_line, number_from, number_of, fits}
 
 -- ---- lines
 
@@ -38,21 +39,6 @@ line_within (b ∷ c ∷ s) = go (eqb b cr && eqb c lf) (line_within (c ∷ s))
     go : (x : Bool) → line_length (c ∷ s) ≤ suc (length s) → cond x 0 (suc (line_length (c ∷ s))) ≤ suc (suc (length s))
     go true h = omega arith
     go false h = omega arith
-
--- CR LF at a place: no other byte than CR, none at the end, and by the byte behind it.
-module _ (s : List ℕ) (i : ℕ) where
-  pub no_cr : (get_or s i 0 ≡ cr → ⊥) → false ≡ breaks_at s i
-  no_cr h = rw (ne_eqb (get_or s i 0) cr h)
-
-  pub at_end_lem : length s ≤ i + 1 → false ≡ breaks_at s i
-  at_end_lem h = let e = get_or-eq_default s 0 h in rw e (sym (and_false (eqb (get_or s i 0) cr)))
-    where
-      and_false : (x : Bool) → x && false ≡ false
-      and_false true = refl
-      and_false false = refl
-
-  pub by_lf : get_or s i 0 ≡ cr → eqb (get_or s (i + 1) 0) lf ≡ breaks_at s i
-  by_lf e = rw (eq-eqb (get_or s i 0) cr e)
 
 -- The first line ends at a place, or goes on.
 line_byte : (s : List ℕ) → 0 < length s → line_length s ≡ cond (breaks_at s 0) 0 (suc (line_length (drop 1 s)))
@@ -149,64 +135,44 @@ line_later (b ∷ s) j = ap (λ (ls : List (List ℕ)). get_or ls (suc j) []) (l
 
 -- ---- numbers
 
-pub capped_value : (v w : ℕ) (s : List ℕ) → w ≡ min v 65536 → capped_from w s ≡ min (value_from v s) 65536
-unfolding capped_from value_from
-capped_value v w [] e = e
-capped_value v w (b ∷ s) e = capped_value (v * 10 + (b - 48)) (min (w * 10 + (b - 48)) 65536) s (omega arith)
+-- Digit by digit: a value never falls, so that one above 16 bits stays above.
+value_grows : (v : ℕ) (s : List ℕ) → v ≤ value_from v s
+unfolding value_from
+value_grows v [] = omega arith
+value_grows v (b ∷ s) = omega (arith, value_grows (v * 10 + (b - 48)) s)
 
--- So a bound below the cap is tested on the capped value.
-pub capped_test : (m : ℕ) (s : List ℕ) → m < 65536 → leb (capped_from 0 s) m ≡ leb (value_from 0 s) m
-capped_test m s h =
-    let e = capped_value 0 0 s (omega arith) in
-    test_cases (λ b. leb (capped_from 0 s) m ≡ b) (leb (value_from 0 s) m)
-    (λ t. le-leb (capped_from 0 s) m (omega (arith, leb-true (value_from 0 s) m t)))
-    (λ t. lt-leb (capped_from 0 s) m (omega (arith, leb-false (value_from 0 s) m t)))
-
-pub capped_same : (m : ℕ) (s : List ℕ) → m < 65536 → value_from 0 s ≤ m → capped_from 0 s ≡ value_from 0 s
-capped_same m s h k = let e = capped_value 0 0 s (omega arith) in omega arith
-
--- Digit by digit.
 pub digit_is : (b : ℕ) → 48 ≤ b → b ≤ 57 → digit b ≡ true
 digit_is b h k = rw (le-leb 48 b h, le-leb b 57 k)
 
 module _ (f : List ℕ) (v i : ℕ) where
-  pub number_next : i < length f → digit (get_or f i 0) ≡ true → number_from v (drop i f) ≡ number_from (min (v * 10 + (get_or f i 0 - 48)) 65536) (drop (i + 1) f)
-  unfolding capped_from
+  pub number_next : i < length f → digit (get_or f i 0) ≡ true → number_from v (drop i f) ≡ number_from (v * 10 + (get_or f i 0 - 48)) (drop (i + 1) f)
+  unfolding value_from
   number_next h e = rw (drop-cons f i 0 h, add-one i, e)
 
-  number_stops : i < length f → digit (get_or f i 0) ≡ false → number_from v (drop i f) ≡ 65536
-  number_stops h e = rw (drop-cons f i 0 h, e)
+  pub number_above : i < length f → digit (get_or f i 0) ≡ true → 65535 < v * 10 + (get_or f i 0 - 48) → number_from v (drop i f) ≡ None
+  number_above h e k =
+      number_next h e ∙ over (drop (i + 1) f)
+    where
+      over : (s : List ℕ) → number_from (v * 10 + (get_or f i 0 - 48)) s ≡ None
+      over s =
+          let far : leb (value_from (v * 10 + (get_or f i 0 - 48)) s) 65535 ≡ false = lt-leb _ 65535 (omega (arith, value_grows (v * 10 + (get_or f i 0 - 48)) s)) in
+          rw (far, and_right (all digit s) refl)
 
-  pub number_below : i < length f → get_or f i 0 < 48 → number_from v (drop i f) ≡ 65536
-  number_below h k = number_stops h (rw (lt-leb 48 (get_or f i 0) k))
+  pub number_done : i ≡ length f → v < 65536 → number_from v (drop i f) ≡ Some v
+  unfolding value_from
+  number_done e k = rw (e, drop-length, le-leb v 65535 (omega arith))
 
-  pub number_above : i < length f → 57 < get_or f i 0 → number_from v (drop i f) ≡ 65536
-  number_above h k = number_stops h (rw (le-leb 48 (get_or f i 0) (omega arith), lt-leb (get_or f i 0) 57 k))
-
-  pub number_done : i ≡ length f → number_from v (drop i f) ≡ v
-  unfolding capped_from
-  number_done e = rw (e, drop-length)
-
-pub number_none : (f : List ℕ) → length f ≡ 0 → number_of f ≡ 65536
-number_none f e = rw e
-
-pub number_some : (f : List ℕ) → 0 < length f → number_of f ≡ number_from 0 f
-number_some f h = rw (lt-ltb 0 (length f) h)
-
--- So a field is a number of at most m where what it counts as is; and that is its value.
-pub number_test : (m : ℕ) (f : List ℕ) → m < 65536 → leb (number_of f) m ≡ is_number m f
-number_test m f h = go (ltb 0 (length f)) (all digit f)
+-- So a field is a number of at most m where it has one of 16 bits that is; and that is its value.
+pub number_test : (m : ℕ) (f : List ℕ) → m < 65536 → fits m (number_of f) ≡ is_number m f
+number_test m f h = go (ltb 0 (length f)) (all digit f) (value_of f)
   where
-    none : leb 65536 m ≡ false
-    none = lt-leb 65536 m (omega arith)
+    go : (x y : Bool) (v : ℕ) → fits m (cond x (cond (y && leb v 65535) (Some v) None) None) ≡ x && (y && leb v m)
+    go true true v = test_cases (λ b. leb v 65535 ≡ b → fits m (cond b (Some v) None) ≡ leb v m) (leb v 65535) (λ _ e. refl) (λ _ e. sym (lt-leb v m (omega (arith, leb-false v 65535 e)))) refl
+    go true false v = refl
+    go false y v = refl
 
-    go : (x y : Bool) → leb (cond x (cond y (capped_from 0 f) 65536) 65536) m ≡ x && (y && leb (value_of f) m)
-    go true true = capped_test m f h
-    go true false = none
-    go false y = none
-
-pub number_value : (m : ℕ) (f : List ℕ) → m < 65536 → is_number m f ≡ true → number_of f ≡ value_of f
+pub number_value : (m : ℕ) (f : List ℕ) → m < 65536 → is_number m f ≡ true → number_of f ≡ Some (value_of f)
 number_value m f h e =
     let p = both (ltb 0 (length f)) (all digit f && leb (value_of f) m) e in
     let q = both (all digit f) (leb (value_of f) m) p.1 in
-    rw (p.0, q.0) (capped_same m f h (leb-true (value_of f) m q.1))
+    rw (p.0, q.0, le-leb (value_of f) 65535 (omega (arith, leb-true (value_of f) m q.1)))

@@ -9,7 +9,7 @@ mod putting; // putting.rt: bytes, numbers and lines put one after the other
 pub use crate::fields::{count_fields, field};
 pub use crate::lines::{count_lines, line, line_end, next_line};
 pub use crate::numbers::number_of;
-pub use crate::putting::{put_byte, put_bytes, put_four, put_number, put_pair, put_three};
+pub use crate::putting::{put_byte, put_bytes, put_line, put_number, put_pair};
 
 // Before a field; in one without quotes; between quotes; behind the quote that may close it.
 #[derive(Clone, Copy)]
@@ -26,11 +26,4 @@ pub enum Turn {
     Stray,
     Ends,
     Goes(State),
-}
-
-// How many bytes a field has with its quotes, and whether no quote in it is stray or open.
-#[derive(Clone, Copy)]
-pub struct Cut {
-    pub size: usize,
-    pub whole: bool,
 }

@@ -8,28 +8,19 @@ fn is_break(s: &[u8], i: usize) -> bool
     requires { i < length s.now }
     ensures { result ≡ breaks_at s.now i }
 {
-    if s[i] != b'\r' {
-        return false;
-    }
-    if s.len() <= i + 1 {
-        return false;
-    }
-    s[i + 1] == b'\n'
+    s[i..].starts_with(b"\r\n")
 }
 
 // Where the first line ends: at the first CR LF, or at the end.
 pub fn line_end(s: &[u8]) -> usize
     ensures { result ≡ line_length s.now }
 {
-    let n = s.len();
-    let mut i = 0;
-    while i < n {
+    for i in 0..s.len() {
         if is_break(s, i) {
             return i;
         }
-        i += 1;
     }
-    n
+    s.len()
 }
 
 // Where the line after it begins.
@@ -37,20 +28,16 @@ pub fn next_line(s: &[u8]) -> usize
     ensures { result ≡ next_line s.now }
 {
     let end = line_end(s);
-    if end < s.len() {
-        return end + 2;
-    }
-    end
+    if end < s.len() { end + 2 } else { end }
 }
 
 // How many lines there are.
 pub fn count_lines(text: &[u8]) -> usize
     ensures { result ≡ length (lines_of text.now) }
 {
-    let n = text.len();
     let mut at = 0;
     let mut count = 0;
-    while at < n {
+    while at < text.len() {
         at += next_line(&text[at..]);
         count += 1;
     }
@@ -62,10 +49,8 @@ pub fn line(text: &[u8], k: usize) -> &[u8]
     ensures { result.now ≡ get_or (lines_of text.now) k [] }
 {
     let mut at = 0;
-    let mut i = 0;
-    while i < k {
+    for _ in 0..k {
         at += next_line(&text[at..]);
-        i += 1;
     }
     let end = at + line_end(&text[at..]);
     &text[at..end]

@@ -1,32 +1,27 @@
 // A number in digits.
-ghost use Rattle.std.specs.Prelude.{◌≡◌};
+ghost use Rattle.std.specs.Prelude.{◌≡◌, ◌+◌, ◌*◌, ◌<◌, SomeIff};
 ghost use Rattle.text.specs.inside.Cursors.{number_of};
 
-use base::smaller;
+// A number with a digit more behind it, if that has 16 bits still.
+fn with_digit(value: u16, digit: u8) -> Option<u16>
+    ensures { SomeIff result (value * 10 + digit < 65536) (value * 10 + digit) }
+{
+    value.checked_mul(10)?.checked_add(u16::from(digit))
+}
 
-// What a field that is no number of 16 bits counts as.
-const NONE: u32 = 65536;
-
-// The value never passes `NONE`, however many digits there are.
-pub fn number_of(field: &[u8]) -> u32
+// None where a field is no number of 16 bits, however many digits it has.
+pub fn number_of(field: &[u8]) -> Option<u16>
     ensures { result ≡ number_of field.now }
 {
-    let n = field.len();
-    if n == 0 {
-        return NONE;
+    if field.is_empty() {
+        return None;
     }
-    let mut value: u32 = 0;
-    let mut i = 0;
-    while i < n {
-        let b = field[i];
-        if b < b'0' {
-            return NONE;
+    let mut value: u16 = 0;
+    for &b in field {
+        if !b.is_ascii_digit() {
+            return None;
         }
-        if b'9' < b {
-            return NONE;
-        }
-        value = smaller(value * 10 + (b - b'0') as u32, NONE);
-        i += 1;
+        value = with_digit(value, b - b'0')?;
     }
-    value
+    Some(value)
 }

@@ -8,7 +8,6 @@ ghost use Rattle.latest.specs.inside.Sparing.{set_of};
 ghost use Rattle.vertex.specs.inside.Shown.{charged, ahead_at, load_at, Placed, Shows};
 
 use crate::gaps::is_unused;
-use base::wide;
 use flat::{Flat, device_count, is_round, is_used, job_count, run_of};
 
 // Of device k at k the end of its last use, 0 where it has none yet; and in other places, from here on:
@@ -47,25 +46,22 @@ pub fn place(r: &Flat, w: &mut Cells, j: usize, s: u32)
     requires { Valid (recorder_of r.now) × ((length w.old ≡ 25) × ((j < 16) × ((s + run (recorder_of r.now) j < 65536) × ((run (recorder_of r.now) j ≤ load_at w.old) × ((k : ℕ) → k < (recorder_of r.now).devices.count → ticks (recorder_of r.now) k j ≤ ahead_at w.old k))))) }
     ensures { Placed (recorder_of r.now) w.old w.new j s }
 {
-    let c = wide(run_of(r, j));
+    let c = u32::from(run_of(r, j));
     let round = is_round(r);
     let m = device_count(r);
-    let mut k: usize = 0;
-    while k < m {
+    for k in 0..m {
         if is_used(r, k, j) {
             charge(w, round, k, s, c);
         }
-        k += 1;
     }
-    let load = w[LOAD];
-    w[LOAD] = load - c;
+    w[LOAD] -= c;
 }
 
 // The ticks for which a job of running time c uses a device.
 fn ticks_of(used: bool, c: u16) -> u32
     ensures { (result ≡ cond used c 0) × (result < 65536) }
 {
-    if used { wide(c) } else { 0 }
+    if used { u32::from(c) } else { 0 }
 }
 
 // The ticks for which all jobs use device k.
@@ -75,10 +71,8 @@ fn all_ticks_of(r: &Flat, k: usize) -> u32
 {
     let n = job_count(r);
     let mut sum: u32 = 0;
-    let mut j = 0;
-    while j < n {
+    for j in 0..n {
         sum += ticks_of(is_used(r, k, j), run_of(r, j));
-        j += 1;
     }
     sum
 }
@@ -90,10 +84,8 @@ fn load_of(r: &Flat) -> u32
 {
     let n = job_count(r);
     let mut load: u32 = 0;
-    let mut j = 0;
-    while j < n {
-        load += wide(run_of(r, j));
-        j += 1;
+    for j in 0..n {
+        load += u32::from(run_of(r, j));
     }
     load
 }
@@ -106,10 +98,8 @@ pub fn root_of(r: &Flat) -> Cells
     let m = device_count(r);
     let mut v = [0u32; 25];
     v[LOAD] = load_of(r);
-    let mut k: usize = 0;
-    while k < m {
+    for k in 0..m {
         v[AHEAD + k] = all_ticks_of(r, k);
-        k += 1;
     }
     v
 }

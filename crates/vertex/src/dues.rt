@@ -6,7 +6,7 @@ ghost use Rattle.extras.specs.inside.Tabled.{Tabled};
 ghost use Rattle.vertex.specs.inside.Lasts.{TwoLeast};
 ghost use Rattle.vertex.specs.inside.Sums.{due_with, limit_for};
 
-use base::{JobNumber, smaller};
+use base::JobNumber;
 use extras::last_start;
 use flat::{Flat, job_count};
 
@@ -23,18 +23,14 @@ fn due_with(d: Dues, j: JobNumber, x: u32) -> Dues
     ensures { result ≡ due_with d j x }
 {
     if x < d.first {
-        return Dues {
+        Dues {
             at: j,
             first: x,
             second: d.first,
-        };
-    }
-    let at = d.at;
-    let second = smaller(d.second, x);
-    Dues {
-        at,
-        first: d.first,
-        second,
+        }
+    } else {
+        let second = d.second.min(x);
+        Dues { second, ..d }
     }
 }
 
@@ -50,13 +46,11 @@ pub fn dues_in(r: &Flat, extras: &[u32], set: usize) -> Dues
         second: 65536,
     };
     let mut rest = set;
-    let mut i = 0;
-    while i < n {
+    for i in 0..n {
         if rest % 2 == 1 {
             dues = due_with(dues, JobNumber(i), last_start(extras, i));
         }
         rest = rest / 2;
-        i += 1;
     }
     dues
 }
@@ -68,8 +62,8 @@ pub fn limit_of(d: Dues, h: u32, rest: u32, j: JobNumber) -> u32
 {
     let at = d.at;
     if at.0 == j.0 {
-        smaller(h - rest, d.second)
+        (h - rest).min(d.second)
     } else {
-        smaller(h - rest, d.first)
+        (h - rest).min(d.first)
     }
 }

@@ -9,7 +9,6 @@ ghost use Rattle.vertex.specs.inside.Gaps.{gap_at, gaps_by};
 ghost use Rattle.vertex.specs.inside.Shown.{unused, ahead_at, leads_by, closes_by, ends_by, idle_floor, Ordered};
 
 use crate::cells::Cells;
-use base::wide;
 use extras::{extra_of, least_from, used_at, used_count};
 use flat::{Flat, deep_power, device_count, horizon_of, is_round, is_used, run_of, work_power};
 
@@ -17,7 +16,7 @@ use flat::{Flat, deep_power, device_count, horizon_of, is_round, is_used, run_of
 pub fn is_unused(round: bool, end: u32) -> bool
     ensures { result ≡ unused round end }
 {
-    if round { end == 0 } else { false }
+    round && end == 0
 }
 
 // x where the test holds, and else y.
@@ -33,9 +32,10 @@ fn gap_at(extras: &[u32], later: bool, k: usize, g: u32) -> u32
     ensures { result ≡ gap_at extras.now later k g }
 {
     if later {
-        return least_from(extras, k, g);
+        least_from(extras, k, g)
+    } else {
+        extra_of(extras, k, g)
     }
-    extra_of(extras, k, g)
 }
 
 // What device k pays for the gap before a job that uses it and starts at s; or at least, where it starts at s or later. The table is read before the test, so that
@@ -45,10 +45,7 @@ fn gap_with(extras: &[u32], later: bool, round: bool, k: usize, end: u32, s: u32
     ensures { result ≡ cond (unused round end) 0 (gap_at extras.now later k (s - end)) }
 {
     let gap = gap_at(extras, later, k, s - end);
-    if is_unused(round, end) {
-        return 0;
-    }
-    gap
+    if is_unused(round, end) { 0 } else { gap }
 }
 
 // What all devices pay for the gaps before job j. Those that it does not use pay nothing.
@@ -59,11 +56,9 @@ fn gaps_of(r: &Flat, extras: &[u32], v: &Cells, j: usize, s: u32, later: bool) -
     let round = is_round(r);
     let n = used_count(extras, j);
     let mut sum: u32 = 0;
-    let mut i: u32 = 0;
-    while i < n {
+    for i in 0..n {
         let k = used_at(extras, j, i);
         sum += gap_with(extras, later, round, k, v[k], s);
-        i += 1;
     }
     sum
 }
@@ -90,10 +85,7 @@ fn close_with(r: &Flat, extras: &[u32], round: bool, k: usize, h: u32, end: u32,
     ensures { (result ≡ cond (unused round end) 0 (extra (device (recorder_of r.now) k) (first + (h - end)))) × (result ≤ 268431360) }
 {
     let close = extra_of(extras, k, first + (h - end));
-    if is_unused(round, end) {
-        return 0;
-    }
-    close
+    if is_unused(round, end) { 0 } else { close }
 }
 
 // What all devices pay for them.
@@ -102,13 +94,11 @@ pub fn close_of(r: &Flat, extras: &[u32], v: &Cells) -> u32
     ensures { (result ≡ closes_by (recorder_of r.now) v.now) × (result ≤ 2147450880) }
 {
     let round = is_round(r);
-    let h = wide(horizon_of(r));
+    let h = u32::from(horizon_of(r));
     let m = device_count(r);
     let mut sum: u32 = 0;
-    let mut k: usize = 0;
-    while k < m {
+    for k in 0..m {
         sum += close_with(r, extras, round, k, h, v[k], v[8 + k]);
-        k += 1;
     }
     sum
 }
@@ -141,14 +131,12 @@ pub fn end_of(r: &Flat, extras: &[u32], v: &Cells, j: usize, s: u32) -> u32
     ensures { (result ≡ ends_by (recorder_of r.now) v.now j s) × (result ≤ 2147450880) }
 {
     let round = is_round(r);
-    let h = wide(horizon_of(r));
-    let c = wide(run_of(r, j));
+    let h = u32::from(horizon_of(r));
+    let c = u32::from(run_of(r, j));
     let m = device_count(r);
     let mut sum: u32 = 0;
-    let mut k: usize = 0;
-    while k < m {
+    for k in 0..m {
         sum += end_with(r, extras, round, k, h, j, c, v[k], v[8 + k], s);
-        k += 1;
     }
     sum
 }
@@ -158,7 +146,7 @@ fn floor_with(work: u16, deep: u16, h: u32, ahead: u32) -> u32
     requires { (ahead ≤ h) × (h ≤ 4096) }
     ensures { (result ≡ work * ahead + deep * (h - ahead)) × (result ≤ 268431360) }
 {
-    wide(work) * ahead + wide(deep) * (h - ahead)
+    u32::from(work) * ahead + u32::from(deep) * (h - ahead)
 }
 
 // The floor of the root: at work for the ticks to come of each device, and in its deepest sleep for all others.
@@ -166,13 +154,11 @@ pub fn root_floor(r: &Flat, extras: &[u32], v: &Cells) -> u32
     requires { Tabled (recorder_of r.now) extras.now × ((k : ℕ) → k < (recorder_of r.now).devices.count → ahead_at v.now k ≤ (recorder_of r.now).horizon) }
     ensures { (result ≡ sum (recorder_of r.now).devices.count (idle_floor (recorder_of r.now) v.now)) × (result ≤ 2147450880) }
 {
-    let h = wide(horizon_of(r));
+    let h = u32::from(horizon_of(r));
     let m = device_count(r);
     let mut sum: u32 = 0;
-    let mut k: usize = 0;
-    while k < m {
+    for k in 0..m {
         sum += floor_with(work_power(r, k), deep_power(r, k), h, v[16 + k]);
-        k += 1;
     }
     sum
 }

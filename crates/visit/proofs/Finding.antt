@@ -5,6 +5,8 @@ use mathlib.Core.List.{List, ◌++◌}
 use Prim.Native.Nat.{ℕ, zero, suc, ◌≤◌, ◌<◌, min}
 use native.Mathlib.Omega.{arith}
 use lib.ListN.{get_or, length, drop, replicate}
+use Rattle.std.specs.Prelude.{Result}
+use Rattle.base.specs.declared.reasons.Reason.TheVariants.{NoSchedule, Budget}
 use Rattle.base.specs.Lists.{up_to}
 use Rattle.schedule.specs.declared.Recorder.{Recorder}
 use Rattle.schedule.specs.Quantities.{Valid, jobs}
@@ -16,6 +18,7 @@ use Rattle.recall.proofs.Kept.{right_clear}
 use Rattle.recall.proofs.Recalling.{counts_none}
 use Rattle.visit.specs.inside.Lent.{count_at, energy_at, best_at, Lends, KeptWithin, Holds, Ran, whole, spent, refusal, success, Finds, beyond, nowhere, found}
 use Rattle.visit.specs.declared.Found.{Found}
+use Rattle.visit.specs.declared.Unfound.{Unfound}
 use Rattle.visit.specs.inside.Stops.{visited_by}
 use Rattle.visit.proofs.Stopping.{visited_whole}
 use Rattle.visit.proofs.Rooted.{best_none, best_held, starts_are, starts_fit}
@@ -78,14 +81,14 @@ module _ (R : Recorder) (stop : Bool) (budget : ℕ) (F : Recorder) (e : F ≡ R
   finds_fit valid q ne = let h = ran_holds b c q in starts_fit R budget l (visited_by R stop) h (best_held R budget l (visited_by R stop) h ne) valid
 
   module _ (lent : List ℕ) (room : jobs R ≤ length lent) where
-    pub finds_over : b ≡ true → Finds R (visited_by R stop) budget lent (refusal 20 budget) lent
+    pub finds_over : b ≡ true → Finds R (visited_by R stop) budget lent (refusal Budget budget) lent
     finds_over q = beyond room (ran_over b c q)
 
     module _ (q : b ≡ false) where
       h : Holds R budget l (visited_by R stop)
       h = ran_holds b c q
 
-      pub finds_none : energy_at l ≡ 4294967295 → Finds R (visited_by R stop) budget lent (refusal 19 (count_at l)) lent
+      pub finds_none : energy_at l ≡ 4294967295 → Finds R (visited_by R stop) budget lent (refusal NoSchedule (count_at l)) lent
       finds_none z = rw h.count (nowhere room h.within (best_none R budget l (visited_by R stop) h z))
 
       pub finds_found :
@@ -96,5 +99,5 @@ module _ (R : Recorder) (stop : Bool) (budget : ℕ) (F : Recorder) (e : F ≡ R
           rw (a, starts_are R budget l (visited_by R stop) h k, h.count, k.energy) (found room h.within k.best)
 
 -- Where the visit does not stop, it is the search's own.
-pub finds_whole : (R : Recorder) (budget : ℕ) (lent : List ℕ) (f : Found) (l : List ℕ) → Finds R (visited_by R false) budget lent f l → Finds R (visited R) budget lent f l
+pub finds_whole : (R : Recorder) (budget : ℕ) (lent : List ℕ) (f : Result Found Unfound) (l : List ℕ) → Finds R (visited_by R false) budget lent f l → Finds R (visited R) budget lent f l
 finds_whole R budget lent f l h = subst (λ (st : Visited). Finds R st budget lent f l) (visited_whole R) h

@@ -7,10 +7,11 @@ ghost use Rattle.schedule.specs.Quantities.{Valid};
 ghost use Rattle.schedule.specs.Visiting.{visited};
 ghost use Rattle.extras.specs.inside.Tabled.{Room};
 ghost use Rattle.visit.specs.inside.Stops.{visited_by};
-ghost use Rattle.visit.specs.inside.Lent.{best_at, Finds, KeptWithin};
+ghost use Rattle.visit.specs.inside.Lent.{best_at, count_in, Finds, KeptWithin};
 
 use crate::stages::laid_visit;
 use crate::tally::{BEST, COUNT, ENERGY, NONE, Tally};
+use base::Reason;
 use flat::flat_of;
 use schedule::Recorder;
 
@@ -19,11 +20,17 @@ mod stages; // stages.rt: the whole visit, with a table and a memory
 mod tally; // tally.rt: the count, the best so far and the starts of the placed jobs
 mod walk; // walk.rt: the visit of a vertex and of all below it
 
-// The answer of the search: 0 or the number of its refusal, and what goes with it.
-#[derive(Clone, Copy)]
+// What the search finds: the energy of a cheapest schedule, and how many vertices it counted.
+#[derive(Clone, Copy, PartialEq, Eq)]
 pub struct Found {
-    pub number: u8,
     pub energy: u32,
+    pub count: u32,
+}
+
+// Why it finds none, and how many vertices it counted.
+#[derive(Clone, Copy, PartialEq, Eq)]
+pub struct Unfound {
+    pub reason: Reason,
     pub count: u32,
 }
 
@@ -49,49 +56,51 @@ fn found_by(
     memory: &mut [u64],
     own: bool,
     out: &mut [u16],
-) -> Found
+) -> Result<Found, Unfound>
     requires { Valid r × Room r extras.old }
     ensures finds { Finds r (visited_by r stop) budget out.old result out.new }
-    ensures within { KeptWithin result.count memory.old memory.new }
+    ensures within { KeptWithin (count_in result) memory.old memory.new }
 {
     let jobs = r.jobs;
     let n = jobs.count;
     if out.len() < n {
-        return Found {
-            number: 15,
-            energy: 0,
+        return Err(Unfound {
+            reason: Reason::NoRoom,
             count: 0,
-        };
+        });
     }
     let flat = flat_of(r);
     let mut tally = [0u32; 35];
     if laid_visit(&flat, extras, memory, own, &mut tally, stop, budget) {
-        return Found {
-            number: 20,
-            energy: 0,
+        return Err(Unfound {
+            reason: Reason::Budget,
             count: budget,
-        };
+        });
     }
     if tally[ENERGY] == NONE {
-        return Found {
-            number: 19,
-            energy: 0,
+        return Err(Unfound {
+            reason: Reason::NoSchedule,
             count: tally[COUNT],
-        };
+        });
     }
     write_starts(&tally, n, out);
-    Found {
-        number: 0,
+    Ok(Found {
         energy: tally[ENERGY],
         count: tally[COUNT],
-    }
+    })
 }
 
 // The first of the cheapest schedules, by a table with room for the horizon: a short one of 208 + 8 * 127 numbers, which is ready sooner, where that will do.
-fn found_within(r: Recorder, budget: u32, memory: &mut [u64], own: bool, out: &mut [u16]) -> Found
+fn found_within(
+    r: Recorder,
+    budget: u32,
+    memory: &mut [u64],
+    own: bool,
+    out: &mut [u16],
+) -> Result<Found, Unfound>
     requires { Valid r }
     ensures finds { Finds r (visited r) budget out.old result out.new }
-    ensures within { KeptWithin result.count memory.old memory.new }
+    ensures within { KeptWithin (count_in result) memory.old memory.new }
 {
     if r.horizon <= 127 {
         let mut extras = [0u32; 1224];
@@ -102,7 +111,7 @@ fn found_within(r: Recorder, budget: u32, memory: &mut [u64], own: bool, out: &m
 }
 
 // The first of the cheapest schedules.
-pub fn search(r: Recorder, budget: u32, out: &mut [u16]) -> Found
+pub fn search(r: Recorder, budget: u32, out: &mut [u16]) -> Result<Found, Unfound>
     requires { Valid r }
     ensures { Finds r (visited r) budget out.old result out.new }
 {
@@ -111,16 +120,21 @@ pub fn search(r: Recorder, budget: u32, out: &mut [u16]) -> Found
 }
 
 // The same with a memory that is lent, of any length and whatever it holds: the more, the faster. It is written to only where a few vertices do not suffice.
-pub fn search_in(r: Recorder, budget: u32, memory: &mut [u64], out: &mut [u16]) -> Found
+pub fn search_in(
+    r: Recorder,
+    budget: u32,
+    memory: &mut [u64],
+    out: &mut [u16],
+) -> Result<Found, Unfound>
     requires { Valid r }
     ensures finds { Finds r (visited r) budget out.old result out.new }
-    ensures within { KeptWithin result.count memory.old memory.new }
+    ensures within { KeptWithin (count_in result) memory.old memory.new }
 {
     found_within(r, budget, memory, false, out)
 }
 
 // The first of all schedules of a recorder that has no device: nothing costs anything, and the table holds no extras.
-pub fn first(r: Recorder, budget: u32, out: &mut [u16]) -> Found
+pub fn first(r: Recorder, budget: u32, out: &mut [u16]) -> Result<Found, Unfound>
     requires { Valid r × (r.devices.count ≡ 0) }
     ensures { Finds r (visited_by r true) budget out.old result out.new }
 {

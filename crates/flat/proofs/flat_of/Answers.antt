@@ -10,16 +10,13 @@ use Rattle.flat.proofs.flat_of.Goals as goal
 
 pub loop-i-init : goal.loop-i-init
 unfolding up_to padded
-loop-i-init c = (omega arith, refl)
-
-pub number_of-requires : goal.number_of-requires
-number_of-requires c = (c.requires, (omega arith, omega arith))
+loop-i-init c = refl
 
 pub loop-i-preserved : goal.loop-i-preserved
 loop-i-preserved c =
     let R = c.args.r in
     let l = c.loop-i in
-    (omega arith, rw (c.number_of.ensures, l.invariant.1) (up_to_fill 320 0 (λ (n : ℕ). number_of R (n / 16) (n % 16)) l.i (omega arith)))
+    rw (c.number_of.ensures, l.invariant) (up_to_fill 320 0 (λ (n : ℕ). number_of R (n / 16) (n % 16)) l.i (omega arith))
 
 pub returns : goal.returns
 returns c =
@@ -27,4 +24,4 @@ returns c =
     let l = c.loop-i in
     let all : l.i ≡ 320 = omega arith in
     let full = padded_whole 320 0 (grid (number_of R)) (length_up_to _ 320) in
-    rw (l.invariant.1, all, full) (recorder_kept R (recorder_shaped R _ c.well_formed.0))
+    rw (l.invariant, all, full) (recorder_kept R (recorder_shaped R _ c.well_formed.0))

@@ -1,6 +1,5 @@
 -- `latest::latest_of` meets its contract. The loop's invariant: the jobs passed are offered.
 use mathlib.Core.Path.{◌≡◌}
-use Prim.Native.Nat.{◌≤◌, ◌-◌, ◌/◌, ◌^◌}
 use lib.ListN.{get_or}
 use Rattle.base.specs.Loops.{each}
 use Rattle.flat.specs.inside.Flat.{recorder_of}
@@ -8,7 +7,4 @@ use Rattle.latest.specs.inside.Latest.{offer}
 use Rattle.latest.proofs.latest_of.Given as goal
 
 abbrev pub invariant-loop-j : goal.invariant-loop-j
-invariant-loop-j l = (l.j ≤ l.n) × (l.p ≡ 2 ^ l.j) × (l.rest ≡ l.m / 2 ^ l.j) × (l.best ≡ each (offer (recorder_of l.r) (λ i. get_or l.table i 0) l.m) l.j 0)
-
-abbrev pub decreases-loop-j : goal.decreases-loop-j
-decreases-loop-j l = l.n - l.j
+invariant-loop-j l = l.best ≡ each (offer (recorder_of l.r) (λ i. get_or l.table i 0) l.m) l.j 0

@@ -1,11 +1,7 @@
 -- `latest::lay_latest` meets its contract. The loop's invariant: the sets passed are laid.
-use Prim.Native.Nat.{suc, ◌≤◌, ◌<◌, ◌-◌}
 use Rattle.flat.specs.inside.Flat.{recorder_of}
 use Rattle.latest.proofs.Tabled.{Upto}
 use Rattle.latest.proofs.lay_latest.Given as goal
 
 abbrev pub invariant-loop-m : goal.invariant-loop-m
-invariant-loop-m l = (l.m ≤ suc l.all) × (l.all < 65536) × Upto (recorder_of l.r) l.m l.table
-
-abbrev pub decreases-loop-m : goal.decreases-loop-m
-decreases-loop-m l = suc l.all - l.m
+invariant-loop-m l = Upto (recorder_of l.r) l.m l.table

@@ -9,5 +9,4 @@ first-requires c =
     (bare_valid _ _ bare c.requires, bare.none)
 
 pub returns : goal.returns
-returns c =
-    first_is _ c.requires _ c.without_devices.ensures _ _ c.first.result _ _ c.first.ensures c.answer_of.ensures
+returns c = rw c.answer_of.ensures (first_is _ c.requires _ c.without_devices.ensures _ _ _ _ c.first.ensures)

@@ -1,5 +1,5 @@
 -- What was asked of a vertex.
-use Rattle.std.specs.Prelude.{◌≡◌, List, ℕ, suc, ◌<◌}
+use Rattle.std.specs.Prelude.{◌≡◌, List, ℕ, suc, IfSome}
 use Rattle.schedule.specs.declared.Recorder.{Recorder}
 use Rattle.schedule.specs.Visiting.{Vertex, Visited, choices, floor, visit}
 use Rattle.vertex.specs.inside.Shown.{Shows}
@@ -12,5 +12,6 @@ use Rattle.recall.specs.inside.Entries.{slacked_by}
 pub record Asks (R : Recorder) (cap : ℕ → ℕ) (l : List ℕ) (jobs time slack : ℕ) (a : Asked) : Type 0 where
   pub key : a.key ≡ slacked_by (key_by R cap l jobs time) slack
   pub told :
-      0 < a.count → (m : ℕ) (u : Vertex) → Shows R l jobs (suc m) u → u.time ≡ time → (st : Visited) → Slack R (floor R u) st.best slack
-      → choices R (visit R m) u st ≡ more a.count st
+      IfSome a.count
+      (λ n. (m : ℕ) (u : Vertex) → Shows R l jobs (suc m) u → u.time ≡ time → (st : Visited) → Slack R (floor R u) st.best slack
+      → choices R (visit R m) u st ≡ more n st)

@@ -1,5 +1,5 @@
 -- The memory: entries of six words. The first is the key's head (29 bits) with the slack above it, then come the key's other words, and the last is the count.
-use Rattle.std.specs.Prelude.{◌≡◌, cond, List, ◌⊎◌, ℕ, ◌+◌, ◌*◌, ◌%◌, ◌≤◌, leb, get_or, set, length}
+use Rattle.std.specs.Prelude.{◌≡◌, cond, List, ℕ, ◌+◌, ◌*◌, ◌%◌, ◌<◌, ◌≤◌, IfSome, leb, get_or, set, length}
 use Rattle.stored.specs.declared.Key.{Key}
 use Rattle.recall.specs.declared.memory.Spot.{Spot}
 
@@ -21,9 +21,9 @@ count_at l i = word l i 5 % 4294967296
 unfoldable pub Right : (Key → ℕ → Type 0) → List ℕ → Type 0
 Right P l = (i : ℕ) → 6 * i + 6 ≤ length l → P (key_at l i) (count_at l i)
 
--- A place for the key q, and its count there: 0 where it is in none.
+-- A place for the key q, and its count there, if it has one.
 pub record Looked (l : List ℕ) (q : Key) (r : Spot) : Type 0 where
-  pub known : (r.count ≡ 0) ⊎ ((6 * r.slot + 6 ≤ length l) × (key_at l r.slot ≡ q) × (count_at l r.slot ≡ r.count))
+  pub known : IfSome r.count (λ n. (0 < n) × (6 * r.slot + 6 ≤ length l) × (key_at l r.slot ≡ q) × (count_at l r.slot ≡ n))
 
 -- Entry i written, where there is room for it.
 unfoldable pub wrote : List ℕ → ℕ → Key → ℕ → List ℕ

@@ -5,7 +5,7 @@ use mathlib.Core.List.{List}
 use Prim.Native.Nat.{◌≤◌}
 use lib.ListN.{length}
 use Rattle.base.proofs.Pieces.{part_rest}
-use Rattle.request.specs.Format.{handed_on, read_as}
+use Rattle.request.specs.Format.{read_as}
 use Rattle.request.proofs.read_by.Goals as goal
 
 pub slice_bounds-read_as-count : goal.slice_bounds-read_as-count
@@ -26,4 +26,4 @@ slice_bounds-read_as-end c =
 pub returns : goal.returns
 returns c =
     let a = c.args in
-    rw c.marker_size-from.ensures at (c.read_as.ensures ∙ ap (λ (l : List _). handed_on (read_as a.kind l)) (part_rest a.s.now c.marker_size-from.result))
+    rw c.marker_size-from.ensures at (c.read_as.ensures ∙ ap (λ (l : List _). read_as a.kind l) (part_rest a.s.now c.marker_size-from.result))

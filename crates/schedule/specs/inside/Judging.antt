@@ -1,22 +1,20 @@
 -- What judging start times gives, as the code hands it on.
-use Rattle.std.specs.Prelude.{Bool, true, false, cond, List, ℕ, ◌+◌, ltb, eqb}
+use Rattle.std.specs.Prelude.{Bool, true, false, cond, List, ℕ, ◌+◌, ltb, eqb, Result, Ok, Err}
+use Rattle.base.specs.Reasons.{number_of}
 use Rattle.schedule.specs.declared.Recorder.{Recorder}
-use Rattle.schedule.specs.declared.judging.Verdict.{Verdict}
+use Rattle.schedule.specs.declared.judging.Misplaced.{Misplaced}
 use Rattle.schedule.specs.Quantities.{jobs}
 use Rattle.schedule.specs.Listing.{Feasible, Fault, Met}
 
-abbrev pub verdict : ℕ → ℕ → Verdict
-verdict n j = record { number = n; job = record { 0 = j } }
+-- Feasible starts; or the fault with its job.
+abbrev pub Judgement : Recorder → List ℕ → Result (Unit {0}) Misplaced → Type 0
+Judgement R s (Ok u) = Feasible R s
+Judgement R s (Err m) = Fault R s (number_of m.reason) m.job.0
 
--- The fault with its job; or 0 for feasible starts.
-pub data Judgement (R : Recorder) (s : List ℕ) : Verdict → Type 0 where
-  faulty : {n j : ℕ} → Fault R s n j → Judgement R s (verdict n j)
-  feasible : Feasible R s → Judgement R s (verdict 0 0)
-
--- The faults of jobs each by itself: 16 or 17 with its job; or 0 where each job meets its release and its deadline.
-pub data Windows (R : Recorder) (s : List ℕ) : Verdict → Type 0 where
-  missed : {n j : ℕ} → Fault R s n j → Windows R s (verdict n j)
-  met : Met R s (jobs R) → Windows R s (verdict 0 0)
+-- Of jobs each by itself: each meets its release and its deadline; or the fault, 16 or 17, with its job.
+abbrev pub Windows : Recorder → List ℕ → Result (Unit {0}) Misplaced → Type 0
+Windows R s (Ok u) = Met R s (jobs R)
+Windows R s (Err m) = Fault R s (number_of m.reason) m.job.0
 
 -- One job by itself.
 unfoldable pub window_fault : (a d c s : ℕ) → ℕ

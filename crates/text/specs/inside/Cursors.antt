@@ -1,6 +1,7 @@
 -- The same text by places, as the code goes along it, two quotes between quotes left as they stand (`raw_of`). Nobody need believe these: no promise speaks of
 -- them. proofs/Scanning: they are the lines, fields and numbers of the definitions.
-use Rattle.std.specs.Prelude.{Bool, true, false, cond, ◌&&◌, List, [], ◌∷◌, ℕ, suc, ◌+◌, ◌-◌, ◌*◌, min, length, take, drop, get_or, eqb, ltb}
+use Rattle.std.specs.Prelude
+use Rattle.std.specs.Prelude.{Bool, true, false, cond, ◌&&◌, List, [], ◌∷◌, Some, None, ℕ, suc, ◌+◌, ◌-◌, ◌*◌, min, length, take, drop, get_or, eqb, leb, ltb}
 use Rattle.std.proofs.Math.Option
 use Rattle.std.proofs.Math.Option.{Option, none, some}
 use Rattle.base.specs.Lists.{all}
@@ -8,9 +9,8 @@ use Rattle.text.specs.declared.State.{State}
 use Rattle.text.specs.declared.State.TheVariants.{Fresh, Plain, Quoted, Closed}
 use Rattle.text.specs.declared.Turn.{Turn}
 use Rattle.text.specs.declared.Turn.TheVariants.{Stray, Ends, Goes}
-use Rattle.text.specs.declared.Cut.{Cut}
 use Rattle.text.specs.Grammar.{cr, lf, quote, Step, stray, ends, goes, step, fields_from}
-use Rattle.text.specs.Numerals.{digit}
+use Rattle.text.specs.Numerals.{digit, value_from}
 
 -- ---- lines
 
@@ -49,6 +49,10 @@ is_over Quoted = false
 is_over Closed = true
 
 -- How far a field reaches: the bytes before the comma or the line's end, and whether no quote is stray or open till there.
+pub record Cut : Type 0 where
+  pub size : ℕ
+  pub whole : Bool
+
 abbrev pub onward : Step → (State → Cut) → Cut
 onward stray rest = record { size = 0; whole = false }
 onward ends rest = record { size = 0; whole = true }
@@ -61,6 +65,10 @@ cut_from q (b ∷ s) = onward (step (quote ∷ quote ∷ []) q b) (λ r. cut_fro
 abbrev pub cut_of : List ℕ → Cut
 cut_of = cut_from Fresh
 
+-- What the code tells of it: how far it reaches, if it is whole.
+abbrev pub told : Cut → Prelude.Option ℕ
+told c = cond c.whole (Some c.size) None
+
 -- A field's bytes: those up to its end, without the quotes around them.
 abbrev pub starts_quoted : List ℕ → Bool
 starts_quoted [] = false
@@ -69,10 +77,10 @@ starts_quoted (b ∷ s) = eqb b quote
 abbrev pub first_field : List ℕ → List ℕ
 first_field s = cond (starts_quoted s) (take ((cut_of s).size - 2) (drop 1 s)) (take (cut_of s).size s)
 
--- How many fields there are behind k; 0 where a quote is stray or open.
-abbrev pub counted : ℕ → Option (List (List ℕ)) → ℕ
-counted k none = 0
-counted k (some fs) = k + length fs
+-- How many fields there are behind k; none where a quote is stray or open.
+abbrev pub counted : ℕ → Option (List (List ℕ)) → Prelude.Option ℕ
+counted k none = None
+counted k (some fs) = Some (k + length fs)
 
 -- Field i; empty past the last.
 abbrev pub field_at : Option (List (List ℕ)) → ℕ → List ℕ
@@ -80,14 +88,14 @@ field_at o i = get_or (Option.get_or o []) i []
 
 -- ---- numbers
 
--- The value of digits, never above 65,536: nothing wraps, however many there are.
-unfoldable pub capped_from : ℕ → List ℕ → ℕ
-capped_from v [] = v
-capped_from v (b ∷ s) = capped_from (min (v * 10 + (b - 48)) 65536) s
+-- The number that the digits s make behind one read so far, if it has 16 bits; and that of a field, which has one digit at least.
+abbrev pub number_from : ℕ → List ℕ → Prelude.Option ℕ
+number_from v s = cond (all digit s && leb (value_from v s) 65535) (Some (value_from v s)) None
 
--- 65,536 for what is no number of 16 bits.
-abbrev pub number_from : ℕ → List ℕ → ℕ
-number_from v s = cond (all digit s) (capped_from v s) 65536
+abbrev pub number_of : List ℕ → Prelude.Option ℕ
+number_of f = cond (ltb 0 (length f)) (number_from 0 f) None
 
-abbrev pub number_of : List ℕ → ℕ
-number_of f = cond (ltb 0 (length f)) (number_from 0 f) 65536
+-- It is a number of at most m.
+abbrev pub fits : ℕ → Prelude.Option ℕ → Bool
+fits m None = false
+fits m (Some n) = leb n m

@@ -1,7 +1,9 @@
 -- What the search lends and what its calls come to. The tally is thirty-five numbers: 0 the count, 1 the energy of the best (4294967295 where there is none), 2 to 17
 -- the starts of the jobs that are placed, by job number, 18 to 33 those of the best, and 34 whether the visit ends at the first complete vertex (1).
-use Rattle.std.specs.Prelude.{◌≡◌, Bool, true, false, cond, List, ◌++◌, ◌⊎◌, ℕ, suc, ◌+◌, ◌-◌, ◌^◌, ◌≤◌, ◌<◌, eqb, get_or, set, length, drop}
+use Rattle.std.specs.Prelude.{◌≡◌, Bool, true, false, cond, List, ◌++◌, ◌⊎◌, ℕ, suc, ◌+◌, ◌-◌, ◌^◌, ◌≤◌, ◌<◌, eqb, get_or, set, length, drop, Result, Ok, Err}
 use Rattle.std.proofs.Math.Option.{Option, none, some}
+use Rattle.base.specs.declared.reasons.Reason.{Reason}
+use Rattle.base.specs.declared.reasons.Reason.TheVariants.{NoRoom, NoSchedule, Budget}
 use Rattle.base.specs.Lists.{In}
 use Rattle.base.specs.Loops.{through}
 use Rattle.schedule.specs.declared.Recorder.{Recorder}
@@ -13,6 +15,7 @@ use Rattle.vertex.specs.inside.Shown.{Shows}
 use Rattle.recall.specs.inside.Entries.{Right}
 use Rattle.recall.specs.inside.Counts.{Counts}
 use Rattle.visit.specs.declared.Found.{Found}
+use Rattle.visit.specs.declared.Unfound.{Unfound}
 use Rattle.visit.specs.inside.Stops.{Open, visit_by, visited_by, entered}
 
 -- ---- the tally
@@ -167,16 +170,21 @@ module _ (R : Recorder) (budget : ℕ) (v l l' : List ℕ) (x : Bool) where
 
 -- ---- the answer
 
-abbrev pub refusal : ℕ → ℕ → Found
-refusal k c = record { number = k; energy = 0; count = c }
+abbrev pub refusal : Reason → ℕ → Result Found Unfound
+refusal k c = Err (record { reason = k; count = c })
 
-abbrev pub success : ℕ → ℕ → Found
-success e c = record { number = 0; energy = e; count = c }
+abbrev pub success : ℕ → ℕ → Result Found Unfound
+success e c = Ok (record { energy = e; count = c })
+
+-- How many vertices an answer tells.
+abbrev pub count_in : Result Found Unfound → ℕ
+count_in (Ok f) = f.count
+count_in (Err f) = f.count
 
 -- 15 where the list is too short, then 20, then 19; else the starts of the best of a visit that comes to st, with its energy. What is lent beyond stays as it was.
-pub data Finds (R : Recorder) (st : Visited) (budget : ℕ) (lent : List ℕ) : Found → List ℕ → Type 0 where
-  short : length lent < jobs R → Finds R st budget lent (refusal 15 0) lent
-  beyond : jobs R ≤ length lent → budget < st.count → Finds R st budget lent (refusal 20 budget) lent
-  nowhere : jobs R ≤ length lent → st.count ≤ budget → st.best ≡ none → Finds R st budget lent (refusal 19 st.count) lent
+pub data Finds (R : Recorder) (st : Visited) (budget : ℕ) (lent : List ℕ) : Result Found Unfound → List ℕ → Type 0 where
+  short : length lent < jobs R → Finds R st budget lent (refusal NoRoom 0) lent
+  beyond : jobs R ≤ length lent → budget < st.count → Finds R st budget lent (refusal Budget budget) lent
+  nowhere : jobs R ≤ length lent → st.count ≤ budget → st.best ≡ none → Finds R st budget lent (refusal NoSchedule st.count) lent
   found : {s : List ℕ} → jobs R ≤ length lent → st.count ≤ budget → st.best ≡ some s
       → Finds R st budget lent (success (plan_energy R s) st.count) (s ++ drop (jobs R) lent)

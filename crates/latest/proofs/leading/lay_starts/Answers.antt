@@ -28,7 +28,7 @@ run_of-requires c = omega (arith, c.first_job-j.ensures.opens.known, c.requires.
 
 pub overflow_add-t : goal.overflow_add-t
 overflow_add-t c =
-    omega (arith, c.run_of.ensures, c.later-s.ensures, c.release_of.ensures, leads_ends (recorder_of c.args.r.now) c.requires.0 _ _ _ c.first_job-j.ensures)
+    omega (arith, c.run_of.ensures, c.max-s.ensures, c.release_of.ensures, leads_ends (recorder_of c.args.r.now) c.requires.0 _ _ _ c.first_job-j.ensures)
 
 pub power-m-requires : goal.power-m-requires
 power-m-requires c = omega (arith, c.first_job-j.ensures.opens.known, c.requires.0.few_jobs)
@@ -46,8 +46,8 @@ loop-m-preserved c =
     let j = c.first_job-j.result in
     let t = c.loop-m.t in
     rw (c.power-m.ensures, c.run_of.ensures)
-    (going_next (recorder_of c.args.r.now) c.args.starts.now c.loop-m.invariant j c.later-s.result c.first_job-j.ensures
-    (c.later-s.ensures ∙ ap (λ (x : ℕ). max t x) c.release_of.ensures))
+    (going_next (recorder_of c.args.r.now) c.args.starts.now c.loop-m.invariant j c.max-s.result c.first_job-j.ensures
+    (c.max-s.ensures ∙ ap (λ (x : ℕ). max t x) c.release_of.ensures))
 
 pub shape_of-starts : goal.shape_of-starts
 shape_of-starts c = c.loop-m.invariant.long

@@ -4,6 +4,6 @@ use Rattle.planner.proofs.recorders.search_in_of.Goals as goal
 
 pub returns : goal.returns
 returns c = record {
-  planned = search_is _ _ _ c.requires c.search_in.result _ _ c.search_in.ensures.finds c.answer_of.ensures;
-  lent = search_keeps _ c.search_in.result _ _ _ c.answer_of.ensures c.search_in.ensures.within;
+  planned = rw c.answer_of.ensures (search_is _ _ _ c.requires _ _ c.search_in.ensures.finds);
+  lent = rw c.answer_of.ensures (search_keeps _ c.search_in.result _ _ c.search_in.ensures.within);
 }

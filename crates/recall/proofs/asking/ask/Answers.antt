@@ -32,4 +32,4 @@ returns c =
     let cap = cap_at c.args.extras.now in
     looked_asks R c.args.extras.now c.args.v.now c.requires.0 c.args.set c.args.time c.args.memory.now c.requires.1.1 c.args.slack
     c.slacked-key.result
-    (c.slacked-key.ensures ∙ ap (λ (k : Key). slacked_by k c.args.slack) c.key_of.ensures) c.look-spot.result c.look-spot.ensures
+    (c.slacked-key.ensures ∙ ap (λ (k : Key). slacked_by k c.args.slack) c.key_of.ensures) c.look-slot.result c.look-slot.ensures

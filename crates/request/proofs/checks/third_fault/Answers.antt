@@ -14,6 +14,7 @@ use Rattle.tables.specs.declared.DeviceRecord.{DeviceRecord}
 use Rattle.tables.specs.Records.{device_at, device_size}
 use Rattle.request.specs.Format.{powers_table, device_table}
 use Rattle.request.proofs.checks.third_fault.Goals as goal
+use Rattle.request.proofs.checks.third_fault.Goals.{then-levels-eq0-via-then-levels-eq0, then-levels-eq0-via-else-levels-eq0+then-levels-gt4}
 
 module _ (s : List ℕ) (at : ℕ) where
   abbrev levels : ℕ
@@ -61,10 +62,13 @@ pub returns-then-time-eq0 : goal.returns-then-time-eq0
 returns-then-time-eq0 c = let a = c.args in by a.s.now a.at (search paths)
 
 pub returns-then-levels-eq0 : goal.returns-then-levels-eq0
-returns-then-levels-eq0 c = let a = c.args in by a.s.now a.at (search paths)
-
-pub returns-then-levels-gt4 : goal.returns-then-levels-gt4
-returns-then-levels-gt4 c = let a = c.args in by a.s.now a.at (search paths depth 9)
+returns-then-levels-eq0 c =
+    let a = c.args in
+    by a.s.now a.at
+    (elim c.then-levels-eq0.branch [
+      | then-levels-eq0-via-then-levels-eq0 w ↦ search paths depth 9
+      | then-levels-eq0-via-else-levels-eq0+then-levels-gt4 w ↦ search paths depth 9
+    ])
 
 pub returns-then-there-size : goal.returns-then-there-size
 returns-then-there-size c =

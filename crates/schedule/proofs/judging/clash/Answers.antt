@@ -1,16 +1,13 @@
 -- `schedule::judging::clash` meets its contract.
-use Rattle.base.proofs.Paths.{paths}
+use Rattle.std.proofs.Common.{arith}
 use Rattle.schedule.specs.inside.Judging.{clashes}
 use Rattle.schedule.proofs.judging.clash.Goals as goal
+use Rattle.schedule.proofs.judging.clash.Goals.{then-i-j, else-i-j}
 
-pub returns-then-i-j : goal.returns-then-i-j
+pub returns-then-from : goal.returns-then-from
 unfolding clashes
-returns-then-i-j c = search paths
+returns-then-from c = elim c.if-i-j.branch [ then-i-j w ↦ grind arith | else-i-j w ↦ grind arith ]
 
-pub returns-then-s-t : goal.returns-then-s-t
+pub returns-else-from : goal.returns-else-from
 unfolding clashes
-returns-then-s-t c = search paths
-
-pub returns : goal.returns
-unfolding clashes
-returns c = search paths
+returns-else-from c = elim c.if-i-j.branch [ then-i-j w ↦ grind arith | else-i-j w ↦ grind arith ]

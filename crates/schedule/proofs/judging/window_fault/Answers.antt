@@ -1,16 +1,16 @@
 -- `schedule::judging::window_fault` meets its contract.
-use Rattle.base.proofs.Paths.{paths}
+use Rattle.std.proofs.Common.{arith}
 use Rattle.schedule.specs.inside.Judging.{window_fault}
 use Rattle.schedule.proofs.judging.window_fault.Goals as goal
 
-pub returns-then-start-release : goal.returns-then-start-release
+pub returns-then-start-job : goal.returns-then-start-job
 unfolding window_fault
-returns-then-start-release c = search paths
+returns-then-start-job c = grind arith
 
-pub returns-then-deadline-start : goal.returns-then-deadline-start
+pub returns-then-from : goal.returns-then-from
 unfolding window_fault
-returns-then-deadline-start c = search paths
+returns-then-from c = grind arith
 
 pub returns : goal.returns
 unfolding window_fault
-returns c = search paths
+returns c = grind arith

@@ -5,8 +5,8 @@ use Rattle.stored.proofs.naming.idle_with.Goals as goal
 pub returns-then-unused : goal.returns-then-unused
 returns-then-unused c = rw (lt-ltb 0 c.args.ahead c.if-ahead-gt0.true, c.if-unused.true)
 
-pub returns-then-ahead-gt0 : goal.returns-then-ahead-gt0
-returns-then-ahead-gt0 c = rw (lt-ltb 0 c.args.ahead c.if-ahead-gt0.true, c.if-unused.false) c.smaller.ensures
+pub returns-else-unused : goal.returns-else-unused
+returns-else-unused c = rw (lt-ltb 0 c.args.ahead c.if-ahead-gt0.true, c.if-unused.false) c.min.ensures
 
-pub returns : goal.returns
-returns c = rw (le-ltb 0 c.args.ahead c.if-ahead-gt0.false) c.smaller-2.ensures
+pub returns-else-ahead-gt0 : goal.returns-else-ahead-gt0
+returns-else-ahead-gt0 c = rw (le-ltb 0 c.args.ahead c.if-ahead-gt0.false) c.min-else-ahead-gt0.ensures

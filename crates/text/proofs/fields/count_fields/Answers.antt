@@ -1,96 +1,42 @@
-use mathlib.Core.Path.{◌≡◌, refl, sym, ap, ◌∙◌}
-use Prim.Native.Nat.{◌+◌}
+use mathlib.Core.Path.{sym, ◌∙◌}
 use native.Mathlib.Omega.{arith}
-use lib.ListN.{drop, length-drop}
-use lib.Seq.{drop-drop}
-use borrow.Author.Tests.{not-true, not-false}
-use Rattle.text.specs.declared.Cut.{Cut}
-use Rattle.text.specs.inside.Cursors.{cut_of}
-use Rattle.text.proofs.Cutting.{cut_within, count_stray, count_last, count_more}
-use Rattle.base.proofs.Pieces.{part_rest}
+use Rattle.text.proofs.Cutting.{told_some, told_none, count_stray, last_counted, next_counted}
 use Rattle.text.proofs.fields.count_fields.Goals as goal
 
-pub loop-at-init : goal.loop-at-init
-loop-at-init c = (omega arith, omega arith, refl)
-
-pub returns-then-not-field : goal.returns-then-not-field
-returns-then-not-field c =
-    let l = c.loop-at in
+pub returns-in_err-end : goal.returns-in_err-end
+returns-in_err-end c =
+    let l = c.loop-end in
     let s = c.args.line.now in
-    let e = c.cut-field.ensures ∙ ap cut_of (part_rest s l.at) in
-    let size = ap (λ (x : Cut). x.size) e in
-    let whole = ap (λ (x : Cut). x.whole) e in
-    let within = cut_within (drop l.at s) in
-    let long = length-drop l.at s in
-    sym (l.invariant.2 ∙ count_stray (drop l.at s) l.count (sym whole ∙ not-true _ c.if-not-field.true))
+    c.from_residual.ensures ∙ sym (l.invariant.2 ∙ count_stray _ l.count (told_none s l.at c.in_err-end.ensures))
 
 pub overflow_add-end : goal.overflow_add-end
 overflow_add-end c =
-    let l = c.loop-at in
+    let l = c.loop-end in
     let s = c.args.line.now in
-    let e = c.cut-field.ensures ∙ ap cut_of (part_rest s l.at) in
-    let size = ap (λ (x : Cut). x.size) e in
-    let whole = ap (λ (x : Cut). x.whole) e in
-    let within = cut_within (drop l.at s) in
-    let long = length-drop l.at s in
+    let n = c.in_ok-end.field-0 in
+    let w = told_some s l.at n l.invariant.0 c.in_ok-end.ensures in
     omega arith
 
-pub overflow_add-count : goal.overflow_add-count
-overflow_add-count c =
-    let l = c.loop-at in
+pub returns-then-end-line : goal.returns-then-end-line
+returns-then-end-line c =
+    let l = c.loop-end in
     let s = c.args.line.now in
-    let e = c.cut-field.ensures ∙ ap cut_of (part_rest s l.at) in
-    let size = ap (λ (x : Cut). x.size) e in
-    let whole = ap (λ (x : Cut). x.whole) e in
-    let within = cut_within (drop l.at s) in
-    let long = length-drop l.at s in
-    omega arith
-
-pub returns-then-end-n : goal.returns-then-end-n
-returns-then-end-n c =
-    let l = c.loop-at in
-    let s = c.args.line.now in
-    let e = c.cut-field.ensures ∙ ap cut_of (part_rest s l.at) in
-    let size = ap (λ (x : Cut). x.size) e in
-    let whole = ap (λ (x : Cut). x.whole) e in
-    let within = cut_within (drop l.at s) in
-    let long = length-drop l.at s in
-    sym (l.invariant.2 ∙ count_last (drop l.at s) (sym whole ∙ not-false _ c.if-not-field.false) l.count (omega arith))
+    let n = c.in_ok-end.field-0 in
+    let w = told_some s l.at n l.invariant.0 c.in_ok-end.ensures in
+    sym (l.invariant.2 ∙ last_counted s l.at n w l.count c.if-end-line.true)
 
 pub overflow_add-at : goal.overflow_add-at
 overflow_add-at c =
-    let l = c.loop-at in
+    let l = c.loop-end in
     let s = c.args.line.now in
-    let e = c.cut-field.ensures ∙ ap cut_of (part_rest s l.at) in
-    let size = ap (λ (x : Cut). x.size) e in
-    let whole = ap (λ (x : Cut). x.whole) e in
-    let within = cut_within (drop l.at s) in
-    let long = length-drop l.at s in
-    omega arith
+    let n = c.in_ok-end.field-0 in
+    let w = told_some s l.at n l.invariant.0 c.in_ok-end.ensures in
+    omega (arith, c.if-end-line.false)
 
-pub loop-at-smaller : goal.loop-at-smaller
-loop-at-smaller c =
-    let l = c.loop-at in
+pub loop-end-preserved : goal.loop-end-preserved
+loop-end-preserved c =
+    let l = c.loop-end in
     let s = c.args.line.now in
-    let e = c.cut-field.ensures ∙ ap cut_of (part_rest s l.at) in
-    let size = ap (λ (x : Cut). x.size) e in
-    let whole = ap (λ (x : Cut). x.whole) e in
-    let within = cut_within (drop l.at s) in
-    let long = length-drop l.at s in
-    omega arith
-
-pub loop-at-preserved : goal.loop-at-preserved
-loop-at-preserved c =
-    let l = c.loop-at in
-    let s = c.args.line.now in
-    let e = c.cut-field.ensures ∙ ap cut_of (part_rest s l.at) in
-    let size = ap (λ (x : Cut). x.size) e in
-    let whole = ap (λ (x : Cut). x.whole) e in
-    let within = cut_within (drop l.at s) in
-    let long = length-drop l.at s in
-    let more = count_more (drop l.at s) (sym whole ∙ not-false _ c.if-not-field.false) l.count (omega arith) in
-    let next : l.at + ((cut_of (drop l.at s)).size + 1) ≡ l.at + c.cut-field.result.size + 1 = omega arith in
-    (omega arith, omega arith, l.invariant.2 ∙ more ∙ rw (drop-drop ((cut_of (drop l.at s)).size + 1) l.at s, next))
-
-pub returns : goal.returns
-returns c = let l = c.loop-at in absurd (omega arith)
+    let n = c.in_ok-end.field-0 in
+    let w = told_some s l.at n l.invariant.0 c.in_ok-end.ensures in
+    (omega (arith, c.if-end-line.false), omega arith, l.invariant.2 ∙ next_counted s l.at n w l.count c.if-end-line.false)

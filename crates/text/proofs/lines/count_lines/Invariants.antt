@@ -6,7 +6,7 @@ use Rattle.text.specs.Grammar.{lines_of}
 use Rattle.text.proofs.lines.count_lines.Given as goal
 
 abbrev pub invariant-loop-at : goal.invariant-loop-at
-invariant-loop-at l = (l.at ≤ l.n) × (l.count ≤ l.at) × (length (lines_of l.text) ≡ l.count + length (lines_of (drop l.at l.text)))
+invariant-loop-at l = (l.at ≤ length l.text) × (l.count ≤ l.at) × (length (lines_of l.text) ≡ l.count + length (lines_of (drop l.at l.text)))
 
 abbrev pub decreases-loop-at : goal.decreases-loop-at
-decreases-loop-at l = l.n - l.at
+decreases-loop-at l = length l.text - l.at

@@ -1,40 +1,32 @@
-use mathlib.Core.Path.{sym, ◌∙◌}
+use mathlib.Core.Path.{sym, ap, ◌∙◌}
+use Prim.Native.Nat.{◌+◌}
 use native.Mathlib.Omega.{arith}
-use lib.ListN.{get_or}
-use Rattle.text.proofs.Scanning.{number_none, number_some, number_next, number_below, number_above, digit_is, number_done}
+use lib.ListN.{get_or, drop}
+use Rattle.text.specs.inside.Cursors.{number_from}
+use Rattle.text.proofs.Scanning.{number_next, number_above, digit_is, number_done}
 use Rattle.text.proofs.numbers.number_of.Goals as goal
 
-pub returns-then-n-eq0 : goal.returns-then-n-eq0
-returns-then-n-eq0 c = sym (number_none c.args.field.now c.if-n-eq0.true)
-
-pub loop-i-init : goal.loop-i-init
-loop-i-init c = (omega arith, omega arith, number_some c.args.field.now (omega arith))
-
-pub returns-then-b-lt48 : goal.returns-then-b-lt48
-returns-then-b-lt48 c =
-    let l = c.loop-i in
+pub returns-in_err-value : goal.returns-in_err-value
+returns-in_err-value c =
+    let l = c.loop-b in
     let f = c.args.field.now in
-    sym (l.invariant.2 ∙ number_below f l.value l.i (omega arith) (omega arith))
+    let d = c.if-not-is_ascii_digit.ensures.cases in
+    c.from_residual.ensures
+    ∙ sym (l.invariant.1 ∙ number_above f l.value l.b-index (omega arith) (digit_is (get_or f l.b-index 0) d.0 d.1) (omega (arith, c.in_err-value.ensures)))
 
-pub returns-then-b-gt57 : goal.returns-then-b-gt57
-returns-then-b-gt57 c =
-    let l = c.loop-i in
+pub loop-b-preserved : goal.loop-b-preserved
+loop-b-preserved c =
+    let l = c.loop-b in
     let f = c.args.field.now in
-    sym (l.invariant.2 ∙ number_above f l.value l.i (omega arith) (omega arith))
-
-pub loop-i-preserved : goal.loop-i-preserved
-loop-i-preserved c =
-    let l = c.loop-i in
-    let f = c.args.field.now in
-    let a-digit = digit_is (get_or f l.i 0) (omega arith) (omega arith) in (
-      omega arith,
-      omega (arith, c.smaller-value.ensures),
-      l.invariant.2 ∙ number_next f l.value l.i (omega arith) a-digit
-          ∙ rw c.smaller-value.ensures,
+    let d = c.if-not-is_ascii_digit.ensures.cases in
+    let more = c.in_ok-value.ensures in (
+      omega (arith, more.0, more.1),
+      l.invariant.1 ∙ number_next f l.value l.b-index (omega arith) (digit_is (get_or f l.b-index 0) d.0 d.1)
+          ∙ ap (λ v. number_from v (drop (l.b-index + 1) f)) (sym more.1),
     )
 
 pub returns : goal.returns
 returns c =
-    let l = c.loop-i in
+    let l = c.loop-b in
     let f = c.args.field.now in
-    sym (l.invariant.2 ∙ number_done f l.value l.i (omega arith))
+    sym (l.invariant.1 ∙ number_done f l.value l.b-index (omega arith) (omega arith))

@@ -1,13 +1,10 @@
 -- `vertex::cells::load_of` meets its contract.
 use mathlib.Core.Path.{◌≡◌}
-use Prim.Native.Nat.{◌≤◌, ◌-◌, ◌*◌}
+use Prim.Native.Nat.{◌≤◌, ◌*◌}
 use Rattle.base.specs.Sums.{sum}
 use Rattle.schedule.specs.Quantities.{run}
 use Rattle.flat.specs.inside.Flat.{recorder_of}
 use Rattle.vertex.proofs.cells.load_of.Given as goal
 
 abbrev pub invariant-loop-j : goal.invariant-loop-j
-invariant-loop-j l = (l.j ≤ l.n) × (l.n ≤ 16) × (l.load ≡ sum l.j (run (recorder_of l.r))) × (l.load ≤ 65535 * l.j)
-
-abbrev pub decreases-loop-j : goal.decreases-loop-j
-decreases-loop-j l = l.n - l.j
+invariant-loop-j l = (l.n ≤ 16) × (l.load ≡ sum l.j (run (recorder_of l.r))) × (l.load ≤ 65535 * l.j)

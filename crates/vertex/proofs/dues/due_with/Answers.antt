@@ -7,6 +7,6 @@ pub returns-then-x-d : goal.returns-then-x-d
 unfolding due_with
 returns-then-x-d c = simp (lt-ltb _ _ c.if-x-d.true)
 
-pub returns : goal.returns
+pub returns-else-x-d : goal.returns-else-x-d
 unfolding due_with
-returns c = simp (le-ltb _ _ c.if-x-d.false, c.smaller-second.ensures)
+returns-else-x-d c = simp (le-ltb _ _ c.if-x-d.false, c.min-second.ensures)

@@ -26,8 +26,8 @@ extra_of-close-requires c =
 pub returns-then-is_unused : goal.returns-then-is_unused
 returns-then-is_unused c = (rw (← c.is_unused.ensures, c.if-is_unused.true), omega arith)
 
-pub returns : goal.returns
-returns c =
+pub returns-else-is_unused : goal.returns-else-is_unused
+returns-else-is_unused c =
     let room : (c.args.end ≤ c.args.h) × (c.args.first + (c.args.h - c.args.end) ≤ (recorder_of c.args.r.now).horizon) = let p = c.requires.1.1 in (p.1.0, omega (arith, p.0, p.1.0, p.1.1)) in
     let a = c.args in
     let g = a.first + (a.h - a.end) in

@@ -12,20 +12,20 @@ pub run_of-requires : goal.run_of-requires
 run_of-requires c = c.requires.1.0
 
 pub loop-k-init : goal.loop-k-init
-loop-k-init c = (omega arith, omega (arith, c.device_count-m.ensures, c.requires.0.valid.few_devices), refl, omega arith)
+loop-k-init c = (omega (arith, c.device_count-m.ensures, c.requires.0.valid.few_devices), refl, omega arith)
 
 pub end_with-sum-requires : goal.end_with-sum-requires
 end_with-sum-requires c =
     let few : c.loop-k.k < (recorder_of c.args.r.now).devices.count = omega (arith, c.loop-k-test.true, c.device_count-m.ensures) in
     let ord = c.requires.1.1.0 in
-    rw (c.wide-h.ensures.0, c.horizon_of.ensures, c.wide-c.ensures.0, c.run_of.ensures)
+    rw (c.from-h.ensures, c.horizon_of.ensures, c.from-c.ensures, c.run_of.ensures)
     (c.requires.0, (few, (c.requires.1.0, (ord.firsts c.loop-k.k few, (ord.ends c.loop-k.k few, (c.requires.1.1.1, omega arith))))))
 
 pub overflow_add-sum : goal.overflow_add-sum
 overflow_add-sum c =
     let more : let l = c.loop-k in
     (l.sum + c.end_with-sum.result ≤ 268431360 * (l.k + 1)) × (l.sum + c.end_with-sum.result ≤ 2147450880) = let l = c.loop-k in
-    devices_more l.sum l.k c.end_with-sum.result l.invariant.3 (omega arith) c.end_with-sum.ensures.1 in
+    devices_more l.sum l.k c.end_with-sum.result l.invariant.2 (omega arith) c.end_with-sum.ensures.1 in
     omega (arith, more)
 
 pub loop-k-preserved : goal.loop-k-preserved
@@ -33,13 +33,13 @@ unfolding end_by
 loop-k-preserved c =
     let more : let l = c.loop-k in
     (l.sum + c.end_with-sum.result ≤ 268431360 * (l.k + 1)) × (l.sum + c.end_with-sum.result ≤ 2147450880) = let l = c.loop-k in
-    devices_more l.sum l.k c.end_with-sum.result l.invariant.3 (omega arith) c.end_with-sum.ensures.1 in
+    devices_more l.sum l.k c.end_with-sum.result l.invariant.2 (omega arith) c.end_with-sum.ensures.1 in
     let l = c.loop-k in
     let a = c.args in
     let R = recorder_of a.r.now in
     let here : c.end_with-sum.result ≡ end_by R a.v.now a.j a.s l.k
-    = rw (c.is_round-round.ensures, c.wide-h.ensures.0, c.horizon_of.ensures, c.wide-c.ensures.0, c.run_of.ensures) at c.end_with-sum.ensures.0 in
-    (omega arith, l.invariant.1, omega (arith, here, l.invariant.2, sum_more l.k (end_by R a.v.now a.j a.s)), more.0)
+    = rw (c.is_round-round.ensures, c.from-h.ensures, c.horizon_of.ensures, c.from-c.ensures, c.run_of.ensures) at c.end_with-sum.ensures.0 in
+    (l.invariant.0, omega (arith, here, l.invariant.1, sum_more l.k (end_by R a.v.now a.j a.s)), more.0)
 
 pub returns : goal.returns
 returns c =
@@ -47,4 +47,4 @@ returns c =
     let R = recorder_of a.r.now in
     let l = c.loop-k in
     let all : l.k ≡ R.devices.count = omega (arith, c.device_count-m.ensures) in
-    (l.invariant.2 ∙ ap (λ (n : ℕ). sum n (end_by R a.v.now a.j a.s)) all, omega (arith, l.invariant.0, l.invariant.1, l.invariant.3))
+    (l.invariant.1 ∙ ap (λ (n : ℕ). sum n (end_by R a.v.now a.j a.s)) all, omega (arith, l.auto.k-end, l.invariant.0, l.invariant.2))

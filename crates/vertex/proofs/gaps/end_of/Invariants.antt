@@ -1,13 +1,10 @@
 -- `vertex::gaps::end_of` meets its contract.
 use mathlib.Core.Path.{◌≡◌}
-use Prim.Native.Nat.{◌≤◌, ◌-◌, ◌*◌}
+use Prim.Native.Nat.{◌≤◌, ◌*◌}
 use Rattle.base.specs.Sums.{sum}
 use Rattle.flat.specs.inside.Flat.{recorder_of}
 use Rattle.vertex.specs.inside.Shown.{end_by}
 use Rattle.vertex.proofs.gaps.end_of.Given as goal
 
 abbrev pub invariant-loop-k : goal.invariant-loop-k
-invariant-loop-k l = (l.k ≤ l.m) × (l.m ≤ 8) × (l.sum ≡ sum l.k (end_by (recorder_of l.r) l.v l.j l.s)) × (l.sum ≤ 268431360 * l.k)
-
-abbrev pub decreases-loop-k : goal.decreases-loop-k
-decreases-loop-k l = l.m - l.k
+invariant-loop-k l = (l.m ≤ 8) × (l.sum ≡ sum l.k (end_by (recorder_of l.r) l.v l.j l.s)) × (l.sum ≤ 268431360 * l.k)

@@ -1,13 +1,10 @@
 -- `vertex::gaps::root_floor` meets its contract.
 use mathlib.Core.Path.{◌≡◌}
-use Prim.Native.Nat.{◌≤◌, ◌-◌, ◌*◌}
+use Prim.Native.Nat.{◌≤◌, ◌*◌}
 use Rattle.base.specs.Sums.{sum}
 use Rattle.flat.specs.inside.Flat.{recorder_of}
 use Rattle.vertex.specs.inside.Shown.{idle_floor}
 use Rattle.vertex.proofs.gaps.root_floor.Given as goal
 
 abbrev pub invariant-loop-k : goal.invariant-loop-k
-invariant-loop-k l = (l.k ≤ l.m) × (l.m ≤ 8) × (l.sum ≡ sum l.k (idle_floor (recorder_of l.r) l.v)) × (l.sum ≤ 268431360 * l.k)
-
-abbrev pub decreases-loop-k : goal.decreases-loop-k
-decreases-loop-k l = l.m - l.k
+invariant-loop-k l = (l.m ≤ 8) × (l.sum ≡ sum l.k (idle_floor (recorder_of l.r) l.v)) × (l.sum ≤ 268431360 * l.k)
