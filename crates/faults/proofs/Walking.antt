@@ -71,9 +71,11 @@ module _ (mark : ℕ) (s : List ℕ) (k : Section) where
   -- One record at fault, or none.
   pub one_stop : (i at : ℕ) (e : PlaceFault) → at_fault e ≡ or_next (record_place mark s k i at) no_fault → (at_fault e ≡ record_place mark s k i at) × ((at_fault e).number ≡ 0 → ⊥)
   one_stop i at e h =
-      let some : (at_fault e).number ≡ 0 → ⊥ = λ z. omega (arith, some_number e.reason) in
-      (test_cases (λ t. at_fault e ≡ cond t no_fault (record_place mark s k i at) → at_fault e ≡ record_place mark s k i at) (eqb (record_place mark s k i at).number 0)
-      (λ b j. absurd (some (ap (λ (g : Judged). g.number) j))) (λ b j. j) h, some)
+      let some : (at_fault e).number ≡ 0 → ⊥ = λ z. omega (arith, some_number e.reason) in (
+        test_cases (λ t. at_fault e ≡ cond t no_fault (record_place mark s k i at) → at_fault e ≡ record_place mark s k i at) (eqb (record_place mark s k i at).number 0)
+            (λ b j. absurd (some (ap (λ (g : Judged). g.number) j))) (λ b j. j) h,
+        some,
+      )
 
   pub one_pass : (i at : ℕ) → no_fault ≡ or_next (record_place mark s k i at) no_fault → (record_place mark s k i at).number ≡ 0
   one_pass i at h =

@@ -78,7 +78,14 @@ fn jobs_fault(
 }
 
 // From the job count on: 11, then 10, then the jobs.
-fn job_fault(s: &[u8], mark: usize, n: usize, tasks: usize, from: usize, at: usize) -> Result<(), PlaceFault>
+fn job_fault(
+    s: &[u8],
+    mark: usize,
+    n: usize,
+    tasks: usize,
+    from: usize,
+    at: usize,
+) -> Result<(), PlaceFault>
     requires { SoundTasks s.now tasks from × (3 ≤ from) × (from ≤ at) × (at ≤ length s.now) × (mark ≤ 2) }
     ensures { judged result ≡ job_walk mark s.now n tasks from at }
 {

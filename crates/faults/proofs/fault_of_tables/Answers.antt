@@ -4,11 +4,10 @@ use mathlib.Core.List.{List}
 use Prim.Native.Nat.{ℕ, ◌≤◌}
 use native.Mathlib.Omega.{arith}
 use lib.ListN.{length, take, drop, length-append}
-use lib.Seq.{length-take-le}
 use Rattle.tables.specs.declared.Tables.{Tables}
 use Rattle.tables.specs.Layout.{marker, layout_of, bytes_of}
 use Rattle.tables.specs.inside.Held.{limited, held}
-use Rattle.tables.proofs.Appending.{held_front, held_long}
+use Rattle.tables.proofs.Appending.{held_front}
 use Rattle.tables.proofs.Back.{unmarked}
 use Rattle.tables.proofs.Joining.{limited_fits}
 use Rattle.faults.specs.Places.{Judged, FaultAs, TablesFault}
