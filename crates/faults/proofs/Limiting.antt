@@ -28,8 +28,7 @@ use Rattle.request.specs.Format.{size_of, horizon_of, mixed, count_of}
 use Rattle.request.proofs.Alike.{Alike, size_same, record_same}
 use Rattle.request.proofs.Limiting.{or_true, many_jobs, limited_same}
 use Rattle.faults.specs.declared.Place.TheVariants.{DeviceCount, TaskCount, JobCount}
-use Rattle.faults.specs.declared.PlaceFault.{PlaceFault}
-use Rattle.faults.specs.Places.{place_at, called_for, record_place}
+use Rattle.faults.specs.Places.{Judged, place_at, called_for, record_place}
 use Rattle.faults.specs.inside.Walk.{or_next, records_walk, jobs_walk, job_walk, task_walk, walk}
 
 -- ---- the records of two files that begin alike
@@ -94,10 +93,10 @@ module _ (mark : ℕ) (T : Tables) where
   abbrev file : List ℕ
   file = layout_of T
 
-  abbrev devices_walk : PlaceFault
+  abbrev devices_walk : Judged
   devices_walk = records_walk mark file (DeviceRecords T.kind) T.devices.count 0 3
 
-  abbrev tasks_walk : PlaceFault
+  abbrev tasks_walk : Judged
   tasks_walk = records_walk mark file (TaskRecords T.devices.count) T.tasks.count 0 (place_in T Tasks + 1)
 
   head : 3 ≤ length file

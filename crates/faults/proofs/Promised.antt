@@ -23,23 +23,22 @@ use Rattle.request.specs.declared.Section.TheVariants.{DeviceRecords, TaskRecord
 use Rattle.request.specs.Format.{size_of, records_fault, horizon_of, mixed, count_of, job_records, job_section, task_section, fault_as, refused}
 use Rattle.request.proofs.Faultless.{read_faultless, read_fault}
 use Rattle.faults.specs.declared.Place.TheVariants.{Horizon, DeviceCount, TaskCount, JobCount, End}
-use Rattle.faults.specs.declared.PlaceFault.{PlaceFault}
 use Rattle.faults.specs.Places as P
-use Rattle.faults.specs.Places.{place_at, no_fault, record_place, head_places, device_places, task_count_place, task_places, job_count_place, job_places, end_place, places_as, FaultAs}
+use Rattle.faults.specs.Places.{Judged, place_at, no_fault, record_place, head_places, device_places, task_count_place, task_places, job_count_place, job_places, end_place, places_as, FaultAs}
 use Rattle.faults.specs.inside.Walk.{or_next, records_walk, jobs_walk, job_walk, task_walk, walk}
 use Rattle.faults.proofs.Walking.{cond_number, or_number, walk_number}
 
 -- ---- the first of a list that is at fault, or no fault
 
-abbrev first_in : List PlaceFault → PlaceFault
+abbrev first_in : List Judged → Judged
 first_in [] = no_fault
 first_in (f ∷ l) = or_next f (first_in l)
 
-first_join : (a b : List PlaceFault) → first_in (a ++ b) ≡ or_next (first_in a) (first_in b)
+first_join : (a b : List Judged) → first_in (a ++ b) ≡ or_next (first_in a) (first_in b)
 first_join [] b = refl
 first_join (f ∷ a) b = test_cases (λ t. cond t (first_in (a ++ b)) f ≡ or_next (cond t (first_in a) f) (first_in b)) (eqb f.number 0) (λ e. first_join a b) (λ e. rw e)
 
-first_in_lem : (l : List PlaceFault) → ((first_in l).number ≡ 0 → ⊥) → P.FirstFault (first_in l) l
+first_in_lem : (l : List Judged) → ((first_in l).number ≡ 0 → ⊥) → P.FirstFault (first_in l) l
 first_in_lem [] h = absurd (h refl)
 first_in_lem (f ∷ l) h = go (eqb f.number 0) refl (first_in_lem l) h
   where
@@ -48,7 +47,7 @@ first_in_lem (f ∷ l) h = go (eqb f.number 0) refl (first_in_lem l) h
     go true e later k = P.FirstFault.later (eqb-true f.number 0 e) (later k)
     go false e later k = P.FirstFault.here k
 
-none_in : (l : List PlaceFault) → (first_in l).number ≡ 0 → first_in l ≡ no_fault
+none_in : (l : List Judged) → (first_in l).number ≡ 0 → first_in l ≡ no_fault
 none_in [] h = refl
 none_in (f ∷ l) h = go (eqb f.number 0) refl (none_in l) h
   where
@@ -58,11 +57,11 @@ none_in (f ∷ l) h = go (eqb f.number 0) refl (none_in l) h
 
 -- ---- a place with a table: its tests in turn
 
-abbrev chain : List Refusal → (ℕ → PlaceFault) → PlaceFault → PlaceFault
+abbrev chain : List Refusal → (ℕ → Judged) → Judged → Judged
 chain [] p next = next
 chain (r ∷ rs) p next = cond r.test (p r.number) (chain rs p next)
 
-module _ (p : ℕ → PlaceFault) (its : (n : ℕ) → (p n).number ≡ n) (next : PlaceFault) where
+module _ (p : ℕ → Judged) (its : (n : ℕ) → (p n).number ≡ n) (next : Judged) where
   known : (n : ℕ) → T (ltb 0 n) → or_next (p n) next ≡ p n
   known n h = rw (its n, ne_eqb n 0 (λ z. omega (arith, ltb-true 0 n (sure (ltb 0 n) h))))
     where
@@ -88,7 +87,7 @@ up_to_front f zero = refl
 up_to_front f (suc n) = ap (λ (l : List _). l ++ (f (suc n) ∷ [])) (up_to_front f n)
 
 module _ (mark : ℕ) (s : List ℕ) (k : Section) where
-  abbrev records_at : (n i at : ℕ) → List PlaceFault
+  abbrev records_at : (n i at : ℕ) → List Judged
   records_at n i at = up_to (λ j. record_place mark s k (i + j) (after (size_of s k) j at)) n
 
   records_first : (n i at : ℕ) → first_in (records_at n i at) ≡ records_walk mark s k n i at
@@ -100,7 +99,7 @@ module _ (mark : ℕ) (s : List ℕ) (k : Section) where
       = up_to_same _ _ n (λ j l. let e : i + suc j ≡ suc i + j = omega arith in rw e) in
       ap first_in (up_to_front (λ j. record_place mark s k (i + j) (after (size_of s k) j at)) n)
       ∙ ap (λ (x : ℕ). or_next (record_place mark s k x at) (first_in (up_to (λ j. record_place mark s k (i + suc j) (after (size_of s k) (suc j) at)) n))) none
-      ∙ ap (λ (l : List PlaceFault). or_next (record_place mark s k i at) (first_in l)) later
+      ∙ ap (λ (l : List Judged). or_next (record_place mark s k i at) (first_in l)) later
       ∙ ap (or_next (record_place mark s k i at)) (records_first n (suc i) (at + size_of s k at))
 
   section_first : (start : ℕ → ℕ) (n from : ℕ) → ((i : ℕ) → start i ≡ after (size_of s k) i from) → first_in (up_to (λ i. record_place mark s k i (start i)) n) ≡ records_walk mark s k n 0 from
@@ -113,7 +112,7 @@ module _ (mark : ℕ) (s : List ℕ) where
   unfolding end_place
   end_first at = table_next (place_at mark End at (length s)) (placed_number mark End at (length s)) no_fault ((ltb at (length s) ⇒ 2) ∷ []) (tt, tt)
 
-  job_first : (n tasks from at : ℕ) (l : List PlaceFault) → first_in l ≡ records_walk mark s (JobRecords n (horizon_of s tasks from)) (byte_at s at) 0 (at + 1)
+  job_first : (n tasks from at : ℕ) (l : List Judged) → first_in l ≡ records_walk mark s (JobRecords n (horizon_of s tasks from)) (byte_at s at) 0 (at + 1)
       → first_in (job_count_place mark s tasks from at (horizon_of s tasks from) ∷ (l ++ (end_place mark s (at + 1 + byte_at s at * 7) ∷ []))) ≡ job_walk mark s n tasks from at
   unfolding job_count_place job_walk jobs_walk
   job_first n tasks from at l e =
@@ -123,9 +122,9 @@ module _ (mark : ℕ) (s : List ℕ) where
       let table = (leb (length s) at ⇒ 1) ∷ (mixed tasks (pair_at s 0) (byte_at s at) ⇒ 11) ∷ (eqb h 0 ⇒ 10) ∷ (ltb 4096 h ⇒ 10) ∷ (ltb 16 (count_of s tasks from (byte_at s at) h) ⇒ 12) ∷ [] in
       table_next place (placed_number mark JobCount at (at + 1)) (first_in (l ++ last)) table (tt, (tt, (tt, (tt, (tt, tt)))))
       ∙ ap (chain table place)
-      (first_join l last ∙ ap (λ (f : PlaceFault). or_next f (first_in last)) e ∙ ap (or_next (records_walk mark s (JobRecords n h) (byte_at s at) 0 (at + 1))) (end_first (at + 1 + byte_at s at * 7)))
+      (first_join l last ∙ ap (λ (f : Judged). or_next f (first_in last)) e ∙ ap (or_next (records_walk mark s (JobRecords n h) (byte_at s at) 0 (at + 1))) (end_first (at + 1 + byte_at s at * 7)))
 
-  task_first : (n at : ℕ) (l rest : List PlaceFault) → first_in l ≡ records_walk mark s (TaskRecords n) (byte_at s at) 0 (at + 1)
+  task_first : (n at : ℕ) (l rest : List Judged) → first_in l ≡ records_walk mark s (TaskRecords n) (byte_at s at) 0 (at + 1)
       → first_in rest ≡ job_walk mark s n (byte_at s at) (at + 1) (at + 1 + byte_at s at * 5) → first_in (task_count_place mark s at ∷ (l ++ rest)) ≡ task_walk mark s n at
   unfolding task_count_place task_walk
   task_first n at l rest e e' =
@@ -133,9 +132,9 @@ module _ (mark : ℕ) (s : List ℕ) where
       let table = (leb (length s) at ⇒ 1) ∷ (ltb 8 (byte_at s at) ⇒ 6) ∷ [] in
       table_next place (placed_number mark TaskCount at (at + 1)) (first_in (l ++ rest)) table (tt, (tt, tt))
       ∙ ap (chain table place)
-      (first_join l rest ∙ ap (λ (f : PlaceFault). or_next f (first_in rest)) e ∙ ap (or_next (records_walk mark s (TaskRecords n) (byte_at s at) 0 (at + 1))) e')
+      (first_join l rest ∙ ap (λ (f : Judged). or_next f (first_in rest)) e ∙ ap (or_next (records_walk mark s (TaskRecords n) (byte_at s at) 0 (at + 1))) e')
 
-  head_first : (k : Kind) (l rest : List PlaceFault) → first_in l ≡ records_walk mark s (DeviceRecords k) (byte_at s 2) 0 3
+  head_first : (k : Kind) (l rest : List Judged) → first_in l ≡ records_walk mark s (DeviceRecords k) (byte_at s 2) 0 3
       → first_in rest ≡ task_walk mark s (byte_at s 2) (tasks_place k s) → first_in (head_places mark s ++ (l ++ rest)) ≡ walk mark k s
   unfolding head_places walk
   head_first k l rest e e' =
@@ -146,7 +145,7 @@ module _ (mark : ℕ) (s : List ℕ) where
       ∙ ap (chain ((ltb (length s) 2 ⇒ 1) ∷ []) field)
       (table_next place (placed_number mark DeviceCount 2 3) (first_in (l ++ rest)) table (tt, (tt, tt))
       ∙ ap (chain table place)
-      (first_join l rest ∙ ap (λ (f : PlaceFault). or_next f (first_in rest)) e ∙ ap (or_next (records_walk mark s (DeviceRecords k) (byte_at s 2) 0 3)) e'))
+      (first_join l rest ∙ ap (λ (f : Judged). or_next f (first_in rest)) e ∙ ap (or_next (records_walk mark s (DeviceRecords k) (byte_at s 2) 0 3)) e'))
 
 -- The walk is the first of the places that is at fault.
 walk_first : (k : Kind) (s : List ℕ) → first_in (places_as k s) ≡ walk (length (marker k)) k s
@@ -214,11 +213,11 @@ walk_promised k s =
     let f = walk (length (marker k)) k s in
     let its = walk_fault (length (marker k)) s k in
     let first = walk_first k s in
-    let read = ap (λ (g : PlaceFault). g.number) first ∙ its in
+    let read = ap (λ (g : Judged). g.number) first ∙ its in
     ⊎_elim
     (λ z. subst (FaultAs k s) (sym (none_in (places_as k s) (read ∙ z)) ∙ first) (P.FaultAs.accepted (read_faultless k s (sym z))))
     (λ p.
     let some : fault_as k s ≡ 0 → ⊥ = λ z. omega arith in
     P.FaultAs.refused (read_fault k s some ∙ ap refused (sym its))
-    (subst (λ (g : PlaceFault). P.FirstFault g (places_as k s)) first (first_in_lem (places_as k s) (λ z. some (sym read ∙ z)))))
+    (subst (λ (g : Judged). P.FirstFault g (places_as k s)) first (first_in_lem (places_as k s) (λ z. some (sym read ∙ z)))))
     (eq-zero-or-pos (fault_as k s))

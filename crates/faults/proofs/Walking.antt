@@ -6,7 +6,9 @@ use Prim.Native.Nat.{ℕ, zero, suc, ◌+◌, ◌-◌, ◌<◌, ◌≤◌, min}
 use native.Mathlib.Omega.{arith}
 use native.Mathlib.Numerals.{sub-one}
 use lib.Dec.{eqb}
-use borrow.Author.Tests.{eq-eqb, ne_eqb}
+use borrow.Author.Tests.{eq-eqb, ne_eqb, eqb-true}
+use Rattle.base.proofs.Cases.{test_cases}
+use Rattle.base.proofs.Numbered.{some_number}
 use Rattle.base.specs.Refusals.{or_else, first_of}
 use Rattle.tables.specs.declared.Kind.TheVariants.{First, Second, Third}
 use Rattle.request.specs.declared.Section.{Section}
@@ -14,7 +16,7 @@ use Rattle.request.specs.declared.Section.TheVariants.{DeviceRecords, TaskRecord
 use Rattle.request.specs.Format.{size_of, head_of, record_fault, records_fault}
 use Rattle.request.proofs.Alike.{head_least}
 use Rattle.faults.specs.declared.PlaceFault.{PlaceFault}
-use Rattle.faults.specs.Places.{place_at, no_fault, called_for, record_place}
+use Rattle.faults.specs.Places.{Judged, place_at, no_fault, at_fault, called_for, record_place}
 use Rattle.faults.specs.inside.Walk.{or_next, records_walk, jobs_walk}
 
 -- No record calls for more than 14 bytes.
@@ -35,16 +37,16 @@ called_few s k at number = go (eqb number 4) (eqb number 26)
     go false false = size_few s k at
 
 -- The number of a choice.
-pub cond_number : (b : Bool) (f g : PlaceFault) {x y : ℕ} → f.number ≡ x → g.number ≡ y → (cond b f g).number ≡ cond b x y
+pub cond_number : (b : Bool) (f g : Judged) {x y : ℕ} → f.number ≡ x → g.number ≡ y → (cond b f g).number ≡ cond b x y
 cond_number true f g e e' = e
 cond_number false f g e e' = e'
 
-pub or_number : (f g : PlaceFault) {x y : ℕ} → f.number ≡ x → g.number ≡ y → (or_next f g).number ≡ or_else x y
+pub or_number : (f g : Judged) {x y : ℕ} → f.number ≡ x → g.number ≡ y → (or_next f g).number ≡ or_else x y
 or_number f g {x} {y} e e' = cond_number (eqb f.number 0) g f e' refl ∙ ap (λ (z : ℕ). or_else z y) e
 
 -- A part that a function walked, with its result u.
-module _ (f next u : PlaceFault) where
-  pub pass_next : {r : PlaceFault} → u ≡ f → u.number ≡ 0 → r ≡ next → r ≡ cond (eqb f.number 0) next f
+module _ (f next u : Judged) where
+  pub pass_next : {r : Judged} → u ≡ f → u.number ≡ 0 → r ≡ next → r ≡ cond (eqb f.number 0) next f
   pass_next e h k = rw (← e, eq-eqb u.number 0 h) k
 
   pub stop_here : u ≡ f → (u.number ≡ 0 → ⊥) → u ≡ cond (eqb f.number 0) next f
@@ -52,7 +54,7 @@ module _ (f next u : PlaceFault) where
 
 -- A horizon that is not above the limit is the whole.
 pub walk_within :
-    {r : PlaceFault} (mark : ℕ) (s : List ℕ) (n tasks from at h whole : ℕ) → h ≡ min whole 4097 → h ≤ 4096 → r ≡ jobs_walk mark s n tasks from at h → r ≡ jobs_walk mark s n tasks from at whole
+    {r : Judged} (mark : ℕ) (s : List ℕ) (n tasks from at h whole : ℕ) → h ≡ min whole 4097 → h ≤ 4096 → r ≡ jobs_walk mark s n tasks from at h → r ≡ jobs_walk mark s n tasks from at whole
 walk_within mark s n tasks from at h whole e l k =
     let same : h ≡ whole = omega arith in
     k ∙ ap (jobs_walk mark s n tasks from at) same
@@ -66,6 +68,20 @@ module _ (mark : ℕ) (s : List ℕ) (k : Section) where
   unfolding record_place place_at
   record_number i at = refl
 
+  -- One record at fault, or none.
+  pub one_stop : (i at : ℕ) (e : PlaceFault) → at_fault e ≡ or_next (record_place mark s k i at) no_fault → (at_fault e ≡ record_place mark s k i at) × ((at_fault e).number ≡ 0 → ⊥)
+  one_stop i at e h =
+      let some : (at_fault e).number ≡ 0 → ⊥ = λ z. omega (arith, some_number e.reason) in (
+        test_cases (λ t. at_fault e ≡ cond t no_fault (record_place mark s k i at) → at_fault e ≡ record_place mark s k i at) (eqb (record_place mark s k i at).number 0)
+            (λ b j. absurd (some (ap (λ (g : Judged). g.number) j))) (λ b j. j) h,
+        some,
+      )
+
+  pub one_pass : (i at : ℕ) → no_fault ≡ or_next (record_place mark s k i at) no_fault → (record_place mark s k i at).number ≡ 0
+  one_pass i at h =
+      test_cases (λ t. no_fault ≡ cond t no_fault (record_place mark s k i at) → (record_place mark s k i at).number ≡ 0) (eqb (record_place mark s k i at).number 0)
+      (λ b j. eqb-true _ 0 b) (λ b j. sym (ap (λ (g : Judged). g.number) j)) h
+
   -- no record is left
   pub walk_none : (n i at : ℕ) → n ≤ 0 → no_fault ≡ records_walk mark s k n i at
   unfolding records_walk
@@ -73,7 +89,7 @@ module _ (mark : ℕ) (s : List ℕ) (k : Section) where
   walk_none (suc n) i at h = absurd (omega arith)
 
   -- the record at hand is at fault
-  pub walk_stop : (n i at : ℕ) (f : PlaceFault) → 0 < n → f ≡ record_place mark s k i at → (f.number ≡ 0 → ⊥) → f ≡ records_walk mark s k n i at
+  pub walk_stop : (n i at : ℕ) (f : Judged) → 0 < n → f ≡ record_place mark s k i at → (f.number ≡ 0 → ⊥) → f ≡ records_walk mark s k n i at
   unfolding records_walk
   walk_stop zero i at f h e z = absurd (omega arith)
   walk_stop (suc n) i at f h e z = rw (← e, ne_eqb f.number 0 z)
@@ -101,5 +117,5 @@ module _ (mark : ℕ) (s : List ℕ) (k : Section) where
       or_number (record_place mark s k i at) (records_walk mark s k n (suc i) (at + size_of s k at)) (record_number i at) (walk_number n (suc i) (at + size_of s k at))
 
 -- So where it finds none, the section has no fault.
-pub clear_records : (mark : ℕ) (s : List ℕ) (k : Section) (n at : ℕ) {f : PlaceFault} → f ≡ records_walk mark s k n 0 at → f.number ≡ 0 → 0 ≡ records_fault s k n at
-clear_records mark s k n at e z = sym z ∙ ap (λ (g : PlaceFault). g.number) e ∙ walk_number mark s k n 0 at
+pub clear_records : (mark : ℕ) (s : List ℕ) (k : Section) (n at : ℕ) {f : Judged} → f ≡ records_walk mark s k n 0 at → f.number ≡ 0 → 0 ≡ records_fault s k n at
+clear_records mark s k n at e z = sym z ∙ ap (λ (g : Judged). g.number) e ∙ walk_number mark s k n 0 at

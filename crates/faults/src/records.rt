@@ -1,21 +1,12 @@
 // The records of a section in turn, each with its bytes.
 ghost use Rattle.std.specs.Prelude.{◌≡◌, ℕ, ◌≤◌, length};
-ghost use Rattle.faults.specs.Places.{place_of, called_for, record_place, no_fault};
-ghost use Rattle.faults.specs.inside.Walk.{records_walk};
+ghost use Rattle.base.specs.Reasons.{number_of};
+ghost use Rattle.faults.specs.Places.{place_of, called_for, record_place, no_fault, judged};
+ghost use Rattle.faults.specs.inside.Walk.{or_next, records_walk};
 
 use crate::{Place, PlaceFault};
+use base::Reason;
 use request::{Section, head_of, record_fault, size_of};
-
-pub(crate) fn no_fault() -> PlaceFault
-    ensures { result ≡ no_fault }
-{
-    PlaceFault {
-        number: 0,
-        place: Place::Nowhere,
-        from: 0,
-        to: 0,
-    }
-}
 
 fn place_of(k: Section, i: usize) -> Place
     ensures { result ≡ place_of k i }
@@ -27,55 +18,48 @@ fn place_of(k: Section, i: usize) -> Place
     }
 }
 
-// How many bytes of a record are called for when it is refused by a number: 4 and 26 come before the powers that a level count calls for.
-fn called_for(s: &[u8], k: Section, at: usize, number: u8) -> usize
-    ensures { result ≡ called_for s.now k at number }
+// How many bytes of a record are called for when it is refused: its time and its level count come before the powers that a level count calls for.
+fn called_for(s: &[u8], k: Section, at: usize, reason: Reason) -> usize
+    ensures { result ≡ called_for s.now k at (number_of reason) }
 {
-    if number == 4 {
-        return head_of(k);
+    match reason {
+        Reason::NoMoveTime | Reason::LevelCount => head_of(k),
+        _ => size_of(s, k, at),
     }
-    if number == 26 {
-        return head_of(k);
-    }
-    size_of(s, k, at)
 }
 
-// Record i of a section, which stands at a place, with its number.
-fn record_place(s: &[u8], mark: usize, k: Section, i: usize, at: usize) -> PlaceFault
+// Record i of a section, which stands at a place.
+fn record_place(s: &[u8], mark: usize, k: Section, i: usize, at: usize) -> Result<(), PlaceFault>
     requires { (at ≤ length s.now) × (mark ≤ 2) }
-    ensures { result ≡ record_place mark s.now k i at }
+    ensures { judged result ≡ or_next (record_place mark s.now k i at) no_fault }
 {
-    let number = record_fault(s, k, at);
-    let size = called_for(s, k, at, number);
-    let place = place_of(k, i);
-    PlaceFault {
-        number,
-        place,
+    let Err(reason) = record_fault(s, k, at) else {
+        return Ok(());
+    };
+    let size = called_for(s, k, at, reason);
+    Err(PlaceFault {
+        reason,
+        place: place_of(k, i),
         from: mark + at,
         to: mark + (at + size),
-    }
+    })
 }
 
-// The first of a section's records that is at fault, or no fault.
+// The records of a section in turn: the first that is at fault decides.
 pub(crate) fn records_place(
     s: &[u8],
     mark: usize,
     k: Section,
     count: usize,
     from: usize,
-) -> PlaceFault
+) -> Result<(), PlaceFault>
     requires { (from ≤ length s.now) × (mark ≤ 2) }
-    ensures { result ≡ records_walk mark s.now k count 0 from }
+    ensures { judged result ≡ records_walk mark s.now k count 0 from }
 {
-    let mut i: usize = 0;
     let mut at = from;
-    while i < count {
-        let f = record_place(s, mark, k, i, at);
-        if f.number != 0 {
-            return f;
-        }
+    for i in 0..count {
+        record_place(s, mark, k, i, at)?;
         at += size_of(s, k, at);
-        i += 1;
     }
-    no_fault()
+    Ok(())
 }

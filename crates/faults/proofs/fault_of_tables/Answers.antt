@@ -4,15 +4,13 @@ use mathlib.Core.List.{List}
 use Prim.Native.Nat.{ℕ, ◌≤◌}
 use native.Mathlib.Omega.{arith}
 use lib.ListN.{length, take, drop, length-append}
-use lib.Seq.{length-take-le}
 use Rattle.tables.specs.declared.Tables.{Tables}
 use Rattle.tables.specs.Layout.{marker, layout_of, bytes_of}
-use Rattle.tables.specs.inside.Held.{limited}
-use Rattle.tables.proofs.Appending.{held_front, held_long}
+use Rattle.tables.specs.inside.Held.{limited, held}
+use Rattle.tables.proofs.Appending.{held_front}
 use Rattle.tables.proofs.Back.{unmarked}
 use Rattle.tables.proofs.Joining.{limited_fits}
-use Rattle.faults.specs.declared.PlaceFault.{PlaceFault}
-use Rattle.faults.specs.Places.{FaultAs, TablesFault}
+use Rattle.faults.specs.Places.{Judged, FaultAs, TablesFault}
 use Rattle.faults.specs.inside.Walk.{walk}
 use Rattle.faults.proofs.Promised.{walk_promised}
 use Rattle.faults.proofs.Limiting.{walk_limited}
@@ -28,23 +26,16 @@ walk-unlimited : (T : Tables) (mark : ℕ) → walk mark T.kind (layout_of (limi
 unfolding limited
 walk-unlimited T mark = walk_limited mark T
 
-uncut : (T : Tables) (s : List ℕ) (f : PlaceFault) → s ≡ bytes_of (limited T) → FaultAs T.kind (drop (length (marker T.kind)) s) f → TablesFault T f
+uncut : (T : Tables) (s : List ℕ) (f : Judged) → s ≡ bytes_of (limited T) → FaultAs T.kind (drop (length (marker T.kind)) s) f → TablesFault T f
 uncut T s f e p =
     let mark = length (marker T.kind) in
     let q : FaultAs T.kind (layout_of (limited T)) f = rw (e, (limited-mark T).1) at p in
     let same = only_fault_as T.kind (layout_of (limited T)) q (walk_promised T.kind (layout_of (limited T))) ∙ walk-unlimited T mark in
     subst (FaultAs T.kind (layout_of T)) (sym same) (walk_promised T.kind (layout_of T))
 
-pub slice_bounds-bytes-end : goal.slice_bounds-bytes-end
-slice_bounds-bytes-end c =
-    let fits : c.file_of-file.result.count ≤ length c.file_of-file.result.bytes = rw c.file_of-file.ensures (held_long (bytes_of (limited c.args.given)) (limited_fits c.args.given)) in
-    fits
-
-pub slice_bounds-fault_by-end : goal.slice_bounds-fault_by-end
-slice_bounds-fault_by-end c =
-    let fits : c.file_of-file.result.count ≤ length c.file_of-file.result.bytes = rw c.file_of-file.ensures (held_long (bytes_of (limited c.args.given)) (limited_fits c.args.given)) in
-    let r = c.file_of-file.result in
-    sym (length-take-le r.count r.bytes fits)
+pub shared_ref_as_front-fault_by : goal.shared_ref_as_front-fault_by
+unfolding held
+shared_ref_as_front-fault_by c = rw c.file_of-file.ensures (limited_fits c.args.given)
 
 pub fault_by-requires : goal.fault_by-requires
 fault_by-requires c =

@@ -6,7 +6,4 @@ use Rattle.faults.specs.inside.Walk.{records_walk}
 use Rattle.faults.proofs.records.records_place.Given as goal
 
 abbrev pub invariant-loop-i : goal.invariant-loop-i
-invariant-loop-i l = (l.at ≤ length l.s) × (l.mark ≤ 2) × (l.i ≤ l.count) × (records_walk l.mark l.s l.k l.count 0 l.from ≡ records_walk l.mark l.s l.k (l.count - l.i) l.i l.at)
-
-abbrev pub decreases-loop-i : goal.decreases-loop-i
-decreases-loop-i l = l.count - l.i
+invariant-loop-i l = (l.at ≤ length l.s) × (records_walk l.mark l.s l.k l.count 0 l.initial.at ≡ records_walk l.mark l.s l.k (l.count - l.i) l.i l.at)
