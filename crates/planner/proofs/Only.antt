@@ -148,6 +148,6 @@ only_written T lent (P.Written.read {R = R} {a = a} {after = l} r t) (P.Written.
 one_list : (file : List ℕ) (R : Recorder) {a a' : Answer} {T T' : Tables} → TablesOf file R a T → TablesOf file R a' T' → (a ≡ a') × (T ≡ T')
 one_list file R listed listed = (refl, refl)
 
-pub only_listed : (file : List ℕ) {r r' : Result FileTables Refusal} → TablesGiven file r → TablesGiven file r'
+pub only_listed : (file : List ℕ) (r r' : Result FileTables Refusal) → TablesGiven file r → TablesGiven file r'
     → (listing_answer r ≡ listing_answer r') × (listing_tables r ≡ listing_tables r')
-only_listed file p p' = only_of_file file no_tables (TablesOf file) (λ R v a a' T T'. one_list file R) p p'
+only_listed file r r' p p' = only_of_file file no_tables (TablesOf file) (λ R v a a' T T'. one_list file R) p p'

@@ -19,7 +19,7 @@ use Rattle.planner.specs.declared.Answer.{Answer}
 use Rattle.std.specs.Prelude.{Result, Ok, Err}
 use Rattle.planner.specs.declared.FileTables.{FileTables}
 use Rattle.planner.specs.declared.answers.Refusal.{Refusal}
-use Rattle.planner.specs.Promises.{success, refusal, Unless, stops, passes, Gives, gives, Reads, OfFile, Checked, Written, TablesOf, TablesGiven}
+use Rattle.planner.specs.Promises.{success, refusal, Unless, stops, passes, Gives, gives, Reads, OfFile, Checked, Written, TablesOf, listing_answer, listing_tables, TablesGiven}
 use Rattle.planner.specs.Promises as P
 use Rattle.planner.proofs.Refusing.{unless_enough}
 
@@ -106,6 +106,6 @@ outcome_written : (file lent : List ℕ) (a : Answer) (T : Tables) → Bytes fil
 outcome_written file lent a T b (P.OfFile.refused {n = n} r) z h = absurd (omega (arith, refused_number file n r))
 outcome_written file lent a T b (P.OfFile.read {R = R} r P.TablesOf.listed) z h = same_bytes file R lent b r h
 
-pub listed_written : (file : List ℕ) (r : FileTables) (lent : List ℕ) → Bytes file → TablesGiven file r → r.answer.number ≡ 0 → length file ≤ length lent
-    → Written r.tables lent (success r.answer.horizon 0 (length file)) (file ++ drop (length file) lent)
-listed_written file r lent b l z h = outcome_written file lent r.answer r.tables b l z h
+pub listed_written : (file : List ℕ) (r : Result FileTables Refusal) (lent : List ℕ) → Bytes file → TablesGiven file r → (listing_answer r).number ≡ 0
+    → length file ≤ length lent → Written (listing_tables r) lent (success (listing_answer r).horizon 0 (length file)) (file ++ drop (length file) lent)
+listed_written file r lent b l z h = outcome_written file lent (listing_answer r) (listing_tables r) b l z h

@@ -1,5 +1,5 @@
 // From which start on the cuts drop every child that places a job: by cut A or its deadline at first (rule 43), then by cut B (rule 45).
-ghost use Rattle.std.specs.Prelude.{◌≡◌, ◌⊎◌, ℕ, suc, ◌+◌, ◌-◌, ◌<◌, ◌≤◌, min, length, is_err};
+ghost use Rattle.std.specs.Prelude.{◌≡◌, ◌⊎◌, ℕ, suc, ◌+◌, ◌-◌, ◌<◌, ◌≤◌, min, length};
 ghost use Rattle.schedule.specs.Quantities.{Valid, deadline, run};
 ghost use Rattle.flat.specs.inside.Flat.{recorder_of};
 ghost use Rattle.extras.specs.inside.Tabled.{Tabled};
@@ -7,7 +7,7 @@ ghost use Rattle.vertex.specs.inside.Shown.{load_at, leads_by, Ordered};
 ghost use Rattle.vertex.specs.inside.Sums.{limit_for};
 ghost use Rattle.visit.specs.inside.Lent.{count_at, Added};
 
-use crate::tally::{Stopped, Tally, add_count};
+use crate::tally::{Tally, add_count};
 use base::JobNumber;
 use flat::{Flat, deadline_of, horizon_of, run_of};
 use vertex::cells::{Cells, LOAD};
@@ -50,16 +50,10 @@ pub fn cut_at(
     cut
 }
 
-// The starts of job j from `start` on, at which every child is dropped: they are counted at once, if the budget has them.
-pub fn drops(
-    r: &Flat,
-    tally: &mut Tally,
-    budget: u32,
-    j: JobNumber,
-    start: u32,
-) -> Result<(), Stopped>
+// The starts of job j from `start` on, at which every child is dropped: they are counted at once. Answers whether the budget does not have them.
+pub fn drops(r: &Flat, tally: &mut Tally, budget: u32, j: JobNumber, start: u32) -> bool
     requires { (j.0 < 16) × ((start ≤ 65536) × ((length tally.old ≡ 35) × (count_at tally.old ≤ budget))) }
-    ensures { Added budget (suc (deadline (recorder_of r.now) j.0) - (start + run (recorder_of r.now) j.0)) tally.old tally.new (is_err result) }
+    ensures { Added budget (suc (deadline (recorder_of r.now) j.0) - (start + run (recorder_of r.now) j.0)) tally.old tally.new result }
 {
     let c = u32::from(run_of(r, j.0));
     let d = u32::from(deadline_of(r, j.0));

@@ -29,7 +29,7 @@ fn whole_visit(
 {
     begin(tally, stop);
     let ended = root_visit(r, extras, memory, tally, budget);
-    is_over(tally, ended.is_err())
+    is_over(tally, ended)
 }
 
 // The same with a memory that is lent, whatever it holds.

@@ -1,11 +1,7 @@
 // The lent tally: the vertices counted, the best so far, the starts of the jobs that are placed, and where the visit stops.
-ghost use Rattle.std.specs.Prelude.{◌≡◌, true, cond, ◌+◌, ◌<◌, ◌≤◌, eqb, set, length, is_err};
+ghost use Rattle.std.specs.Prelude.{◌≡◌, true, cond, ◌+◌, ◌<◌, ◌≤◌, eqb, set, length};
 ghost use Rattle.visit.specs.inside.Lent.{count_at, energy_at, stop_at, Added, Over};
 ghost use Rattle.visit.specs.inside.Offers.{Offered};
-
-// That a visit goes no further: the budget is used up, or what it stops at is found.
-#[derive(Clone, Copy, PartialEq, Eq)]
-pub struct Stopped;
 
 pub type Tally = [u32; 35];
 
@@ -43,16 +39,16 @@ pub fn count_one(tally: &mut Tally)
     tally[COUNT] += 1;
 }
 
-// So many vertices more, if the budget has them.
-pub fn add_count(tally: &mut Tally, budget: u32, n: u32) -> Result<(), Stopped>
+// So many vertices more, if the budget has them. Answers whether it has not.
+pub fn add_count(tally: &mut Tally, budget: u32, n: u32) -> bool
     requires { (length tally.old ≡ 35) × (count_at tally.old ≤ budget) }
-    ensures { Added budget n tally.old tally.new (is_err result) }
+    ensures { Added budget n tally.old tally.new result }
 {
     if budget - tally[COUNT] < n {
-        return Err(Stopped);
+        return true;
     }
     tally[COUNT] += n;
-    Ok(())
+    false
 }
 
 // Job j starts at s.
@@ -79,16 +75,12 @@ pub fn offer(tally: &mut Tally, e: u32)
     tally[ENERGY] = e;
 }
 
-// Goes on after a complete vertex, unless the visit ends at one.
-pub fn go_on(tally: &Tally) -> Result<(), Stopped>
+// Whether the visit ends at a complete vertex.
+pub fn stops(tally: &Tally) -> bool
     requires { length tally.now ≡ 35 }
-    ensures { is_err result ≡ eqb (stop_at tally.now) 1 }
+    ensures { result ≡ eqb (stop_at tally.now) 1 }
 {
-    if tally[STOP] == 1 {
-        Err(Stopped)
-    } else {
-        Ok(())
-    }
+    tally[STOP] == 1
 }
 
 // Whether it is for the budget that a visit went no further, and not for what it found.

@@ -1,6 +1,6 @@
 // The visit, depth first (rules 40 to 48): a visit calls a loop over choices, which calls the visit of each child that is not dropped at once with all later starts of
 // its job, nor counted by what is remembered. The parent is lent for reading, and a child is made only where no cut drops it and jobs are left to place.
-ghost use Rattle.std.specs.Prelude.{◌≡◌, Bool, true, false, cond, ◌^◌, ◌<◌, length, is_err};
+ghost use Rattle.std.specs.Prelude.{◌≡◌, Bool, true, false, cond, ◌^◌, ◌<◌, length};
 ghost use Rattle.schedule.specs.Quantities.{jobs};
 ghost use Rattle.schedule.specs.Visiting as order;
 ghost use Rattle.flat.specs.inside.Flat.{recorder_of};
@@ -12,7 +12,7 @@ ghost use Rattle.visit.specs.inside.Stops.{visited_by};
 ghost use Rattle.visit.specs.inside.Lent.{Leaves, StandsAt, VisitCame, EnterCame, ChoicesCame, StartsCame, count_at, energy_at, stop_at, slack_by, Lends, Came, Tries, Enters, Some};
 
 use crate::cuts::{cut_at, drops, first_cut};
-use crate::tally::{COUNT, ENERGY, NONE, Stopped, Tally, add_count, count_one, go_on, note, offer};
+use crate::tally::{COUNT, ENERGY, NONE, Tally, add_count, count_one, note, offer, stops};
 use base::JobNumber;
 use flat::{Flat, horizon_of, job_count, release_of, run_of};
 use latest::all_jobs;
@@ -36,10 +36,10 @@ fn slack_of(best: u32, floor: u32) -> u32
 }
 
 // Whether a count may be remembered: it was not cut short, and the best is as it was.
-fn is_whole(ended: Result<(), Stopped>, best: u32, after: u32) -> bool
-    ensures { result ≡ true → (is_err ended ≡ false) × (after ≡ best) }
+fn is_whole(short: bool, best: u32, after: u32) -> bool
+    ensures { result ≡ true → (short ≡ false) × (after ≡ best) }
 {
-    ended.is_ok() && best == after
+    !short && best == after
 }
 
 // What the search reads: the recorder, the table of extras, and how many vertices it may count.
@@ -68,7 +68,8 @@ struct Child {
     floor: u32,
 }
 
-// The child of a place that places job j at s, and all below it. From the start `cut` on it is dropped.
+// The child of a place that places job j at s, and all below it. From the start `cut` on it is dropped. Answers whether the visit goes no further: the budget is used up,
+// or what it stops at is found.
 #[cycle(below_choices_enter_learn_tries_visit)]
 fn visit(
     search: &Search,
@@ -77,20 +78,20 @@ fn visit(
     place: &Place,
     child: Child,
     cut: u32,
-) -> Result<(), Stopped>
+) -> bool
     requires { Lends (recorder_of search.now.r.now) search.now.extras.now memory.old × ((child.p ≡ 2 ^ child.j.0) × Some (recorder_of search.now.r.now) search.now.budget tally.old (Tries (recorder_of search.now.r.now) place.now.v.now (energy_at tally.old) place.now.set place.now.from cut child.floor child.j.0 child.s)) }
     ensures kept { Leaves (recorder_of search.now.r.now) search.now.extras.now memory.new tally.old tally.new }
-    ensures came { VisitCame (recorder_of search.now.r.now) search.now.budget place.now.v.now tally.old tally.new (is_err result) place.now.set place.now.from cut child.floor child.j.0 child.s }
+    ensures came { VisitCame (recorder_of search.now.r.now) search.now.budget place.now.v.now tally.old tally.new result place.now.set place.now.from cut child.floor child.j.0 child.s }
 {
     if tally[COUNT] == search.budget {
-        return Err(Stopped);
+        return true;
     }
     count_one(tally);
     if cut <= child.s {
-        return Ok(());
+        return false;
     }
     if tally[ENERGY] <= child.floor {
-        return Ok(());
+        return false;
     }
     enter(search, memory, tally, place, child, place.set - child.p)
 }
@@ -104,10 +105,10 @@ fn enter(
     place: &Place,
     child: Child,
     left: usize,
-) -> Result<(), Stopped>
+) -> bool
     requires { Lends (recorder_of search.now.r.now) search.now.extras.now memory.old × ((child.floor < energy_at tally.old) × Some (recorder_of search.now.r.now) search.now.budget tally.old (Enters (recorder_of search.now.r.now) place.now.v.now left child.floor child.j.0 child.s)) }
     ensures kept { Leaves (recorder_of search.now.r.now) search.now.extras.now memory.new tally.old tally.new }
-    ensures came { EnterCame (recorder_of search.now.r.now) search.now.budget place.now.v.now tally.old tally.new (is_err result) left child.floor child.j.0 child.s }
+    ensures came { EnterCame (recorder_of search.now.r.now) search.now.budget place.now.v.now tally.old tally.new result left child.floor child.j.0 child.s }
 {
     let j = child.j.0;
     let s = child.s;
@@ -115,7 +116,7 @@ fn enter(
     if left == 0 {
         let e = child.floor + end_of(search.r, search.extras, place.v, j, s);
         offer(tally, e);
-        return go_on(tally);
+        return stops(tally);
     }
     let mut w = *place.v;
     place_job(search.r, &mut w, j, s);
@@ -131,10 +132,10 @@ fn enter(
 
 // The children of a vertex that is not complete: what is remembered of them, or each of them examined.
 #[cycle(below_choices_enter_learn_tries_visit)]
-fn below(search: &Search, memory: &mut [u64], tally: &mut Tally, place: &Place) -> Result<(), Stopped>
+fn below(search: &Search, memory: &mut [u64], tally: &mut Tally, place: &Place) -> bool
     requires { Lends (recorder_of search.now.r.now) search.now.extras.now memory.old × ((place.now.from < energy_at tally.old) × Some (recorder_of search.now.r.now) search.now.budget tally.old (StandsAt (recorder_of search.now.r.now) place.now.v.now place.now.set place.now.from place.now.time)) }
     ensures kept { Leaves (recorder_of search.now.r.now) search.now.extras.now memory.new tally.old tally.new }
-    ensures came { ChoicesCame (recorder_of search.now.r.now) search.now.budget place.now.v.now tally.old tally.new (is_err result) place.now.set place.now.from place.now.time }
+    ensures came { ChoicesCame (recorder_of search.now.r.now) search.now.budget place.now.v.now tally.old tally.new result place.now.set place.now.from place.now.time }
 {
     if !is_many(place.set, memory.len()) {
         return choices(search, memory, tally, place);
@@ -163,26 +164,26 @@ fn learn(
     tally: &mut Tally,
     place: &Place,
     asked: Asked,
-) -> Result<(), Stopped>
+) -> bool
     requires { Lends (recorder_of search.now.r.now) search.now.extras.now memory.old × ((place.now.from < energy_at tally.old) × (Asks (recorder_of search.now.r.now) (cap_at search.now.extras.now) place.now.v.now place.now.set place.now.time (slack_by (energy_at tally.old) place.now.from) asked × Some (recorder_of search.now.r.now) search.now.budget tally.old (StandsAt (recorder_of search.now.r.now) place.now.v.now place.now.set place.now.from place.now.time))) }
     ensures kept { Leaves (recorder_of search.now.r.now) search.now.extras.now memory.new tally.old tally.new }
-    ensures came { ChoicesCame (recorder_of search.now.r.now) search.now.budget place.now.v.now tally.old tally.new (is_err result) place.now.set place.now.from place.now.time }
+    ensures came { ChoicesCame (recorder_of search.now.r.now) search.now.budget place.now.v.now tally.old tally.new result place.now.set place.now.from place.now.time }
 {
     let before = tally[COUNT];
     let best = tally[ENERGY];
-    let ended = choices(search, memory, tally, place);
-    if is_whole(ended, best, tally[ENERGY]) {
+    let short = choices(search, memory, tally, place);
+    if is_whole(short, best, tally[ENERGY]) {
         keep(memory, asked.slot, asked.key, tally[COUNT] - before);
     }
-    ended
+    short
 }
 
 // Each unplaced job in turn.
 #[cycle(below_choices_enter_learn_tries_visit)]
-fn choices(search: &Search, memory: &mut [u64], tally: &mut Tally, place: &Place) -> Result<(), Stopped>
+fn choices(search: &Search, memory: &mut [u64], tally: &mut Tally, place: &Place) -> bool
     requires { Lends (recorder_of search.now.r.now) search.now.extras.now memory.old × Some (recorder_of search.now.r.now) search.now.budget tally.old (StandsAt (recorder_of search.now.r.now) place.now.v.now place.now.set place.now.from place.now.time) }
     ensures kept { Leaves (recorder_of search.now.r.now) search.now.extras.now memory.new tally.old tally.new }
-    ensures came { ChoicesCame (recorder_of search.now.r.now) search.now.budget place.now.v.now tally.old tally.new (is_err result) place.now.set place.now.from place.now.time }
+    ensures came { ChoicesCame (recorder_of search.now.r.now) search.now.budget place.now.v.now tally.old tally.new result place.now.set place.now.from place.now.time }
 {
     let n = job_count(search.r);
     let dues = dues_in(search.r, search.extras, place.set);
@@ -190,12 +191,14 @@ fn choices(search: &Search, memory: &mut [u64], tally: &mut Tally, place: &Place
     let mut p: usize = 1;
     for j in 0..n {
         if rest % 2 == 1 {
-            tries(search, memory, tally, place, dues, JobNumber(j), p)?;
+            if tries(search, memory, tally, place, dues, JobNumber(j), p) {
+                return true;
+            }
         }
         rest = rest / 2;
         p = p * 2;
     }
-    Ok(())
+    false
 }
 
 // Each start of the unplaced job j in turn.
@@ -208,10 +211,10 @@ fn tries(
     dues: Dues,
     j: JobNumber,
     p: usize,
-) -> Result<(), Stopped>
+) -> bool
     requires { Lends (recorder_of search.now.r.now) search.now.extras.now memory.old × ((j.0 < jobs (recorder_of search.now.r.now)) × ((has place.now.set j.0 ≡ true) × ((p ≡ 2 ^ j.0) × (TwoLeast (recorder_of search.now.r.now) place.now.set (jobs (recorder_of search.now.r.now)) dues × Some (recorder_of search.now.r.now) search.now.budget tally.old (StandsAt (recorder_of search.now.r.now) place.now.v.now place.now.set place.now.from place.now.time))))) }
     ensures kept { Leaves (recorder_of search.now.r.now) search.now.extras.now memory.new tally.old tally.new }
-    ensures came { StartsCame (recorder_of search.now.r.now) search.now.budget place.now.v.now tally.old tally.new (is_err result) place.now.set place.now.from place.now.time j.0 }
+    ensures came { StartsCame (recorder_of search.now.r.now) search.now.budget place.now.v.now tally.old tally.new result place.now.set place.now.from place.now.time j.0 }
 {
     let mut cut = first_cut(search.r, place.v, dues, j);
     let mut s = place.time.max(u32::from(release_of(search.r, j.0)));
@@ -229,7 +232,9 @@ fn tries(
             s,
         );
         let child = Child { j, p, s, floor };
-        visit(search, memory, tally, place, child, cut)?;
+        if visit(search, memory, tally, place, child, cut) {
+            return true;
+        }
         s += 1;
     }
     drops(search.r, tally, search.budget, j, s)
@@ -242,24 +247,24 @@ pub fn root_visit(
     memory: &mut [u64],
     tally: &mut Tally,
     budget: u32,
-) -> Result<(), Stopped>
+) -> bool
     requires { Lends (recorder_of r.now) extras.now memory.old × ((length tally.old ≡ 35) × ((count_at tally.old ≡ 0) × ((energy_at tally.old ≡ 4294967295) × ((stop : Bool) × (stop_at tally.old ≡ cond stop 1 0))))) }
-    ensures { (length tally.new ≡ 35) × ((stop : Bool) → stop_at tally.old ≡ cond stop 1 0 → Came (recorder_of r.now) stop budget tally.new (order.root (recorder_of r.now)) (visited_by (recorder_of r.now) stop) (is_err result)) }
+    ensures { (length tally.new ≡ 35) × ((stop : Bool) → stop_at tally.old ≡ cond stop 1 0 → Came (recorder_of r.now) stop budget tally.new (order.root (recorder_of r.now)) (visited_by (recorder_of r.now) stop) result) }
 {
     if budget == 0 {
-        return Err(Stopped);
+        return true;
     }
     count_one(tally);
     let v = root_of(r);
     if u32::from(horizon_of(r)) < v[LOAD] {
-        return Ok(());
+        return false;
     }
     let floor = root_floor(r, extras, &v);
     let n = job_count(r);
     if n == 0 {
         let e = floor + close_of(r, extras, &v);
         offer(tally, e);
-        return go_on(tally);
+        return stops(tally);
     }
     let search = Search { r, extras, budget };
     let root = Place {

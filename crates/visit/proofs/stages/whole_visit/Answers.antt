@@ -1,7 +1,4 @@
 -- `visit::stages::whole_visit` meets its contract.
-use mathlib.Core.Path.{subst}
-use mathlib.Core.Bool.{Bool}
-use Rattle.visit.specs.inside.Lent.{Over}
 use Rattle.visit.proofs.Rooted.{came_ran}
 use Rattle.visit.proofs.stages.whole_visit.Goals as goal
 
@@ -18,4 +15,4 @@ is_over-requires c = c.root_visit-ended.ensures.0
 
 pub returns : goal.returns
 returns c =
-    (c.root_visit-ended.ensures.0, came_ran _ _ _ _ _ _ (c.root_visit-ended.ensures.1 c.args.stop c.begin.ensures.1.1.1) (subst (λ (b : Bool). Over _ b c.is_over.result) c.is_err.ensures.value c.is_over.ensures))
+    (c.root_visit-ended.ensures.0, came_ran _ _ _ _ _ _ (c.root_visit-ended.ensures.1 c.args.stop c.begin.ensures.1.1.1) c.is_over.ensures)

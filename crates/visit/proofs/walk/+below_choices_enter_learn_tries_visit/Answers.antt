@@ -1,7 +1,6 @@
 use mathlib.Core.Path.{◌≡◌, refl, sym, ap, ◌∙◌, subst}
 use Prim.Native.Nat.{ℕ, suc, ◌+◌, ◌-◌, ◌≤◌, ◌<◌, ◌/◌, max}
 use native.Mathlib.Omega.{arith}
-use Rattle.std.specs.Prelude.{is_err}
 use Rattle.flat.specs.inside.Flat.{recorder_of}
 use Rattle.extras.specs.inside.Tabled.{cap_at}
 use Rattle.recall.specs.inside.Asks.{Asks}
@@ -28,7 +27,7 @@ use Rattle.visit.proofs.Going.{came_done, start_steady, job_steady, Going, going
 use Rattle.visit.proofs.Entering.{Cuts, starts_of_lem, starts_known, starts_end, starts_ordered, cuts_less, cuts_at, from_small, load_room, tries_of, visit_over, tells_more, visit_drops, visit_enters, bit_room, size_room, enters_of, left_some, enters_small, enters_noted, enters_complete, stands_child, enters_came, starts_dropped}
 use Rattle.base.proofs.Numbers.{halved}
 use Rattle.visit.proofs.walk.+below_choices_enter_learn_tries_visit.Goals as goal
-use Rattle.visit.proofs.walk.+below_choices_enter_learn_tries_visit.Goals.{choices-then-rest-eq1+in_ok-tries, choices-else-rest-eq1}
+use Rattle.visit.proofs.walk.+below_choices_enter_learn_tries_visit.Goals.{choices-then-rest-eq1+else-tries, choices-else-rest-eq1}
 
 pub below-choices-requires : goal.below-choices-requires
 below-choices-requires t c =
@@ -98,8 +97,8 @@ choices-tries-requires t c =
     let g = l.invariant.4 o.stop o.left o.vertex o.state o.holds.0 o.holds.1 o.tells in
     (omega arith, (l.invariant.5, (omega (arith, c.loop-j-test.true, c.job_count-n.ensures), (bit_is _ _ _ l.invariant.1 c.if-rest-eq1.true, (l.invariant.0, (c.dues_in-dues.ensures, record { stop = o.stop; left = o.left; vertex = o.vertex; state = g.state; holds = o.holds; tells = g.tells }))))))
 
-pub choices-returns-in_err-tries : goal.choices-returns-in_err-tries
-choices-returns-in_err-tries t c =
+pub choices-returns-then-tries : goal.choices-returns-then-tries
+choices-returns-then-tries t c =
     let R = recorder_of c.args.search.now.r.now in
     let l = c.loop-j in
     let e = c.tries in
@@ -109,7 +108,7 @@ choices-returns-in_err-tries t c =
       kept = (e.ensures.kept.0, (e.ensures.kept.1.0, omega (arith, e.ensures.kept.1.1, l.invariant.3)));
       came = λ stop m u st stands time tells.
           let g = first stop m u st stands time tells in
-          rw c.from_residual.ensures.0 (going_over R stop _ u (job_walk R stop m u) _ _ _ _ g _ _ (e.ensures.came stop m u g.state stands time g.tells) (job_steady R stop _ m u) (ap is_err c.in_err-tries.was));
+          going_over R stop _ u (job_walk R stop m u) _ _ _ _ g _ _ (e.ensures.came stop m u g.state stands time g.tells) (job_steady R stop _ m u) c.if-tries.true;
     }
 
 pub choices-overflow_mul-p : goal.choices-overflow_mul-p
@@ -124,7 +123,7 @@ choices-loop-j-preserved t c =
     let n = c.job_count-n.result in
     let test = c.loop-j-test.true in
     elim c.if-rest-eq1.branch [
-      | choices-then-rest-eq1+in_ok-tries w ↦ (
+      | choices-then-rest-eq1+else-tries w ↦ (
         rw (add-one l.j) (omega (arith, l.invariant.0)),
         rw l.invariant.1 (halved _ _),
         ap length w.tally-is ∙ w.tries.ensures.kept.1.0,
@@ -132,7 +131,7 @@ choices-loop-j-preserved t c =
         (λ stop m u st stands time tells.
             let g = going_as R stop c.args.search.now.budget u (job_walk R stop m u) l.tally _ _ _ (members_one l.j n l.rest test w.if-rest-eq1.true) (l.invariant.4 stop m u st stands time tells) in
             subst (λ (x : List ℕ). Going R stop c.args.search.now.budget u (job_walk R stop m u) x (members (l.j + 1) (n - (l.j + 1)) (l.rest / 2)) (order.choices R (visit_by R stop m) u st)) (sym w.tally-is)
-            (going_next R stop c.args.search.now.budget u (job_walk R stop m u) l.tally _ _ _ g _ _ (w.tries.ensures.came stop m u g.state stands time g.tells) (ap is_err w.in_ok-tries.was))),
+            (going_next R stop c.args.search.now.budget u (job_walk R stop m u) l.tally _ _ _ g _ _ (w.tries.ensures.came stop m u g.state stands time g.tells) w.if-tries.false)),
         rw w.memory-is w.tries.ensures.kept.0,
         omega (arith, ap length w.memory-is, l.invariant.6),
       )
@@ -180,8 +179,8 @@ pub enter-offer-requires : goal.enter-offer-requires
 enter-offer-requires t c =
     (noted_less c.args.tally.now _ c.args.child.j.0 c.args.child.s c.requires.1.1.tells.long c.note.ensures).0
 
-pub enter-go_on-requires : goal.enter-go_on-requires
-enter-go_on-requires t c =
+pub enter-stops-requires : goal.enter-stops-requires
+enter-stops-requires t c =
     let enter-offered : (length c.offer.new.tally ≡ 35) × (energy_at c.offer.new.tally ≤ energy_at c.args.tally.now) = let q = noted_less c.args.tally.now _ c.args.child.j.0 c.args.child.s c.requires.1.1.tells.long c.note.ensures in
     let k = offered_less _ _ _ q.0 c.offer.ensures in
     (k.0, omega (arith, k.1, q.1)) in
@@ -198,7 +197,7 @@ enter-returns-then-left-eq0 t c =
     let few = enters_small R x.valid x.narrow false 0 _ _ _ _ _ _ _ c.requires.1.1.holds in record {
       kept = (c.requires.0, enter-offered);
       came = λ stop m u st enters tells.
-          enters_complete R x.valid x.narrow _ _ _ _ _ _ _ _ _ enters c.if-left-eq0.true _ _ _ st (enters_noted R x.valid x.narrow _ _ _ _ _ _ _ _ _ enters _ st tells _ c.note.ensures) (ap (λ (y : ℕ). c.args.child.floor + y) e.ensures.0) (omega (arith, e.ensures.1, few)) c.offer.ensures _ c.go_on.ensures;
+          enters_complete R x.valid x.narrow _ _ _ _ _ _ _ _ _ enters c.if-left-eq0.true _ _ _ st (enters_noted R x.valid x.narrow _ _ _ _ _ _ _ _ _ enters _ st tells _ c.note.ensures) (ap (λ (y : ℕ). c.args.child.floor + y) e.ensures.0) (omega (arith, e.ensures.1, few)) c.offer.ensures _ c.stops.ensures;
     }
 
 pub enter-place-requires : goal.enter-place-requires
@@ -266,40 +265,40 @@ learn-bounds-tally-0 t c = omega (arith, c.requires.1.1.1.tells.long)
 pub learn-bounds-tally-1 : goal.learn-bounds-tally-1
 learn-bounds-tally-1 t c = omega (arith, c.requires.1.1.1.tells.long)
 
-pub learn-choices-ended-requires : goal.learn-choices-ended-requires
-learn-choices-ended-requires t c =
+pub learn-choices-short-requires : goal.learn-choices-short-requires
+learn-choices-short-requires t c =
     (omega arith, (c.requires.0, c.requires.1.1.1))
 
 pub learn-bounds-tally-1-2 : goal.learn-bounds-tally-1-2
-learn-bounds-tally-1-2 t c = omega (arith, c.choices-ended.ensures.kept.1.0)
+learn-bounds-tally-1-2 t c = omega (arith, c.choices-short.ensures.kept.1.0)
 
 pub learn-bounds-tally-0-then-is_whole : goal.learn-bounds-tally-0-then-is_whole
-learn-bounds-tally-0-then-is_whole t c = omega (arith, c.choices-ended.ensures.kept.1.0)
+learn-bounds-tally-0-then-is_whole t c = omega (arith, c.choices-short.ensures.kept.1.0)
 
 pub learn-overflow_sub-tally : goal.learn-overflow_sub-tally
 learn-overflow_sub-tally t c =
-    let learn-tells : Tells (recorder_of c.args.search.now.r.now) c.requires.1.1.1.stop c.args.search.now.budget c.choices-ended.new.tally c.requires.1.1.1.vertex (order.choices (recorder_of c.args.search.now.r.now) (visit_by (recorder_of c.args.search.now.r.now) c.requires.1.1.1.stop c.requires.1.1.1.left) c.requires.1.1.1.vertex c.requires.1.1.1.state) = let w = c.requires.1.1.1 in
-    came_done _ _ _ _ _ _ _ (c.choices-ended.ensures.came w.stop w.left w.vertex w.state w.holds.0 w.holds.1 w.tells) (c.is_whole.ensures c.if-is_whole.true).0 in
+    let learn-tells : Tells (recorder_of c.args.search.now.r.now) c.requires.1.1.1.stop c.args.search.now.budget c.choices-short.new.tally c.requires.1.1.1.vertex (order.choices (recorder_of c.args.search.now.r.now) (visit_by (recorder_of c.args.search.now.r.now) c.requires.1.1.1.stop c.requires.1.1.1.left) c.requires.1.1.1.vertex c.requires.1.1.1.state) = let w = c.requires.1.1.1 in
+    came_done _ _ _ _ _ _ _ (c.choices-short.ensures.came w.stop w.left w.vertex w.state w.holds.0 w.holds.1 w.tells) (c.is_whole.ensures c.if-is_whole.true).0 in
     let w = c.requires.1.1.1 in
     omega (arith, w.tells.count, learn-tells.count, choices_grow (recorder_of c.args.search.now.r.now) w.stop w.left w.vertex w.state)
 
 pub learn-returns-then-is_whole : goal.learn-returns-then-is_whole
 learn-returns-then-is_whole t c =
-    let learn-tells : Tells (recorder_of c.args.search.now.r.now) c.requires.1.1.1.stop c.args.search.now.budget c.choices-ended.new.tally c.requires.1.1.1.vertex (order.choices (recorder_of c.args.search.now.r.now) (visit_by (recorder_of c.args.search.now.r.now) c.requires.1.1.1.stop c.requires.1.1.1.left) c.requires.1.1.1.vertex c.requires.1.1.1.state) = let w = c.requires.1.1.1 in
-    came_done _ _ _ _ _ _ _ (c.choices-ended.ensures.came w.stop w.left w.vertex w.state w.holds.0 w.holds.1 w.tells) (c.is_whole.ensures c.if-is_whole.true).0 in
+    let learn-tells : Tells (recorder_of c.args.search.now.r.now) c.requires.1.1.1.stop c.args.search.now.budget c.choices-short.new.tally c.requires.1.1.1.vertex (order.choices (recorder_of c.args.search.now.r.now) (visit_by (recorder_of c.args.search.now.r.now) c.requires.1.1.1.stop c.requires.1.1.1.left) c.requires.1.1.1.vertex c.requires.1.1.1.state) = let w = c.requires.1.1.1 in
+    came_done _ _ _ _ _ _ _ (c.choices-short.ensures.came w.stop w.left w.vertex w.state w.holds.0 w.holds.1 w.tells) (c.is_whole.ensures c.if-is_whole.true).0 in
     let R = recorder_of c.args.search.now.r.now in
     let w = c.requires.1.1.1 in record {
       kept = (
-        seen_lends R w.stop c.args.search.now.budget c.args.search.now.extras.now _ c.args.place.now.v.now c.choices-ended.ensures.kept.0 c.args.place.now.set c.args.place.now.from c.args.place.now.time c.args.asked c.args.tally.now _
+        seen_lends R w.stop c.args.search.now.budget c.args.search.now.extras.now _ c.args.place.now.v.now c.choices-short.ensures.kept.0 c.args.place.now.set c.args.place.now.from c.args.place.now.time c.args.asked c.args.tally.now _
             c.requires.1.1.0 c.requires.1.0 w.left w.vertex w.holds.0 w.holds.1 w.state w.tells learn-tells (c.is_whole.ensures c.if-is_whole.true).1 _ refl (omega (arith, learn-tells.count, c.keep.ensures.few)) _
             c.keep.ensures.written,
-        c.choices-ended.ensures.kept.1,
+        c.choices-short.ensures.kept.1,
       );
-      came = c.choices-ended.ensures.came;
+      came = c.choices-short.ensures.came;
     }
 
 pub learn-returns-else-is_whole : goal.learn-returns-else-is_whole
-learn-returns-else-is_whole t c = c.choices-ended.ensures
+learn-returns-else-is_whole t c = c.choices-short.ensures
 
 pub tries-first_cut-cut-requires : goal.tries-first_cut-cut-requires
 tries-first_cut-cut-requires t c =
@@ -381,8 +380,8 @@ tries-visit-requires t c =
     let g = c.loop-s.invariant.5 o.stop o.left o.vertex o.state o.holds.0 o.holds.1 o.tells in
     (omega arith, (c.loop-s.invariant.7, (c.requires.1.1.1.0, record { stop = o.stop; left = o.left; vertex = o.vertex; state = g.state; holds = tries-tries o.left o.vertex o.holds.0 o.holds.1; tells = g.tells })))
 
-pub tries-returns-in_err-visit : goal.tries-returns-in_err-visit
-tries-returns-in_err-visit t c =
+pub tries-returns-then-visit : goal.tries-returns-then-visit
+tries-returns-then-visit t c =
     let tries-from : c.max-s.result ≡ max c.args.place.now.time (release (recorder_of c.args.search.now.r.now) c.args.j.0) = c.max-s.ensures ∙ ap (max _) (c.from.ensures ∙ c.release_of.ensures) in
     let tries-due : c.loop-s.s + run (recorder_of c.args.search.now.r.now) c.args.j.0 ≤ deadline (recorder_of c.args.search.now.r.now) c.args.j.0 = omega (arith, c.loop-s-test.true, c.loop-s.invariant.4, c.first_cut-cut.ensures) in
     let tries-starts : (m : ℕ) (u : Vertex) → Stands (recorder_of c.args.search.now.r.now) c.args.place.now.v.now c.args.place.now.set c.args.place.now.from m u → u.time ≡ c.args.place.now.time → Starts (recorder_of c.args.search.now.r.now) u c.args.j.0 c.loop-s.s = λ m u stands time. let x = c.requires.0.tabled in
@@ -403,7 +402,7 @@ tries-returns-in_err-visit t c =
       kept = (e.ensures.kept.0, (e.ensures.kept.1.0, omega (arith, e.ensures.kept.1.1, c.loop-s.invariant.2)));
       came = λ stop m u st stands time tells.
           let g = tries-first stop m u st stands time tells in
-          rw c.from_residual.ensures.0 (going_over R stop a.search.now.budget u (λ (x : ℕ). visit_by R stop m (child R u a.j.0 x)) c.loop-s.tally _ _ _ g _ _ (e.ensures.came stop m u g.state (tries-tries m u stands time) g.tells) (start_steady R stop _ m u a.j.0) (ap is_err c.in_err-visit.was));
+          going_over R stop a.search.now.budget u (λ (x : ℕ). visit_by R stop m (child R u a.j.0 x)) c.loop-s.tally _ _ _ g _ _ (e.ensures.came stop m u g.state (tries-tries m u stands time) g.tells) (start_steady R stop _ m u a.j.0) c.if-visit.true;
     }
 
 pub tries-overflow_add-s : goal.tries-overflow_add-s
@@ -447,7 +446,7 @@ tries-loop-s-preserved t c =
       q.1,
       (λ stop m u st stands time tells.
           let g = tries-first stop m u st stands time tells in
-          going_next R stop a.search.now.budget u (λ (x : ℕ). visit_by R stop m (child R u a.j.0 x)) c.loop-s.tally _ _ _ g _ _ (e.ensures.came stop m u g.state (tries-tries m u stands time) g.tells) (ap is_err c.in_ok-visit.was)),
+          going_next R stop a.search.now.budget u (λ (x : ℕ). visit_by R stop m (child R u a.j.0 x)) c.loop-s.tally _ _ _ g _ _ (e.ensures.came stop m u g.state (tries-tries m u stands time) g.tells) c.if-visit.false),
       omega (arith, tries-early),
       e.ensures.kept.0,
       omega arith,

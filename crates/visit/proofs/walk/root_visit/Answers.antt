@@ -46,8 +46,8 @@ pub offer-requires : goal.offer-requires
 offer-requires c =
     (counted_less c.args.tally.now _ c.requires.1.0 c.count_one.ensures).0
 
-pub go_on-requires : goal.go_on-requires
-go_on-requires c =
+pub stops-requires : goal.stops-requires
+stops-requires c =
     let offered-long : length c.offer.new.tally ≡ 35 = (offered_less _ _ _ (counted_less c.args.tally.now _ c.requires.1.0 c.count_one.ensures).0 c.offer.ensures).0 in
     offered-long
 
@@ -62,7 +62,7 @@ returns-then-n-eq0 c =
           root_complete R stop c.args.budget c.requires.0.tabled.valid _ c.root_of-v.ensures (omega (arith, c.if-from-v.false, c.from.ensures ∙ c.horizon_of.ensures)) c.args.tally.now _
           (root_tells R stop c.args.budget c.args.tally.now c.requires.1.0 c.requires.1.1.0 c.requires.1.1.1.0 q) (omega (arith, c.if-budget-eq0.false)) c.count_one.ensures
           (sym c.job_count-n.ensures ∙ c.if-n-eq0.true) f.result _ f.ensures.0 (ap (λ (y : ℕ). f.result + y) close.ensures.0) (omega (arith, close.ensures.1, f.ensures.1)) _ c.offer.ensures
-          _ c.go_on.ensures,
+          _ c.stops.ensures,
     )
 
 pub all_jobs-requires : goal.all_jobs-requires
