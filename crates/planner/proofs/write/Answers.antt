@@ -14,7 +14,7 @@ use Rattle.tables.proofs.Appending.{held_front, held_long}
 use Rattle.tables.proofs.Back.{unmarked}
 use Rattle.tables.proofs.Joining.{limited_fits}
 use Rattle.std.proofs.lemmas.Result.{err_from_is_err_and}
-use Rattle.request.specs.Format.{Reading, read_as, accepted, refused}
+use Rattle.request.specs.Format.{read_as, accepted}
 use Rattle.request.proofs.Limiting.{read_limited, accepted_limited}
 use Rattle.planner.specs.Promises as P
 use Rattle.planner.proofs.Refusing.{unless_enough}
@@ -37,11 +37,11 @@ written_as T lent R s n r e f h = rw (e, f) (P.Written.read r (unless_enough (om
 
 -- What is read of the bytes is what is read of the layout.
 module _ (T : Tables) (f : File) (e : f ≡ held (bytes_of (limited T))) where
+  fits : f.count ≤ length f.bytes
+  fits = rw e (held_long (bytes_of (limited T)) (limited_fits T))
+
   long : f.count ≡ length (take f.count f.bytes)
-  long = sym (length-take-le f.count f.bytes (fits))
-    where
-      fits : f.count ≤ length f.bytes
-      fits = rw e (held_long (bytes_of (limited T)) (limited_fits T))
+  long = sym (length-take-le f.count f.bytes fits)
 
   small : f.count ≤ 297
   unfolding held
@@ -63,6 +63,9 @@ module _ (T : Tables) (f : File) (e : f ≡ held (bytes_of (limited T))) where
     size : f.count ≡ length (bytes_of T)
     unfolding held
     size = ap (λ (f : File). f.count) e ∙ ap length (ap bytes_of (accepted_limited _ _ r))
+
+pub slice_bounds-bytes-end : goal.slice_bounds-bytes-end
+slice_bounds-bytes-end c = fits c.args.given _ c.file_of-file.ensures
 
 pub slice_bounds-read_by-end : goal.slice_bounds-read_by-end
 slice_bounds-read_by-end c = long c.args.given _ c.file_of-file.ensures
@@ -92,6 +95,9 @@ returns-then-out-n c =
 
 pub slice_bounds-copy_from_slice-end-3 : goal.slice_bounds-copy_from_slice-end-3
 slice_bounds-copy_from_slice-end-3 c = long c.args.given _ c.file_of-file.ensures
+
+pub slice_bounds-bytes-end-2 : goal.slice_bounds-bytes-end-2
+slice_bounds-bytes-end-2 c = fits c.args.given _ c.file_of-file.ensures
 
 pub copy_from_slice-requires : goal.copy_from_slice-requires
 copy_from_slice-requires c = length-take-le _ _ c.if-out-n.false ∙ long c.args.given _ c.file_of-file.ensures
