@@ -11,13 +11,13 @@ use native.Mathlib.Omega.{arith}
 use lib.ListN.{length, take, drop, get_or, length-take, length-drop, length-map, get_or-map}
 use lib.Seq.{take-take, take_all, get_or-take, get_or-drop, length-take-le}
 use Rattle.std.proofs.lemmas.List.{drop-take}
-use lib.Dec.{leb, ltb}
+use lib.Dec.{leb}
 use borrow.Author.Tests.{lt-leb, eq-eqb, ne_eqb, not-true, not-false}
 use Rattle.base.proofs.Pieces.{piece_at}
 use Rattle.base.specs.Bytes.{byte_at, pair_at, same, pieces}
 use Rattle.base.specs.Lists.{up_to, padded}
 use Rattle.base.proofs.Arrays.{length_up_to, get_d_up_to, up_to_take, up_to_same}
-use Rattle.base.proofs.Cases.{test_cases, or_right, ltb_same}
+use Rattle.base.proofs.Cases.{test_cases, or_right}
 use Rattle.base.proofs.Comparing.{same_lengths}
 use Rattle.base.proofs.Members.{all_fails, one_holds, one_fails}
 use Rattle.tables.specs.declared.DeviceRecord.{DeviceRecord}
@@ -47,10 +47,6 @@ module _ (s : List ℕ) where
       get_or-map (λ (p : Part). p.number) (parts_of s) i no_part
       ∙ ap (λ (p : Part). p.number) (part_at i h)
       ∙ take-take 8 15 (drop (15 * i) s) (omega arith)
-
-  -- A part begins before the end just where it is one.
-  pub part_begins : (k : ℕ) → ltb (15 * k) (length s) ≡ ltb k (length (parts_of s))
-  part_begins k = ltb_same (15 * k) (length s) k (length (parts_of s)) (λ h. omega (arith, parts_count)) (λ h. omega (arith, parts_count))
 
   -- Whether part i is whole.
   record_length : (i : ℕ) → length (drop 8 (take 15 (drop (15 * i) s))) ≡ min 15 (length s - 15 * i) - 8
@@ -169,9 +165,6 @@ module _ (w : List ℕ) where
   pub wanted_count : length (pieces 8 w) ≡ (length w + 7) / 8
   unfolding pieces
   wanted_count = length_up_to (λ k. take 8 (drop (8 * k) w)) ((length w + 7) / 8)
-
-  pub wanted_begins : (k : ℕ) → ltb (8 * k) (length w) ≡ ltb k (length (pieces 8 w))
-  wanted_begins k = ltb_same (8 * k) (length w) k (length (pieces 8 w)) (λ h. omega (arith, wanted_count)) (λ h. omega (arith, wanted_count))
 
   pub wanted_at_lem : (i : ℕ) → i < (length w + 7) / 8 → get_or (pieces 8 w) i [] ≡ wanted_at w i
   wanted_at_lem i h = piece_at 8 w i h
