@@ -34,6 +34,14 @@ head sleeps d tail front e =
     let first = written_first (take front (drop tail gap)) (length-take-le front (drop tail gap) (omega (arith, length-drop tail gap))) e in
     rw (e.0, all) at first
 
+pub loop-i-init : goal.loop-i-init
+loop-i-init c =
+    let a = c.args in
+    let to : c.write_gap-at.result ≡ a.front = c.write_gap-at.ensures.0 in
+    let front = drop a.tail (seamed a.sleeps a.d a.tail a.front) in
+    let none : front ++ bytes a.sleeps a.u a.d a.front a.front ≡ front = ap (λ (l : List ℕ). front ++ l) (bytes_none a.sleeps a.u a.d a.front) ∙ append-nil front in
+    (to, rw (to, none) (filled_begun (head a.sleeps a.d a.tail a.front c.write_gap-at.ensures)))
+
 -- What is written since.
 since : (c : At-loop-i) → let a = c.args in
     Filled a.out.now c.loop-i.at (drop a.tail (seamed a.sleeps a.d a.tail a.front) ++ bytes a.sleeps a.u a.d a.front c.loop-i.at) c.loop-i.out
@@ -87,14 +95,6 @@ overflow_add-seam c = omega (arith, room (goal.at.overflow_add-seam c).Start)
 pub write_gap-at-requires : goal.write_gap-at-requires
 write_gap-at-requires c = let r = room (goal.at.write_gap-at-requires c).Start in (c.requires.0, (omega arith, (omega arith, omega arith)))
 
-pub loop-i-init : goal.loop-i-init
-loop-i-init c =
-    let a = c.args in
-    let to : c.write_gap-at.result ≡ a.front = c.write_gap-at.ensures.0 in
-    let front = drop a.tail (seamed a.sleeps a.d a.tail a.front) in
-    let none : front ++ bytes a.sleeps a.u a.d a.front a.front ≡ front = ap (λ (l : List ℕ). front ++ l) (bytes_none a.sleeps a.u a.d a.front) ∙ append-nil front in
-    (to, rw (to, none) (filled_begun (head a.sleeps a.d a.tail a.front c.write_gap-at.ensures)))
-
 pub overflow_sub-gap : goal.overflow_sub-gap
 overflow_sub-gap c = omega (arith, fits (goal.at.overflow_sub-gap c).In-loop-i)
 
@@ -106,6 +106,12 @@ slice_bounds-write_gap-start c = omega (arith, fits (goal.at.slice_bounds-write_
 
 pub slice_bounds-write_gap-end : goal.slice_bounds-write_gap-end
 slice_bounds-write_gap-end c = omega (arith, fits (goal.at.slice_bounds-write_gap-end c).In-loop-i)
+
+pub write_gap-at-requires-in-loop-i : goal.write_gap-at-requires-in-loop-i
+write_gap-at-requires-in-loop-i c =
+    let f = fits (goal.at.write_gap-at-requires-in-loop-i c).In-loop-i in
+    let r = c.requires.1.1.1.1.1 in
+    (c.requires.0, (omega arith, (omega arith, omega arith)))
 
 pub overflow_add-at : goal.overflow_add-at
 overflow_add-at c = omega (arith, fits (goal.at.overflow_add-at c).In-loop-i)
@@ -124,12 +130,6 @@ overflow_sub-end c = omega (arith, fits (goal.at.overflow_sub-end c).In-loop-i)
 
 pub overflow_add-at-in-loop-i : goal.overflow_add-at-in-loop-i
 overflow_add-at-in-loop-i c = omega (arith, fits (goal.at.overflow_add-at-in-loop-i c).In-loop-i)
-
-pub write_gap-at-requires-in-loop-i : goal.write_gap-at-requires-in-loop-i
-write_gap-at-requires-in-loop-i c =
-    let f = fits (goal.at.write_gap-at-requires-in-loop-i c).In-loop-i in
-    let r = c.requires.1.1.1.1.1 in
-    (c.requires.0, (omega arith, (omega arith, omega arith)))
 
 pub write_run-at-requires : goal.write_run-at-requires
 write_run-at-requires c = omega (arith, fits (goal.at.write_run-at-requires c).In-loop-i, c.requires.1.1.1.1.1.1)
