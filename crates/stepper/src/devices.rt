@@ -33,13 +33,11 @@ pub fn run_devices(r: Recorder, starts: &[u16], out: &mut [u32]) -> u32
     let devices = r.devices;
     let order = running_order(starts);
     let mut total: u32 = 0;
-    let mut k = 0;
-    while k < devices.count {
+    for k in 0..devices.count {
         let x = run_device(r, starts, order, k);
         let e = x.energy;
         out[k] = e;
         total += e;
-        k += 1;
     }
     total
 }

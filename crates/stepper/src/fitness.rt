@@ -14,10 +14,7 @@ use schedule::{Devices, Job, Recorder};
 fn is_marked(file: &[u8]) -> bool
     ensures { result ≡ eqb (byte_at file.now 0) 255 }
 {
-    if file.len() == 0 {
-        return false;
-    }
-    file[0] == 255
+    !file.is_empty() && file[0] == 255
 }
 
 // Whether some device costs as much to move as to work, or more. (That moving costs more than sleep is rule 3's.)
@@ -26,13 +23,11 @@ fn has_unlike(r: Recorder) -> bool
     ensures { Decides (Unlike r) result }
 {
     let devices = r.devices;
-    let mut k = 0;
-    while k < devices.count {
+    for k in 0..devices.count {
         let d = devices.list[k];
         if d.pw <= d.pd {
             return true;
         }
-        k += 1;
     }
     false
 }
@@ -42,13 +37,11 @@ fn is_outrun(devices: Devices, job: Job) -> bool
     requires { devices.count ≤ 8 }
     ensures { Decides (Outrun devices job.run) result }
 {
-    let mut k = 0;
-    while k < devices.count {
+    for k in 0..devices.count {
         let d = devices.list[k];
         if job.run < d.shut as u16 {
             return true;
         }
-        k += 1;
     }
     false
 }
@@ -60,13 +53,10 @@ fn has_brief(r: Recorder) -> bool
 {
     let devices = r.devices;
     let jobs = r.jobs;
-    let mut j = 0;
-    while j < jobs.count {
-        let job = jobs.list[j];
-        if is_outrun(devices, job) {
+    for j in 0..jobs.count {
+        if is_outrun(devices, jobs.list[j]) {
             return true;
         }
-        j += 1;
     }
     false
 }

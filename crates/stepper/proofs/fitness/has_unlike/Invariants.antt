@@ -1,11 +1,8 @@
 -- `stepper::fitness::has_unlike` meets its contract.
-use Prim.Native.Nat.{ℕ, ◌-◌, ◌≤◌, ◌<◌}
+use Prim.Native.Nat.{ℕ, ◌<◌}
 use lib.ListN.{get_or}
 use Rattle.device.specs.Row.{no_device}
 use Rattle.stepper.proofs.fitness.has_unlike.Given as goal
 
 abbrev pub invariant-loop-k : goal.invariant-loop-k
-invariant-loop-k l = (l.k ≤ l.devices.count) × ((i : ℕ) → i < l.k → (get_or l.devices.list i no_device).pd < (get_or l.devices.list i no_device).pw)
-
-abbrev pub decreases-loop-k : goal.decreases-loop-k
-decreases-loop-k l = l.devices.count - l.k
+invariant-loop-k l = (i : ℕ) → i < l.k → (get_or l.devices.list i no_device).pd < (get_or l.devices.list i no_device).pw
