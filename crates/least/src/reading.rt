@@ -64,8 +64,9 @@ fn first_start(
     ensures lent { LentTo search.now memory.new × (entered.new ≤ search.now.budget) }
     ensures answer { (m : ℕ) (u : Vertex) → Shows (recorder search.now) v.now set (suc m) u → u.time ≡ time → Came search.now.budget entered.old entered.new ((recorder search.now).horizon * most_of (recorder search.now) m 0) (λ x. MatchOption x (Nowhere (recorder search.now) m u j goal) (First (recorder search.now) m u j goal)) result }
 {
+    let from = time.max(u32::from(release_of(search.r, j)));
     let to = last_of(search, set - power(j), j);
-    for s in time.max(u32::from(release_of(search.r, j)))..to {
+    for s in from..to {
         let lead = lead_of(search.r, search.extras, v, j, s);
         if hits(search, memory, entered, v, set, j, s, lead, goal)? {
             return Ok(Some(s));

@@ -217,11 +217,12 @@ fn tries(
     ensures lent { LentTo search.now memory.new × (entered.new ≤ search.now.budget) }
     ensures answer { (m : ℕ) (u : Vertex) (o : Option ℕ) → Shows (recorder search.now) v.now set (suc m) u → u.time ≡ time → Answers limit o given → Came search.now.budget entered.old entered.new ((until - time) * most_of (recorder search.now) m 0) (Small (Answers limit (lesser o (least_in (via_child (recorder search.now) m u j) (starts_to (recorder search.now) u.time until j))))) result }
 {
+    let from = time.max(u32::from(release_of(search.r, j)));
     let to = until.min(last_of(search, set - power(j), j));
     let fall = falls_of(search.r, search.extras, v, j);
     let mut best = given;
     let mut ahead = 0;
-    for s in time.max(u32::from(release_of(search.r, j)))..to {
+    for s in from..to {
         let lead = lead_of(search.r, search.extras, v, j, s);
         let most = limit.min(best);
         let x = attempt(search, memory, entered, v, set, j, s, most, lead, ahead)?;

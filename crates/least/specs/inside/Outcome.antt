@@ -1,5 +1,5 @@
 -- What the calls of the search come to.
-use Rattle.std.specs.Prelude.{◌≡◌, List, ℕ, suc, ◌+◌, ◌-◌, ◌/◌, ◌%◌, ◌≤◌, ◌<◌, max, eqb, take, Result, Ok, Err}
+use Rattle.std.specs.Prelude.{List, ℕ, suc, ◌+◌, ◌-◌, ◌/◌, ◌%◌, ◌≤◌, ◌<◌, max, eqb, take, Result, Ok, Err}
 use Rattle.std.proofs.Math.Option.{Option}
 use Rattle.schedule.specs.declared.Recorder.{Recorder}
 use Rattle.base.specs.Lists.{In}

@@ -1,4 +1,4 @@
-use mathlib.Core.Path.{◌≡◌, refl, sym, ap, ◌∙◌, subst}
+use mathlib.Core.Path.{refl, sym, ap, ◌∙◌, subst}
 use Prim.Native.Nat.{ℕ, suc, ◌+◌, ◌/◌, ◌≤◌, ◌<◌, max}
 use native.Mathlib.Omega.{arith}
 use lib.Pow.{pow_pos}
@@ -11,7 +11,7 @@ use Rattle.extras.specs.inside.Tabled.{cap_at}
 use Rattle.vertex.proofs.Showing.{ordered_later, ticks_shown, load_shown}
 use Rattle.stored.specs.declared.Key.{Key}
 use Rattle.least.specs.inside.Entries.{Looked}
-use Rattle.least.specs.inside.Outcome.{recorder, passed, Tried}
+use Rattle.least.specs.inside.Outcome.{recorder, passed}
 use Rattle.least.proofs.Falling.{waited_shown}
 use Rattle.least.proofs.Counting.{came_more, most_less, most_near, most_own}
 use Rattle.least.proofs.Choosing.{held_open, chosen_none, chosen_passed, chosen_tried, chosen_stopped, chosen_all}
@@ -47,16 +47,16 @@ choices-loop-j-preserved t c =
     let i = c.loop-j.invariant in
     elim c.if-has.branch [
       | choices-then-has+in_ok-best w ↦
-        let e = w.in_ok-best.ensures in
-        rw (w.memory-is, w.entered-is, w.best-is)
-        (record {
-          lent = e.lent.0;
-          within = e.lent.1;
-          chosen = chosen_tried R valid _ _ _ _ _ _ _ _ _ _ i.chosen _ _ e.answer c.requires.1.1.0 (sym w.if-has.ensures);
-        })
+          let e = w.in_ok-best.ensures in
+          rw (w.memory-is, w.entered-is, w.best-is)
+          (record {
+            lent = e.lent.0;
+            within = e.lent.1;
+            chosen = chosen_tried R valid _ _ _ _ _ _ _ _ _ _ i.chosen _ _ e.answer c.requires.1.1.0 (sym w.if-has.ensures);
+          })
       | choices-else-has w ↦
-        rw (w.memory-is, w.entered-is, w.best-is)
-        (record { lent = i.lent; within = i.within; chosen = chosen_passed R valid _ _ _ _ _ _ _ _ _ _ i.chosen (sym w.if-has.ensures) })
+          rw (w.memory-is, w.entered-is, w.best-is)
+          (record { lent = i.lent; within = i.within; chosen = chosen_passed R valid _ _ _ _ _ _ _ _ _ _ i.chosen (sym w.if-has.ensures) })
     ]
 
 pub choices-returns-clause-answer : goal.choices-returns-clause-answer
@@ -267,7 +267,7 @@ tries-lead_of-lead-requires t c =
     let held = c.requires.1.1.0 in
     let known = c.requires.1.1.1.1.1.0 in
     let one = c.requires.1.1.1.1.1.1 in
-    let from_is = c.max-s.ensures ∙ ap (max _) (c.from.ensures ∙ c.release_of.ensures) in
+    let from_is = c.max-from.ensures ∙ ap (max _) (c.from.ensures ∙ c.release_of.ensures) in
     let i = c.loop-s.invariant in
     let by : c.args.time ≤ c.loop-s.s = omega (arith, i.trial.low, from_is) in
     let late = starts_late R c.args.j _ _ _ _ c.min-to.ensures c.last_of.ensures in
@@ -280,7 +280,7 @@ tries-attempt-requires t c =
     let held = c.requires.1.1.0 in
     let known = c.requires.1.1.1.1.1.0 in
     let one = c.requires.1.1.1.1.1.1 in
-    let from_is = c.max-s.ensures ∙ ap (max _) (c.from.ensures ∙ c.release_of.ensures) in
+    let from_is = c.max-from.ensures ∙ ap (max _) (c.from.ensures ∙ c.release_of.ensures) in
     let i = c.loop-s.invariant in
     let by : c.args.time ≤ c.loop-s.s = omega (arith, i.trial.low, from_is) in
     let late = starts_late R c.args.j _ _ _ _ c.min-to.ensures c.last_of.ensures in
@@ -294,7 +294,7 @@ tries-returns-in_err-x-clause-answer t c =
     let held = c.requires.1.1.0 in
     let known = c.requires.1.1.1.1.1.0 in
     let one = c.requires.1.1.1.1.1.1 in
-    let from_is = c.max-s.ensures ∙ ap (max _) (c.from.ensures ∙ c.release_of.ensures) in
+    let from_is = c.max-from.ensures ∙ ap (max _) (c.from.ensures ∙ c.release_of.ensures) in
     let i = c.loop-s.invariant in
     let by : c.args.time ≤ c.loop-s.s = omega (arith, i.trial.low, from_is) in
     let late = starts_late R c.args.j _ _ _ _ c.min-to.ensures c.last_of.ensures in
@@ -309,7 +309,7 @@ tries-overflow_add-lead t c =
     let held = c.requires.1.1.0 in
     let known = c.requires.1.1.1.1.1.0 in
     let one = c.requires.1.1.1.1.1.1 in
-    let from_is = c.max-s.ensures ∙ ap (max _) (c.from.ensures ∙ c.release_of.ensures) in
+    let from_is = c.max-from.ensures ∙ ap (max _) (c.from.ensures ∙ c.release_of.ensures) in
     let i = c.loop-s.invariant in
     let by : c.args.time ≤ c.loop-s.s = omega (arith, i.trial.low, from_is) in
     let late = starts_late R c.args.j _ _ _ _ c.min-to.ensures c.last_of.ensures in
@@ -323,7 +323,7 @@ tries-loop-s-preserved t c =
     let held = c.requires.1.1.0 in
     let known = c.requires.1.1.1.1.1.0 in
     let one = c.requires.1.1.1.1.1.1 in
-    let from_is = c.max-s.ensures ∙ ap (max _) (c.from.ensures ∙ c.release_of.ensures) in
+    let from_is = c.max-from.ensures ∙ ap (max _) (c.from.ensures ∙ c.release_of.ensures) in
     let i = c.loop-s.invariant in
     let by : c.args.time ≤ c.loop-s.s = omega (arith, i.trial.low, from_is) in
     let late = starts_late R c.args.j _ _ _ _ c.min-to.ensures c.last_of.ensures in
@@ -343,6 +343,6 @@ tries-returns-clause-answer t c =
     let held = c.requires.1.1.0 in
     let known = c.requires.1.1.1.1.1.0 in
     let one = c.requires.1.1.1.1.1.1 in
-    let from_is = c.max-s.ensures ∙ ap (max _) (c.from.ensures ∙ c.release_of.ensures) in
+    let from_is = c.max-from.ensures ∙ ap (max _) (c.from.ensures ∙ c.release_of.ensures) in
     λ m u o h q w.
     trial_end R valid _ _ _ _ _ _ _ _ _ _ _ _ known one from_is (starts_to_lem R _ c.requires.0.laid _ _ _ _ _ _ (held_few R valid _ _ _ held).0 c.power.ensures c.min-to.ensures c.last_of.ensures) _ _ _ _ c.loop-s.invariant.trial (omega (arith, c.loop-s-test.false)) m u o h q w
