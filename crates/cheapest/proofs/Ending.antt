@@ -1,6 +1,6 @@
 -- How `least_plan` ends: by the table of latest times, with the schedule that is read off, or by the search that counts.
-use mathlib.Core.Path.{◌≡◌, refl, sym}
-use mathlib.Core.Bool.{Bool, true, false, true≢false}
+use mathlib.Core.Path.{◌≡◌, refl}
+use mathlib.Core.Bool.{true, false}
 use mathlib.Core.List.{List, ◌++◌}
 use mathlib.Core.Logic.{inr}
 use Prim.Native.Nat.{ℕ, zero, suc, ◌-◌, ◌*◌, ◌^◌, ◌≤◌, ◌<◌}
@@ -18,9 +18,7 @@ use Rattle.latest.proofs.Feasibility.{feasible_latest, latest_feasible}
 use Rattle.planner.specs.declared.Answer.{Answer}
 use Rattle.planner.specs.Promises.{success, refusal, refusal_after, stops, passes, found, SearchOf}
 use Rattle.planner.proofs.Refusing.{unless_enough, unless_some}
-use Rattle.least.specs.inside.Outcome as O
 use Rattle.least.specs.Effort.{most_of, most_vertices}
-use Rattle.least.specs.inside.Outcome.{ReadOff}
 use Rattle.cheapest.specs.Promises as P
 use Rattle.cheapest.specs.Promises.{LeastOf, CountedLeastOf, Sought}
 
@@ -57,43 +55,30 @@ module _ (R : Recorder) (valid : Valid R) where
     counted_is_none budget lent room q =
         unless_enough room (stops (λ s f. omega (arith, ltb-false 0 (get_or table (2 ^ jobs R - 1) 0) q, all_jobs, feasible_latest R valid s f)))
 
-  -- ---- the search, which left l
+  -- ---- the search, which is given up only with a budget below all the vertices that can be needed
 
-  module _ (budget : ℕ) (lent l : List ℕ) (room : jobs R ≤ length lent) where
-    -- It is given up only with a budget below all the vertices that can be needed,
-    over_most : {x : Bool} → ReadOff R budget l x → x ≡ false → budget < most_vertices R
-    over_most (O.ReadOff.read f) e = absurd (true≢false e)
-    over_most (O.ReadOff.over h) e = h
-
-    pub is_over_lem : {x : Bool} → ReadOff R budget l x → x ≡ false → 0 < latest_of R (2 ^ jobs R - 1) → LeastOf budget lent R (refusal_after 20 budget) lent
-    is_over_lem r e q = unless_enough room (unless_some (latest_feasible R valid q).1 (P.OverOrLeast.over (over_most r e)))
+  module _ (budget : ℕ) (over : budget < most_vertices R) where
+    pub is_over_lem : (lent : List ℕ) → jobs R ≤ length lent → 0 < latest_of R (2 ^ jobs R - 1) → LeastOf budget lent R (refusal_after 20 budget) lent
+    is_over_lem lent room q = unless_enough room (unless_some (latest_feasible R valid q).1 (P.OverOrLeast.over over))
 
     -- and only where there are jobs.
-    pub over_some : {x : Bool} → ReadOff R budget l x → x ≡ false → 0 < jobs R
-    over_some (O.ReadOff.read f) e = absurd (true≢false e)
-    over_some (O.ReadOff.over h) e = most_some R (omega (arith, h))
+    pub over_some : 0 < jobs R
+    over_some = most_some R (omega (arith, over))
 
-    pub read_least : {x : Bool} → ReadOff R budget l x → x ≡ true → FirstLeast R (take (jobs R) l) (plan_energy R (take (jobs R) l))
-    read_least (O.ReadOff.read f) e = f
-    read_least (O.ReadOff.over h) e = absurd (true≢false (sym e))
+  -- ---- or read the starts l off
 
+  module _ (l : List ℕ) (least : FirstLeast R (take (jobs R) l) (plan_energy R (take (jobs R) l))) where
     -- There are as many starts as jobs.
-    pub read_room : {x : Bool} → ReadOff R budget l x → x ≡ true → jobs R ≤ length l
-    read_room r e = omega (arith, (read_least r e).feasible.one_each, length-take (jobs R) l)
+    pub read_room : jobs R ≤ length l
+    read_room = omega (arith, least.feasible.one_each, length-take (jobs R) l)
 
-    pub is_found :
-        {x : Bool} → ReadOff R budget l x → x ≡ true → (a : Answer) (after : List ℕ) → a ≡ success R.horizon (plan_energy R (take (jobs R) l)) 0
-        → after ≡ take (jobs R) l ++ drop (length (take (jobs R) l)) lent → LeastOf budget lent R a after
-    is_found r e a after given wrote =
-        let f = read_least r e in
-        rw (given, wrote, f.feasible.one_each) (unless_enough room (unless_some f.feasible (P.OverOrLeast.least (found f))))
+    module _ (budget : ℕ) (lent : List ℕ) (room : jobs R ≤ length lent) (a : Answer) (after : List ℕ) (given : a ≡ success R.horizon (plan_energy R (take (jobs R) l)) 0)
+        (wrote : after ≡ take (jobs R) l ++ drop (length (take (jobs R) l)) lent) where
+      pub is_found : LeastOf budget lent R a after
+      is_found = rw (given, wrote, least.feasible.one_each) (unless_enough room (unless_some least.feasible (P.OverOrLeast.least (found least))))
 
-    pub counted_is_found :
-        {x : Bool} → ReadOff R budget l x → x ≡ true → (a : Answer) (after : List ℕ) → a ≡ success R.horizon (plan_energy R (take (jobs R) l)) 0
-        → after ≡ take (jobs R) l ++ drop (length (take (jobs R) l)) lent → CountedLeastOf budget lent R a after
-    counted_is_found r e a after given wrote =
-        let f = read_least r e in
-        rw (given, wrote, f.feasible.one_each) (unless_enough room (unless_some f.feasible (P.CountedOrLeast.least (found f))))
+      pub counted_is_found : CountedLeastOf budget lent R a after
+      counted_is_found = rw (given, wrote, least.feasible.one_each) (unless_enough room (unless_some least.feasible (P.CountedOrLeast.least (found least))))
 
   -- ---- the search that counts, where there is a plan
 

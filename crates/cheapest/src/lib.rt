@@ -2,7 +2,7 @@
 // says its complete outcome, but for what the memory holds where a plan was looked for, and whether the memory was enough for one.
 #![tactic(auto)]
 
-ghost use Rattle.std.specs.Prelude.{◌≡◌, ◌++◌, ◌-◌, ◌^◌, ◌<◌, ◌≤◌, ltb, get_or, length, drop, replicate};
+ghost use Rattle.std.specs.Prelude.{◌≡◌, ◌++◌, ◌-◌, ◌^◌, ◌<◌, ◌≤◌, ltb, get_or, length, drop};
 ghost use Rattle.schedule.specs.Quantities.{Valid, jobs};
 ghost use Rattle.schedule.specs.Listing.{Feasible};
 ghost use Rattle.schedule.specs.Visiting.{plan_energy};
@@ -17,6 +17,7 @@ use extras::laying::lay_extras;
 use flat::{Flat, flat_of};
 use latest::{Table, lay_latest, power};
 use least::reading::least_starts;
+use least::search::Stop;
 use planner::{Answer, refusal, search_in_of, success};
 use request::read;
 use schedule::{Recorder, plan_energy};
@@ -31,15 +32,15 @@ fn is_possible(latest: &Table, n: usize) -> bool
     0 < last
 }
 
-// The search, with what it is lent made ready. Answers whether the budget was enough.
-fn find(r: &Flat, latest: &Table, budget: u32, memory: &mut [u64], found: &mut [u16; 16]) -> bool
-    requires { Valid (recorder_of r.now) × (Laid (recorder_of r.now) latest.now × ((found.old ≡ replicate 16 0) × (0 < latest_of (recorder_of r.now) (2 ^ jobs (recorder_of r.now) - 1)))) }
-    ensures { ReadOff (recorder_of r.now) budget found.new result }
+// The search, with what it is lent made ready.
+fn find(r: &Flat, latest: &Table, budget: u32, memory: &mut [u64]) -> Result<[u16; 16], Stop>
+    requires { Valid (recorder_of r.now) × (Laid (recorder_of r.now) latest.now × (0 < latest_of (recorder_of r.now) (2 ^ jobs (recorder_of r.now) - 1))) }
+    ensures { ReadOff (recorder_of r.now) budget result }
 {
     let mut extras = [0u32; 32976];
     lay_extras(r, &mut extras);
     clear(memory);
-    least_starts(r, &extras, latest, memory, budget, found)
+    least_starts(r, &extras, latest, memory, budget)
 }
 
 // Copies the starts into the front of the lent list.
@@ -88,10 +89,9 @@ fn least_with(
     ensures sought { Sought result }
 {
     let n = r.jobs.count;
-    let mut found = [0u16; 16];
-    if !find(flat, latest, budget, memory, &mut found) {
+    let Ok(found) = find(flat, latest, budget, memory) else {
         return counted(r, budget, memory, starts);
-    }
+    };
     give(r, &found[..n], starts)
 }
 

@@ -21,9 +21,8 @@ use Rattle.value.proofs.Waits.{least_to}
 use Rattle.value.proofs.Tries.{ChosenTo, choosing_start, choosing_placed, choosing_tried, choosing_done}
 use Rattle.least.specs.inside.Shown.{Shows, ShownAt}
 use Rattle.least.specs.Effort.{most_of}
-use Rattle.least.specs.inside.Outcome.{Came, told, stopped}
+use Rattle.least.specs.inside.Outcome.{Small}
 use Rattle.vertex.proofs.Showing.{set_some, job_in_lem, in_job}
-use Rattle.least.proofs.Counting.{came_stop, came_small, came_from}
 
 -- A vertex that is held with jobs unplaced.
 pub record Open (R : Recorder) (l : List ℕ) (a t : ℕ) : Type 0 where
@@ -54,7 +53,7 @@ module _ (R : Recorder) (l : List ℕ) (a time until limit budget start : ℕ) w
   abbrev pub Turn : ℕ → ℕ → ℕ → ℕ → ℕ → Type 0
   Turn j given e f x =
       (m : ℕ) (u : Vertex) (o : Option ℕ) → Shows R l a (suc m) u → u.time ≡ time → Answers limit o given
-      → Came budget e f ((until - time) * most_of R m 0) x (Answers limit (lesser o (before R m u until j)) x)
+      → (f ≤ e + (until - time) * most_of R m 0) × Small (Answers limit (lesser o (before R m u until j))) x
 
   pub record Chosen (j entered best : ℕ) : Type 0 where
     pub small : best ≤ 2147483647
@@ -64,9 +63,6 @@ module _ (R : Recorder) (l : List ℕ) (a time until limit budget start : ℕ) w
 
   pub chosen_none : limit ≤ 2147483647 → Chosen 0 start 2147483647
   chosen_none q = record { small = omega arith; so_far = λ m u h e. (omega arith, choosing_start (before R m u until) (has a) limit 2147483647 q) }
-
-  pub chosen_as : (j e best f x : ℕ) → Chosen j e best → f ≡ e → x ≡ best → Chosen j f x
-  chosen_as j e best f x c p q = rw (p, q) c
 
 module _ (R : Recorder) (valid : Valid R) (l : List ℕ) (a time until limit budget start : ℕ) where
   module _ (j e best : ℕ) (c : Chosen R l a time until limit budget start j e best) where
@@ -80,40 +76,38 @@ module _ (R : Recorder) (valid : Valid R) (l : List ℕ) (a time until limit bud
               (omega (arith, p.0), choosing_placed (before R m u until) (has a) limit j best p.1 q);
         })
 
-    module _ (f x : ℕ) (turn : Turn R l a time until limit budget start j best e f x) where
-      on : (m : ℕ) (u : Vertex) → Shows R l a (suc m) u → u.time ≡ time
-          → Came budget start f (j * ((until - time) * most_of R m 0) + (until - time) * most_of R m 0) x
-          (Answers limit (lesser (least_in (λ i. cond (has a i) (before R m u until i) none) (up_from 0 j)) (before R m u until j)) x)
-      on m u h t =
-          let p = c.so_far m u h t in
-          came_from start (j * ((until - time) * most_of R m 0)) p.0
-          (turn m u (least_in (λ i. cond (has a i) (before R m u until i) none) (up_from 0 j)) h t p.1)
+    -- Those passed, where job j is tried.
+    abbrev passed_of : ℕ → Vertex → Option ℕ
+    passed_of m u = least_in (λ i. cond (has a i) (before R m u until i) none) (up_from 0 j)
 
-      pub chosen_tried : ShownAt R l a time → has a j ≡ true → (x ≡ 4294967295 → ⊥) → Chosen R l a time until limit budget start (j + 1) f x
-      chosen_tried held q z =
-          let o = held_open R valid l a time held (has_some a j q) in
-          rw (add-one j)
-          (record { small = came_small (on o.left o.vertex o.shows o.time) z; so_far = λ m u h t. more m u (on m u h t) })
-        where
-          more : (m : ℕ) (u : Vertex)
-              → Came budget start f (j * ((until - time) * most_of R m 0) + (until - time) * most_of R m 0) x
-              (Answers limit (lesser (least_in (λ i. cond (has a i) (before R m u until i) none) (up_from 0 j)) (before R m u until j)) x)
-              → (f ≤ start + suc j * ((until - time) * most_of R m 0)) × ChosenTo (before R m u until) (has a) limit (suc j) x
-          more m u (told small k p) = (omega arith, choosing_tried (before R m u until) (has a) limit j x q p)
-          more m u (stopped k s) = absurd (z k)
+    pub chosen_tried :
+        (f x : ℕ) → Turn R l a time until limit budget start j best e f x → ShownAt R l a time → has a j ≡ true
+        → Chosen R l a time until limit budget start (j + 1) f x
+    chosen_tried f x turn held q =
+        let o = held_open R valid l a time held (has_some a j q) in
+        rw (add-one j)
+        (record {
+          small = (turn o.left o.vertex (passed_of o.left o.vertex) o.shows o.time (c.so_far o.left o.vertex o.shows o.time).1).1.0;
+          so_far = λ m u h t.
+              let p = c.so_far m u h t in
+              let w = turn m u (passed_of m u) h t p.1 in
+              (omega (arith, p.0, w.0), choosing_tried (before R m u until) (has a) limit j x q w.1.1);
+        })
 
-      pub chosen_stopped :
-          j < jobs R → x ≡ 4294967295 → (m : ℕ) (u : Vertex) → Shows R l a (suc m) u → u.time ≡ time
-          → Came budget start f (jobs R * ((until - time) * most_of R m 0)) 4294967295 (Answers limit (least_to R m u until) 4294967295)
-      chosen_stopped b z m u h t =
-          let q : suc j * ((until - time) * most_of R m 0) ≤ jobs R * ((until - time) * most_of R m 0) = mul-le-mul_right ((until - time) * most_of R m 0) b in
-          came_stop (Answers limit (least_to R m u until) 4294967295) (jobs R * ((until - time) * most_of R m 0)) (omega arith) (on m u h t) z
+    pub chosen_stopped :
+        ((m : ℕ) (u : Vertex) (o : Option ℕ) → Shows R l a (suc m) u → u.time ≡ time → Answers limit o best → budget < e + (until - time) * most_of R m 0)
+        → j < jobs R → (m : ℕ) (u : Vertex) → Shows R l a (suc m) u → u.time ≡ time
+        → budget < start + jobs R * ((until - time) * most_of R m 0)
+    chosen_stopped turn b m u h t =
+        let p = c.so_far m u h t in
+        let w : budget < e + (until - time) * most_of R m 0 = turn m u (passed_of m u) h t p.1 in
+        let q : suc j * ((until - time) * most_of R m 0) ≤ jobs R * ((until - time) * most_of R m 0) = mul-le-mul_right ((until - time) * most_of R m 0) b in
+        omega (arith, p.0)
 
   pub chosen_all :
       (j e best : ℕ) → Chosen R l a time until limit budget start j e best → j ≡ jobs R → (m : ℕ) (u : Vertex) → Shows R l a (suc m) u → u.time ≡ time
-      → Came budget start e (jobs R * ((until - time) * most_of R m 0)) best (Answers limit (least_to R m u until) best)
+      → (e ≤ start + jobs R * ((until - time) * most_of R m 0)) × Small (Answers limit (least_to R m u until)) best
   chosen_all j e best c q m u h t =
       let p = c.so_far m u h t in
       let d = subst (λ (i : ℕ). (e ≤ start + i * ((until - time) * most_of R m 0)) × ChosenTo (before R m u until) (has a) limit i best) q p in
-      told c.small d.0
-      (choosing_done (before R m u until) (has a) limit u.unplaced (jobs R) best (in_job R valid l a (suc m) u h) (job_in_lem R valid l a (suc m) u h) d.1)
+      (d.0, (c.small, choosing_done (before R m u until) (has a) limit u.unplaced (jobs R) best (in_job R valid l a (suc m) u h) (job_in_lem R valid l a (suc m) u h) d.1))

@@ -4,45 +4,19 @@ use Prim.Native.Nat.{ℕ, zero, suc, ◌+◌, ◌-◌, ◌*◌, ◌≤◌, ◌<�
 use mathlib.Core.Logic.{⊎_elim}
 use native.Mathlib.Nat.{mul-le-mul_left, mul-le-mul_right, eq-or-lt_of_le}
 use native.Mathlib.Omega.{arith}
+use Rattle.std.specs.Prelude.{Result, Ok, Err}
 use Rattle.schedule.specs.declared.Recorder.{Recorder}
 use Rattle.schedule.specs.Quantities.{jobs}
+use Rattle.least.specs.declared.search.Stop.{Stop}
 use Rattle.least.specs.Effort.{most_of}
-use Rattle.least.specs.inside.Outcome.{Came, told, stopped}
+use Rattle.least.specs.inside.Outcome.{Came}
 
 -- ---- calls
 
--- A call that stopped stops its caller; one that answered leaves what is made of its answer.
-pub came_stop :
-    {b e f n x : ℕ} {P : Type 0} (Q : Type 0) (k : ℕ) → n ≤ k → Came b e f n x P → x ≡ 4294967295 → Came b e f k 4294967295 Q
-came_stop Q k l (told small q p) z = absurd (omega arith)
-came_stop Q k l (stopped q s) z = stopped refl (omega arith)
-
-pub came_go :
-    {b e f n x : ℕ} {P : Type 0} (Q : Type 0) (k y : ℕ) → n ≤ k → Came b e f n x P → (x ≡ 4294967295 → ⊥)
-    → (x ≤ 2147483647 → P → (y ≤ 2147483647) × Q) → Came b e f k y Q
-came_go Q k y l (told small q p) z g = told (g small p).0 (omega arith) (g small p).1
-came_go Q k y l (stopped q s) z g = absurd (z q)
-
-pub came_small : {b e f n x : ℕ} {P : Type 0} → Came b e f n x P → (x ≡ 4294967295 → ⊥) → x ≤ 2147483647
-came_small (told small q p) z = small
-came_small (stopped q s) z = absurd (z q)
-
-pub came_what : {b e f n x : ℕ} {P : Type 0} → Came b e f n x P → (x ≡ 4294967295 → ⊥) → P
-came_what (told small q p) z = p
-came_what (stopped q s) z = absurd (z q)
-
-pub came_count : {b e f n x : ℕ} {P : Type 0} → Came b e f n x P → (x ≡ 4294967295 → ⊥) → f ≤ e + n
-came_count (told small q p) z = q
-came_count (stopped q s) z = absurd (z q)
-
-pub came_more : {b e f n x : ℕ} {P : Type 0} (k : ℕ) → n ≤ k → Came b e f n x P → Came b e f k x P
-came_more k l (told small q p) = told small (omega arith) p
-came_more k l (stopped q s) = stopped q (omega arith)
-
--- After m vertices.
-pub came_from : {b e f n x : ℕ} {P : Type 0} (d m : ℕ) → e ≤ d + m → Came b e f n x P → Came b d f (m + n) x P
-came_from d m l (told small q p) = told small (omega arith) p
-came_from d m l (stopped q s) = stopped q (omega arith)
+-- More vertices may be entered than are.
+pub came_more : {A : Type 0} (P : A → Type 0) (b e f n k : ℕ) → n ≤ k → (r : Result A Stop) → Came b e f n P r → Came b e f k P r
+came_more P b e f n k l (Ok x) w = (omega (arith, w.0), w.1)
+came_more P b e f n k l (Err s) w = omega arith
 
 -- ---- how many
 

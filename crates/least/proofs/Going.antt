@@ -11,6 +11,7 @@ use lib.Dec.{eqb, leb, ltb}
 use lib.ListN.{get_or}
 use lib.Pow.{pow_pos}
 use borrow.Author.Tests.{eqb-true, leb-true, ltb-true}
+use Rattle.std.specs.Prelude.{Result}
 use Rattle.base.proofs.Cases.{cond_cases}
 use Rattle.schedule.specs.declared.Recorder.{Recorder}
 use Rattle.schedule.specs.Quantities.{jobs, release, deadline, run, Valid}
@@ -29,16 +30,17 @@ use Rattle.value.proofs.Steps.{wait_over, latest_gone}
 use Rattle.extras.specs.inside.Tabled.{Tabled, cap_at}
 use Rattle.stored.specs.declared.Key.{Key}
 use Rattle.least.specs.declared.memory.Spot.{Spot}
+use Rattle.least.specs.declared.search.Stop.{Stop}
 use Rattle.least.specs.inside.Shown.{closes_by, key_by, Ordered, Placed, Shows, ShownAt}
 use Rattle.least.specs.inside.Entries.{Looked, kept, known_of}
 use Rattle.least.specs.Effort.{most_of}
-use Rattle.least.specs.inside.Outcome.{Named, Recalls, Lent, Offers, Came, Tried, entered}
+use Rattle.least.specs.inside.Outcome.{Named, Recalls, Lent, Offers, Small, Came, Tried, entered}
 use Rattle.vertex.proofs.Showing.{ordered_later, shown_ordered, closes_shown, set_few, set_none, set_some, child_shown, job_in_lem, in_job}
 use Rattle.least.proofs.Falling.{waited_shown}
 use Rattle.stored.proofs.Keyed.{key_named}
 use Rattle.least.proofs.Keyed.{named_recalls, recalls_none}
 use Rattle.least.proofs.Kept.{right_looked, right_kept}
-use Rattle.least.proofs.Counting.{came_stop, came_go, came_what, came_count, came_from, most_near, most_far, most_own}
+use Rattle.least.proofs.Counting.{most_near, most_far, most_own}
 use Rattle.least.proofs.Choosing.{held_open, has_some}
 use Rattle.least.proofs.Trials.{slot_late}
 
@@ -77,12 +79,12 @@ module _ (R : Recorder) (valid : Valid R) (l : List ℕ) (a t : ℕ) (h : ShownA
 
 -- With jobs unplaced it has one more than some number of them.
 pub some_left :
-    (R : Recorder) → Valid R → (l : List ℕ) (a m : ℕ) (u : Vertex) → Shows R l a m u → 0 < a → (t : ℕ) {b e f s x : ℕ}
-    → ((n : ℕ) → Shows R l a (suc n) u → Came b e f (most_of R (suc n) t) x (Answers s (least_of R (suc n) u) x))
-    → Came b e f (most_of R m t) x (Answers s (least_of R m u) x)
-some_left R valid l a m u h q t {b} {e} {f} {s} {x} g =
+    (R : Recorder) → Valid R → (l : List ℕ) (a m : ℕ) (u : Vertex) → Shows R l a m u → 0 < a → (t b e f s : ℕ) (r : Result ℕ Stop)
+    → ((n : ℕ) → Shows R l a (suc n) u → Came b e f (most_of R (suc n) t) (Small (Answers s (least_of R (suc n) u))) r)
+    → Came b e f (most_of R m t) (Small (Answers s (least_of R m u))) r
+some_left R valid l a m u h q t b e f s r g =
     let n = set_some R valid l a m u h q in
-    subst (λ (k : ℕ). Came b e f (most_of R k t) x (Answers s (least_of R k u) x)) (sym n.1) (g n.0 (subst (λ (k : ℕ). Shows R l a k u) n.1 h))
+    subst (λ (k : ℕ). Came b e f (most_of R k t) (Small (Answers s (least_of R k u))) r) (sym n.1) (g n.0 (subst (λ (k : ℕ). Shows R l a k u) n.1 h))
 
 -- ---- a child
 
@@ -195,23 +197,24 @@ module _ (R : Recorder) (ex table memory l : List ℕ) (lent : Lent R ex table m
   raised_answers limit found m u h t w = answer_raise limit found (spot.known / 2) (least_of R (suc m) u) w (holds m u h t).low
 
   pub learnt :
-      (slack limit b e f found best : ℕ) → slack ≤ limit → spot.known ≤ 4294967295 → best ≡ max found (spot.known / 2) → (found ≡ 4294967295 → ⊥) → (m : ℕ) (u : Vertex)
+      (slack limit e f found best : ℕ) → slack ≤ limit → spot.known ≤ 4294967295 → best ≡ max found (spot.known / 2) → (m : ℕ) (u : Vertex)
       → Shows R l a (suc m) u → u.time ≡ time
-      → Came b (e + 1) f ((R.horizon - time) * suc (jobs R * most_of R m 0)) found (Answers limit (least_of R (suc m) u) found)
-      → Came b e f (most_of R (suc m) time) best (Answers slack (least_of R (suc m) u) best)
-  learnt slack limit b e f found best q k best_is z m u h t w =
-      came_go (Answers slack (least_of R (suc m) u) best) (most_of R (suc m) time) best (omega (arith, most_own R m time)) (came_from e 1 (omega arith) w) z
-      (λ small p. (
-        omega arith,
-        answer_less limit slack best (least_of R (suc m) u) q
-            (subst (λ (n : ℕ). Answers limit (least_of R (suc m) u) n) (sym best_is) (raised_answers limit found m u h t p)),
-      ))
+      → (f ≤ e + 1 + (R.horizon - time) * suc (jobs R * most_of R m 0)) × Small (Answers limit (least_of R (suc m) u)) found
+      → (f ≤ e + most_of R (suc m) time) × Small (Answers slack (least_of R (suc m) u)) best
+  learnt slack limit e f found best q k best_is m u h t w = (
+    omega (arith, most_own R m time, w.0),
+    (
+      omega (arith, w.1.0),
+      answer_less limit slack best (least_of R (suc m) u) q
+          (subst (λ (n : ℕ). Answers limit (least_of R (suc m) u) n) (sym best_is) (raised_answers limit found m u h t w.1.1)),
+    ),
+  )
 
   pub learnt_kept :
-      (limit b e f n found best : ℕ) → best ≡ max found (spot.known / 2) → (found ≡ 4294967295 → ⊥) → (m : ℕ) (u : Vertex)
-      → Shows R l a (suc m) u → u.time ≡ time → Came b e f n found (Answers limit (least_of R (suc m) u) found) → Answers limit (least_of R (suc m) u) best
-  learnt_kept limit b e f n found best best_is z m u h t w =
-      subst (λ (n : ℕ). Answers limit (least_of R (suc m) u) n) (sym best_is) (raised_answers limit found m u h t (came_what w z))
+      (limit found best : ℕ) → best ≡ max found (spot.known / 2) → (m : ℕ) (u : Vertex)
+      → Shows R l a (suc m) u → u.time ≡ time → Answers limit (least_of R (suc m) u) found → Answers limit (least_of R (suc m) u) best
+  learnt_kept limit found best best_is m u h t w =
+      subst (λ (n : ℕ). Answers limit (least_of R (suc m) u) n) (sym best_is) (raised_answers limit found m u h t w)
 
 -- ---- what is remembered
 
@@ -267,32 +270,23 @@ module _ (R : Recorder) (valid : Valid R) where
     far_answers t limit near far slack e w w' = answer_waited R m u until t limit slack near far w (omega arith) w'
 
     -- The same of the calls.
-    module _ (time : ℕ) (t : u.time ≡ time) (order : time ≤ until) (b e f near limit : ℕ) (z : near ≡ 4294967295 → ⊥)
-        (w : Came b e f (jobs R * ((until - time) * most_of R m 0)) near (Answers limit (least_to R m u until) near)) where
+    module _ (time : ℕ) (t : u.time ≡ time) (order : time ≤ until) (b e f near limit : ℕ)
+        (w : (f ≤ e + jobs R * ((until - time) * most_of R m 0)) × Small (Answers limit (least_to R m u until)) near) where
       pub near_comes :
-          latest_of R a ≤ until → Came b e f ((R.horizon - time) * suc (jobs R * most_of R m 0)) near (Answers limit (least_of R (suc m) u) near)
-      near_comes q =
-          came_go (Answers limit (least_of R (suc m) u) near) ((R.horizon - time) * suc (jobs R * most_of R m 0)) near (most_near R m time until order by) w z
-          (λ small p. (small, over_answers (omega arith) q limit near p))
+          latest_of R a ≤ until → (f ≤ e + (R.horizon - time) * suc (jobs R * most_of R m 0)) × Small (Answers limit (least_of R (suc m) u)) near
+      near_comes q = (omega (arith, w.0, most_near R m time until order by), (w.1.0, over_answers (omega arith) q limit near w.1.1))
 
-      module _ (later : time < until) (g far slack : ℕ)
-          (w' : Came b f g (most_of R (suc m) until) far (Answers slack (least_of R (suc m) (waited R u until)) far)) where
-        far_on : Came b e g (jobs R * ((until - time) * most_of R m 0) + most_of R (suc m) until) far (Answers slack (least_of R (suc m) (waited R u until)) far)
-        far_on = came_from e (jobs R * ((until - time) * most_of R m 0)) (came_count w z) w'
-
-        pub far_stops : (Q : Type 0) → far ≡ 4294967295 → Came b e g ((R.horizon - time) * suc (jobs R * most_of R m 0)) 4294967295 Q
-        far_stops Q z' = came_stop Q ((R.horizon - time) * suc (jobs R * most_of R m 0)) (most_far R m time until later by) far_on z'
+      module _ (later : time < until) (g far slack : ℕ) where
+        pub far_stops : b < f + most_of R (suc m) until → b < e + (R.horizon - time) * suc (jobs R * most_of R m 0)
+        far_stops r = omega (arith, w.0, most_far R m time until later by)
 
         pub far_comes :
-            (x : ℕ) → x ≡ min near far → slack ≡ min near limit → (far ≡ 4294967295 → ⊥)
-            → Came b e g ((R.horizon - time) * suc (jobs R * most_of R m 0)) x (Answers limit (least_of R (suc m) u) x)
-        far_comes x x-is slack-is z' =
-            came_go (Answers limit (least_of R (suc m) u) x) ((R.horizon - time) * suc (jobs R * most_of R m 0)) x (most_far R m time until later by) far_on z'
-            (λ small p. (
-              omega arith,
-              subst (λ (n : ℕ). Answers limit (least_of R (suc m) u) n) (sym x-is)
-                  (far_answers (omega arith) limit near far slack slack-is (came_what w z) p),
-            ))
+            slack ≡ min near limit → (g ≤ f + most_of R (suc m) until) × Small (Answers slack (least_of R (suc m) (waited R u until))) far
+            → (g ≤ e + (R.horizon - time) * suc (jobs R * most_of R m 0)) × Small (Answers limit (least_of R (suc m) u)) (min near far)
+        far_comes slack-is r = (
+          omega (arith, w.0, r.0, most_far R m time until later by),
+          (omega (arith, w.1.0), far_answers (omega arith) limit near far slack slack-is w.1.1 r.1.1),
+        )
 
 pub waits : (x h t : ℕ) → (x < h → t < x) → x ≤ h → t ≤ h → t ≤ x
 waits x h t g b q = ⊎_elim (λ (l : x ≡ h). omega arith) (λ (l : x < h). omega (arith, g l)) (eq-or-lt_of_le b)

@@ -1,5 +1,5 @@
 -- A start that has the goal, and the first of them: the loop over the starts of a job.
-use mathlib.Core.Path.{◌≡◌, refl, ap, ◌∙◌, subst}
+use mathlib.Core.Path.{◌≡◌, refl, sym, ap, ◌∙◌, subst}
 use mathlib.Core.Bool.{Bool, true, false, cond}
 use mathlib.Core.List.{List}
 use mathlib.Core.Logic.{⊎_elim}
@@ -8,8 +8,8 @@ use Prim.Native.Nat.{ℕ, suc, ◌+◌, ◌-◌, ◌*◌, ◌^◌, ◌≤◌, �
 use native.Mathlib.Nat.{mul-le-mul_right, eq-or-lt_of_le}
 use native.Mathlib.Numerals.{add-one}
 use native.Mathlib.Omega.{arith}
-use lib.Dec.{ltb}
-use borrow.Author.Tests.{ltb-true, ltb-false}
+use lib.Dec.{eqb, ltb}
+use borrow.Author.Tests.{eqb-true, eqb-false, ltb-true, ltb-false}
 use Rattle.base.proofs.Cases.{test_cases}
 use Rattle.schedule.specs.declared.Recorder.{Recorder}
 use Rattle.schedule.specs.Quantities.{jobs, release, deadline, run, Valid}
@@ -22,35 +22,23 @@ use Rattle.value.specs.inside.Leasts.{lead_of, least_of, via_child}
 use Rattle.value.proofs.Steps.{answer_hits, hits_answer, lead_misses, none_misses}
 use Rattle.least.specs.inside.Shown.{leads_by, Shows}
 use Rattle.least.specs.Effort.{most_of}
-use Rattle.least.specs.inside.Outcome.{Came, told, stopped}
-use Rattle.least.specs.inside.Readings.{Hit, hit, missed, FirstStart, first, nowhere}
+use Rattle.least.specs.inside.Readings.{Hit, First, Nowhere}
 use Rattle.vertex.proofs.Showing.{leads_shown, job_in_lem}
-use Rattle.least.proofs.Counting.{came_stop, came_go, came_from}
 use Rattle.least.proofs.Trials.{gone}
 
 -- ---- one start
 
 module _ (goal lead n : ℕ) (o : Option ℕ) (e : lead ≡ n) where
-  pub hit_far : goal < lead → Hit goal (plus n o) 0
-  hit_far q = missed (lead_misses goal n o (omega arith))
+  pub hit_far : goal < lead → Hit goal (plus n o) false
+  hit_far q = lead_misses goal n o (omega arith)
 
   module _ (a : ℕ) (l : lead ≤ goal) (w : Answers (goal - lead + 1) o a) where
     told_by : Answers (suc (goal - n)) o a
     told_by = subst (λ (k : ℕ). Answers k o a) (add-one (goal - lead) ∙ ap (λ (k : ℕ). suc (goal - k)) e) w
 
-    pub hit_one : lead + a ≡ goal → Hit goal (plus n o) 1
-    hit_one q = hit (answer_hits goal n a o (omega arith) told_by (omega arith))
-
-    pub hit_none : (lead + a ≡ goal → ⊥) → Hit goal (plus n o) 0
-    hit_none q = missed (λ z. q (let k = hits_answer goal n a o (omega arith) told_by z in omega arith))
-
-was_hit : {goal : ℕ} {o : Option ℕ} (x : ℕ) → Hit goal o x → x ≡ 1 → o ≡ some goal
-was_hit x (hit e) z = e
-was_hit x (missed q) z = absurd (omega arith)
-
-was_missed : {goal : ℕ} {o : Option ℕ} (x : ℕ) → Hit goal o x → (x ≡ 1 → ⊥) → o ≡ some goal → ⊥
-was_missed x (hit e) z = absurd (z refl)
-was_missed x (missed q) z = q
+    pub hit_with : (b : Bool) → b ≡ eqb (lead + a) goal → Hit goal (plus n o) b
+    hit_with true q = answer_hits goal n a o (omega arith) told_by (let k = eqb-true (lead + a) goal (sym q) in omega arith)
+    hit_with false q = λ z. eqb-false (lead + a) goal (sym q) (let k = hits_answer goal n a o (omega arith) told_by z in omega arith)
 
 -- ---- the loop
 
@@ -76,13 +64,13 @@ module _ (R : Recorder) (l : List ℕ) (a j time goal start from : ℕ) where
   passed_none = record { low = omega arith; high = omega arith; so_far = λ m u h t. (omega arith, λ y q k z. omega arith) }
 
 module _ (R : Recorder) (valid : Valid R) (l : List ℕ) (a j time goal budget start from to : ℕ) (known : j < jobs R) (one : has a j ≡ true) (from_is : from ≡ earliest R time j) where
-  module _ (s e : ℕ) (c : Passed R l a j time goal start from s e) (late : s + run R j ≤ deadline R j) (f x lead : ℕ) (lead_is : lead ≡ leads_by R l j s)
-      (turn : (m : ℕ) (u : Vertex) → Shows R l a (suc m) u → u.time ≤ s → lead ≡ lead_of R u j s → Came budget e f (most_of R m 0) x (Hit goal (via_child R m u j s) x)) where
-    on : (m : ℕ) (u : Vertex) → Shows R l a (suc m) u → u.time ≡ time
-        → Came budget start f ((s - from) * most_of R m 0 + most_of R m 0) x (Hit goal (via_child R m u j s) x)
-    on m u h t =
-        came_from start ((s - from) * most_of R m 0) (c.so_far m u h t).0
-        (turn m u h (omega (arith, c.low, from_is)) (lead_is ∙ leads_shown R valid l a (suc m) u h j s))
+  module _ (s e : ℕ) (c : Passed R l a j time goal start from s e) (late : s + run R j ≤ deadline R j) (lead : ℕ) (lead_is : lead ≡ leads_by R l j s) where
+    -- What `hits` answers, after f vertices.
+    abbrev pub Turn : ℕ → Bool → Type 0
+    Turn f b = (m : ℕ) (u : Vertex) → Shows R l a (suc m) u → u.time ≤ s → lead ≡ lead_of R u j s → (f ≤ e + most_of R m 0) × Hit goal (via_child R m u j s) b
+
+    led : (m : ℕ) (u : Vertex) → Shows R l a (suc m) u → u.time ≡ time → (u.time ≤ s) × (lead ≡ lead_of R u j s)
+    led m u h t = (omega (arith, c.low, from_is), lead_is ∙ leads_shown R valid l a (suc m) u h j s)
 
     enough : (m : ℕ) → (s - from) * most_of R m 0 + most_of R m 0 ≤ R.horizon * most_of R m 0
     enough m =
@@ -91,53 +79,59 @@ module _ (R : Recorder) (valid : Valid R) (l : List ℕ) (a j time goal budget s
         omega arith
 
     pub start_stopped :
-        x ≡ 4294967295 → (m : ℕ) (u : Vertex) → Shows R l a (suc m) u → u.time ≡ time → (Q : Type 0) → Came budget start f (R.horizon * most_of R m 0) 4294967295 Q
-    start_stopped z m u h t Q = came_stop Q (R.horizon * most_of R m 0) (enough m) (on m u h t) z
+        ((m : ℕ) (u : Vertex) → Shows R l a (suc m) u → u.time ≤ s → lead ≡ lead_of R u j s → budget < e + most_of R m 0)
+        → (m : ℕ) (u : Vertex) → Shows R l a (suc m) u → u.time ≡ time → budget < start + R.horizon * most_of R m 0
+    start_stopped turn m u h t =
+        let w = led m u h t in
+        omega (arith, turn m u h w.0 w.1, (c.so_far m u h t).0, enough m)
 
     pub start_found :
-        (x ≡ 4294967295 → ⊥) → x ≡ 1 → (m : ℕ) (u : Vertex) → Shows R l a (suc m) u → u.time ≡ time
-        → Came budget start f (R.horizon * most_of R m 0) s (FirstStart R m u j goal s)
-    start_found z y m u h t =
-        came_go (FirstStart R m u j goal s) (R.horizon * most_of R m 0) s (enough m) (on m u h t) z
-        (λ small w. (
-          omega (arith, valid.ends j known, valid.few_ticks),
-          first (starts_in_lem R u.time j s (omega (arith, c.low, from_is)) late) (was_hit x w y)
-              (λ k q i. (c.so_far m u h t).1 k (omega (arith, (in_starts R u.time j k i).0, from_is)) q),
-        ))
+        (f : ℕ) → Turn f true → (m : ℕ) (u : Vertex) → Shows R l a (suc m) u → u.time ≡ time → (f ≤ start + R.horizon * most_of R m 0) × First R m u j goal s
+    start_found f turn m u h t =
+        let l = led m u h t in
+        let w = turn m u h l.0 l.1 in (
+          omega (arith, w.0, (c.so_far m u h t).0, enough m),
+          record {
+            start = starts_in_lem R u.time j s (omega (arith, c.low, from_is)) late;
+            hits = w.1;
+            none_before = λ k q i. (c.so_far m u h t).1 k (omega (arith, (in_starts R u.time j k i).0, from_is)) q;
+          },
+        )
 
-    pub passed_next : (x ≡ 4294967295 → ⊥) → (x ≡ 1 → ⊥) → Passed R l a j time goal start from (s + 1) f
-    passed_next z y =
+    pub passed_next : (f : ℕ) → Turn f false → Passed R l a j time goal start from (s + 1) f
+    passed_next f turn =
         rw (add-one s)
         (record {
           low = omega (arith, c.low);
           high = omega (arith, valid.ends j known, valid.runs j known);
-          so_far = λ m u h t. more m u h t (on m u h t);
+          so_far = more;
         })
       where
         more : (m : ℕ) (u : Vertex) → Shows R l a (suc m) u → u.time ≡ time
-            → Came budget start f ((s - from) * most_of R m 0 + most_of R m 0) x (Hit goal (via_child R m u j s) x)
             → (f ≤ start + (suc s - from) * most_of R m 0) × ((k : ℕ) → from ≤ k → k < suc s → via_child R m u j k ≡ some goal → ⊥)
-        more m u h t (stopped k r) = absurd (z k)
-        more m u h t (told small q w) =
+        more m u h t =
+            let l = led m u h t in
+            let w = turn m u h l.0 l.1 in
             let one_more : suc (s - from) ≡ suc s - from = omega (arith, c.low) in (
-              rw (← one_more) (omega arith),
+              rw (← one_more) (omega (arith, w.0, (c.so_far m u h t).0)),
               λ k low b p. ⊎_elim
-                  (λ (i : k ≡ s). was_missed x w y (subst (λ (n : ℕ). via_child R m u j n ≡ some goal) i p))
+                  (λ (i : k ≡ s). w.1 (subst (λ (n : ℕ). via_child R m u j n ≡ some goal) i p))
                   (λ (i : k < s). (c.so_far m u h t).1 k low i p)
                   (eq-or-lt_of_le (omega arith)),
             )
 
   pub start_nowhere :
       (s e : ℕ) → Passed R l a j time goal start from s e → to ≡ slot (release R j) (deadline R j) (run R j) (latest_of R (a - 2 ^ j)) → to ≤ s
-      → (m : ℕ) (u : Vertex) → Shows R l a (suc m) u → u.time ≡ time → Came budget start e (R.horizon * most_of R m 0) 2147483647 (FirstStart R m u j goal 2147483647)
+      → (m : ℕ) (u : Vertex) → Shows R l a (suc m) u → u.time ≡ time → (e ≤ start + R.horizon * most_of R m 0) × Nowhere R m u j goal
   start_nowhere s e c to_is q m u h t =
-      let k = mul-le-mul_right (most_of R m 0) c.high in
-      told (omega arith) (omega (arith, (c.so_far m u h t).0))
-      (nowhere (λ y i p.
-      let r = in_starts R u.time j y i in
-      test_cases (λ (b : Bool). ltb y s ≡ b → ⊥) (ltb y s)
-      (λ _ w. (c.so_far m u h t).1 y (omega (arith, r.0, from_is)) (ltb-true y s w) p)
-      (λ _ w. none_misses goal (lead_of R u j y) (least_of R m (child R u j y))
-      (gone R valid l a m u h j (job_in_lem R valid l a (suc m) u h j known one) y
-      (slot_over (release R j) (deadline R j) (run R j) (latest_of R (a - 2 ^ j)) y (omega (arith, ltb-false y s w)) (omega (arith, r.0)) r.1) r.1) p)
-      refl))
+      let k = mul-le-mul_right (most_of R m 0) c.high in (
+        omega (arith, (c.so_far m u h t).0),
+        (λ y i p.
+            let r = in_starts R u.time j y i in
+            test_cases (λ (b : Bool). ltb y s ≡ b → ⊥) (ltb y s)
+            (λ _ w. (c.so_far m u h t).1 y (omega (arith, r.0, from_is)) (ltb-true y s w) p)
+            (λ _ w. none_misses goal (lead_of R u j y) (least_of R m (child R u j y))
+            (gone R valid l a m u h j (job_in_lem R valid l a (suc m) u h j known one) y
+            (slot_over (release R j) (deadline R j) (run R j) (latest_of R (a - 2 ^ j)) y (omega (arith, ltb-false y s w)) (omega (arith, r.0)) r.1) r.1) p)
+            refl),
+      )

@@ -1,11 +1,10 @@
 -- The schedule read off: each step leaves the first of the least in reach, and the last one is it.
 use mathlib.Core.Path.{◌≡◌, refl, sym, ap, ◌∙◌, subst}
-use mathlib.Core.Bool.{true}
 use mathlib.Core.List.{List, [], ◌∷◌}
 use mathlib.Core.Option.{Option, none, some}
 use Prim.Native.Nat.{ℕ, zero, suc, ◌+◌, ◌-◌, ◌*◌, ◌^◌, ◌≤◌, ◌<◌}
 use native.Mathlib.Omega.{arith}
-use lib.ListN.{set, take, replicate, length, length-set, length-replicate}
+use lib.ListN.{set, take, replicate, length-set, length-replicate}
 use Rattle.schedule.specs.declared.Recorder.{Recorder}
 use Rattle.schedule.specs.Quantities.{jobs, deadline, run, Valid}
 use Rattle.schedule.specs.Listing.{Place, place, FirstLeast}
@@ -22,11 +21,11 @@ use Rattle.value.proofs.Steps.{child_goal, least_most}
 use Rattle.extras.specs.inside.Tabled.{Tabled}
 use Rattle.least.specs.inside.Shown.{leads_by, Placed, Shows, ShownAt}
 use Rattle.least.specs.Effort.{most_of, most_vertices}
-use Rattle.least.specs.inside.Outcome.{Offers, Came, told, stopped, ReadOff, read}
+use Rattle.least.specs.inside.Outcome.{Offers, Small}
 use Rattle.least.specs.inside.Readings.{Reads}
 use Rattle.vertex.proofs.Roots.{set_all}
 use Rattle.vertex.proofs.Showing.{leads_shown, set_none, set_some}
-use Rattle.least.proofs.Counting.{came_what, came_count, most_children}
+use Rattle.least.proofs.Counting.{most_children}
 use Rattle.least.proofs.Going.{child_shows}
 
 -- ---- the starts
@@ -70,80 +69,77 @@ module _ (R : Recorder) (l s : List ℕ) (a time goal e : ℕ) (h : Reads R l s 
     goal_is : least_of R (suc m) h.vertex ≡ some goal
     goal_is = subst (λ (n : ℕ). least_of R n h.vertex ≡ some goal) left_is h.goal_is
 
-    module _ (budget f j x : ℕ)
+    room : jobs R * (R.horizon * most_of R m 0) ≤ most_of R (jobs R) 0
+    room = most_children R m (omega (arith, left_is, h.few))
+
+    all_room : e + suc m * most_of R (jobs R) 0 ≤ most_vertices R
+    all_room = subst (λ (n : ℕ). e + n * most_of R (jobs R) 0 ≤ most_vertices R) left_is h.room
+
+    pub next_stopped :
+        (budget : ℕ)
+        → ((n : ℕ) (u : Vertex) → Shows R l a (suc n) u → u.time ≡ time → least_of R (suc n) u ≡ some goal → budget < e + jobs R * (R.horizon * most_of R n 0))
+        → budget < most_vertices R
+    next_stopped budget turn = omega (arith, room, all_room, turn m h.vertex shows h.time_is goal_is)
+
+    module _ (f j x : ℕ)
         (turn : (n : ℕ) (u : Vertex) → Shows R l a (suc n) u → u.time ≡ time → least_of R (suc n) u ≡ some goal
-        → Came budget e f (jobs R * (R.horizon * most_of R n 0)) x (FirstChild R n u j x)) where
-      came : Came budget e f (jobs R * (R.horizon * most_of R m 0)) x (FirstChild R m h.vertex j x)
+        → (f ≤ e + jobs R * (R.horizon * most_of R n 0)) × FirstChild R n u j x) where
+      came : (f ≤ e + jobs R * (R.horizon * most_of R m 0)) × FirstChild R m h.vertex j x
       came = turn m h.vertex shows h.time_is goal_is
 
-      room : jobs R * (R.horizon * most_of R m 0) ≤ most_of R (jobs R) 0
-      room = most_children R m (omega (arith, left_is, h.few))
+      first : FirstChild R m h.vertex j x
+      first = came.1
 
-      pub next_stopped : x ≡ 4294967295 → budget < most_vertices R
-      next_stopped z = go came
-        where
-          go : Came budget e f (jobs R * (R.horizon * most_of R m 0)) x (FirstChild R m h.vertex j x) → budget < most_vertices R
-          go (told small k p) = absurd (omega arith)
-          go (stopped k b) =
-              let w : e + suc m * most_of R (jobs R) 0 ≤ most_vertices R = subst (λ (n : ℕ). e + n * most_of R (jobs R) 0 ≤ most_vertices R) left_is h.room in
-              omega (arith, room)
+      fits : (x + run R j ≤ deadline R j) × (x ≤ 4096)
+      fits =
+          let r = in_starts R h.vertex.time j x first.start in
+          let known = shows.reached.known j first.job in
+          (r.1, omega (arith, r.1, h.valid.ends j known, h.valid.few_ticks))
 
-      module _ (z : x ≡ 4294967295 → ⊥) where
-        first : FirstChild R m h.vertex j x
-        first = came_what came z
+      pub next_offers : Offers R l a j x
+      next_offers =
+          record {
+            left = m;
+            vertex = h.vertex;
+            shows = shows;
+            job = first.job;
+            early = (in_starts R h.vertex.time j x first.start).0;
+            late = fits.0;
+          }
 
-        fits : (x + run R j ≤ deadline R j) × (x ≤ 4096)
-        fits =
-            let r = in_starts R h.vertex.time j x first.start in
-            let known = shows.reached.known j first.job in
-            (r.1, omega (arith, r.1, h.valid.ends j known, h.valid.few_ticks))
+      pub next_lead : leads_by R l j x ≤ goal
+      next_lead = subst (λ (n : ℕ). n ≤ goal) (sym (leads_shown R h.valid l a (suc m) h.vertex shows j x)) (child_goal R m h.vertex goal goal_is j x first).0
 
-        pub next_offers : Offers R l a j x
-        next_offers =
-            record {
-              left = m;
-              vertex = h.vertex;
-              shows = shows;
-              job = first.job;
-              early = (in_starts R h.vertex.time j x first.start).0;
-              late = fits.0;
-            }
-
-        pub next_lead : leads_by R l j x ≤ goal
-        next_lead = subst (λ (n : ℕ). n ≤ goal) (sym (leads_shown R h.valid l a (suc m) h.vertex shows j x)) (child_goal R m h.vertex goal goal_is j x first).0
-
-        pub next_reads :
-            (w : List ℕ) → Placed R l w j x → (p end less : ℕ) → p ≡ 2 ^ j → end ≡ x + run R j → less ≡ goal - leads_by R l j x → (y : ℕ) → y ≡ x
-            → Reads R w (set s j y) (a - p) end less f
-        next_reads w placed p end less p-is end_is less-is y y-is =
-            let g = child_goal R m h.vertex goal goal_is j x first in
-            let early = (in_starts R h.vertex.time j x first.start).0 in
-            record {
-              left = m;
-              vertex = child R h.vertex j x;
-              shows = child_shows R h.valid l a j x next_offers p end p-is end_is w placed m h.vertex shows (omega (arith, early));
-              time_is = sym end_is;
-              goal_is = g.1 ∙ ap (λ (n : ℕ). some (goal - n)) (sym (leads_shown R h.valid l a (suc m) h.vertex shows j x)) ∙ ap some (sym less-is);
-              few = omega (arith, left_is, h.few);
-              valid = h.valid;
-              settles = settles_child R h.valid m h.vertex shows.reached j x first h.settles;
-              long = length-set s j y ∙ h.long;
-              starts_are = ap (λ (n : ℕ). set s j n) y-is ∙ ap (λ (r : List ℕ). set r j x) h.starts_are ∙ sym (written_snoc h.vertex.placed (place j x) (replicate 16 0));
-              room =
-                  let v : e + suc m * most_of R (jobs R) 0 ≤ most_vertices R = subst (λ (n : ℕ). e + n * most_of R (jobs R) 0 ≤ most_vertices R) left_is h.room in
-                  omega (arith, room, came_count came z);
-            }
+      pub next_reads :
+          (w : List ℕ) → Placed R l w j x → (p end less : ℕ) → p ≡ 2 ^ j → end ≡ x + run R j → less ≡ goal - leads_by R l j x → (y : ℕ) → y ≡ x
+          → Reads R w (set s j y) (a - p) end less f
+      next_reads w placed p end less p-is end_is less-is y y-is =
+          let g = child_goal R m h.vertex goal goal_is j x first in
+          let early = (in_starts R h.vertex.time j x first.start).0 in
+          record {
+            left = m;
+            vertex = child R h.vertex j x;
+            shows = child_shows R h.valid l a j x next_offers p end p-is end_is w placed m h.vertex shows (omega (arith, early));
+            time_is = sym end_is;
+            goal_is = g.1 ∙ ap (λ (n : ℕ). some (goal - n)) (sym (leads_shown R h.valid l a (suc m) h.vertex shows j x)) ∙ ap some (sym less-is);
+            few = omega (arith, left_is, h.few);
+            valid = h.valid;
+            settles = settles_child R h.valid m h.vertex shows.reached j x first h.settles;
+            long = length-set s j y ∙ h.long;
+            starts_are = ap (λ (n : ℕ). set s j n) y-is ∙ ap (λ (r : List ℕ). set r j x) h.starts_are ∙ sym (written_snoc h.vertex.placed (place j x) (replicate 16 0));
+            room = omega (arith, room, all_room, came.0);
+          }
 
   -- ---- the end
 
-  pub reads_end : (budget : ℕ) → a ≡ 0 → ReadOff R budget s true
-  reads_end budget z =
+  pub reads_end : a ≡ 0 → FirstLeast R (take (jobs R) s) (plan_energy R (take (jobs R) s))
+  reads_end z =
       let none_left = set_none R h.valid l a h.left h.vertex h.shows z in
       let w : starts_of R h.vertex ≡ take (jobs R) s =
       sym (ap (take (jobs R)) h.starts_are ∙ take_written (jobs R) h.vertex.placed (replicate 16 0)
       ∙ ap (written h.vertex.placed) (take_same (jobs R) 16 h.valid.few_jobs)) in
-      read (subst (λ (t : List ℕ). FirstLeast R t (plan_energy R t)) w
-      (settles_end R h.valid h.vertex (subst (λ (n : ℕ). Reached R n h.vertex) none_left h.shows.reached) h.settles))
+      subst (λ (t : List ℕ). FirstLeast R t (plan_energy R t)) w
+      (settles_end R h.valid h.vertex (subst (λ (n : ℕ). Reached R n h.vertex) none_left h.shows.reached) h.settles)
 
 -- ---- the root
 
@@ -164,29 +160,26 @@ module _ (R : Recorder) (ex : List ℕ) (tabled : Tabled R ex) (able : 0 < lates
       let small = least_most R valid tabled.narrow (jobs R) (root R) (root_reached R valid) r.0 r.1 in
       w.exact (omega (arith, most_some x r.0 (least_of R (jobs R) (root R)) r.1 w.low))
 
-  module _ (l : List ℕ) (shows : Shows R l (set_of (root R).unplaced) (jobs R) (root R)) (budget f x : ℕ)
-      (came : Came budget 0 f (most_of R (jobs R) 0) x (Answers 2147483647 (least_of R (jobs R) (root R)) x)) where
-    pub root_stopped : x ≡ 4294967295 → budget < most_vertices R
+  module _ (l : List ℕ) (shows : Shows R l (set_of (root R).unplaced) (jobs R) (root R)) where
+    pub root_stopped : (budget : ℕ) → budget < 0 + most_of R (jobs R) 0 → budget < most_vertices R
     unfolding most_vertices
-    root_stopped z = go came
-      where
-        go : Came budget 0 f (most_of R (jobs R) 0) x (Answers 2147483647 (least_of R (jobs R) (root R)) x) → budget < suc (jobs R) * most_of R (jobs R) 0
-        go (told small k p) = absurd (omega arith)
-        go (stopped k b) = omega arith
+    root_stopped budget b = omega arith
 
-    pub root_reads : (x ≡ 4294967295 → ⊥) → (a : ℕ) → a ≡ 2 ^ jobs R - 1 → (s : List ℕ) → s ≡ replicate 16 0 → Reads R l s a 0 x f
+    pub root_reads :
+        (f x : ℕ) → (f ≤ 0 + most_of R (jobs R) 0) × Small (Answers 2147483647 (least_of R (jobs R) (root R))) x → (a : ℕ) → a ≡ 2 ^ jobs R - 1
+        → Reads R l (replicate 16 0) a 0 x f
     unfolding most_vertices written
-    root_reads z a a-is s s-is =
+    root_reads f x came a a-is =
         record {
           left = jobs R;
           vertex = root R;
           shows = root_held R l shows a a-is;
           time_is = refl;
-          goal_is = root_exact x (came_what came z);
+          goal_is = root_exact x came.1.1;
           few = omega arith;
           valid = valid;
           settles = settles_root R valid;
-          long = ap length s-is ∙ length-replicate {A = ℕ} 16 0;
-          starts_are = s-is;
-          room = omega (arith, came_count came z);
+          long = length-replicate {A = ℕ} 16 0;
+          starts_are = refl;
+          room = omega (arith, came.0);
         }

@@ -28,10 +28,9 @@ use Rattle.value.proofs.Tries.{Trying, Falling, trying_start, trying_pass, tryin
 use Rattle.extras.specs.inside.Tabled.{Tabled, rise_at, fall_at}
 use Rattle.least.specs.inside.Shown.{leads_by, falls_by, Shows, ShownAt}
 use Rattle.least.specs.Effort.{most_of}
-use Rattle.least.specs.inside.Outcome.{Came, told, stopped, Tried, passed, entered}
+use Rattle.least.specs.inside.Outcome.{Small, Tried, passed, entered}
 use Rattle.vertex.proofs.Showing.{leads_shown, job_in_lem, in_job}
 use Rattle.least.proofs.Falling.{falls_shown}
-use Rattle.least.proofs.Counting.{came_stop, came_small, came_from}
 use Rattle.least.proofs.Choosing.{held_open, has_some, before}
 
 -- ---- which starts
@@ -131,29 +130,20 @@ module _ (R : Recorder) (l : List ℕ) (a j time limit given budget start from t
             (omega arith, subst (λ (i : ℕ). Trying R m u j from to limit drop o i given 0) e (trying_start R m u j from to limit drop o given p));
       }
 
-  pub trial_as : (s e best ahead f x y : ℕ) → Trial s e best ahead → f ≡ e → x ≡ best → y ≡ ahead → Trial s f x y
-  trial_as s e best ahead f x y c p q r = rw (p, q, r) c
-
 module _ (R : Recorder) (valid : Valid R) (l : List ℕ) (a j time limit given budget start from to drop : ℕ) where
-  module _ (s e best ahead : ℕ) (c : Trial R l a j time limit given budget start from to drop s e best ahead) (b : s < to) (f x lead most : ℕ) (most-is : most ≡ min limit best)
-      (turn : (m : ℕ) (u : Vertex) → Shows R l a (suc m) u → u.time ≤ s → Came budget e f (most_of R m 0) x (Tried most lead ahead (least_of R m (child R u j s)) x))
-      (by : time ≤ s) where
-    on : (m : ℕ) (u : Vertex) (o : Option ℕ) → Shows R l a (suc m) u → u.time ≡ time → Answers limit o given
-        → Came budget start f ((s - from) * most_of R m 0 + most_of R m 0) x (Tried (min limit best) lead ahead (least_of R m (child R u j s)) x)
-    on m u o h t p =
-        came_from start ((s - from) * most_of R m 0) (c.so_far m u o h t p).0
-        (subst (λ (n : ℕ). Came budget e f (most_of R m 0) x (Tried n lead ahead (least_of R m (child R u j s)) x)) most-is (turn m u h (omega arith)))
-
+  module _ (s e best ahead : ℕ) (c : Trial R l a j time limit given budget start from to drop s e best ahead) (b : s < to) (by : time ≤ s) where
     pub trial_stopped :
-        (n : ℕ) → to - from ≤ n → x ≡ 4294967295 → (m : ℕ) (u : Vertex) (o : Option ℕ) → Shows R l a (suc m) u → u.time ≡ time → Answers limit o given
-        → (Q : Type 0) → Came budget start f (n * most_of R m 0) 4294967295 Q
-    trial_stopped n q z m u o h t p Q =
+        ((m : ℕ) (u : Vertex) → Shows R l a (suc m) u → u.time ≤ s → budget < e + most_of R m 0)
+        → (n : ℕ) → to - from ≤ n → (m : ℕ) (u : Vertex) (o : Option ℕ) → Shows R l a (suc m) u → u.time ≡ time → Answers limit o given
+        → budget < start + n * most_of R m 0
+    trial_stopped turn n q m u o h t p =
         let r : suc (s - from) * most_of R m 0 ≤ n * most_of R m 0 = mul-le-mul_right (most_of R m 0) (omega (arith, c.low)) in
-        came_stop Q (n * most_of R m 0) (omega arith) (on m u o h t p) z
+        omega (arith, turn m u h (omega arith), (c.so_far m u o h t p).0)
 
-    module _ (ex : List ℕ) (tabled : Tabled R ex) (held : ShownAt R l a time) (known : j < jobs R) (one : has a j ≡ true) (early : earliest R time j ≤ from)
-        (late : (y : ℕ) → y < to → y + run R j ≤ deadline R j) (drop-is : drop ≡ falls_by R (rise_at ex) (fall_at ex) l j) (lead_is : lead ≡ leads_by R l j s)
-        (z : x ≡ 4294967295 → ⊥) where
+    module _ (f x lead : ℕ)
+        (turn : (m : ℕ) (u : Vertex) → Shows R l a (suc m) u → u.time ≤ s → (f ≤ e + most_of R m 0) × Small (Tried (min limit best) lead ahead (least_of R m (child R u j s))) x)
+        (ex : List ℕ) (tabled : Tabled R ex) (held : ShownAt R l a time) (known : j < jobs R) (one : has a j ≡ true) (early : earliest R time j ≤ from)
+        (late : (y : ℕ) → y < to → y + run R j ≤ deadline R j) (drop-is : drop ≡ falls_by R (rise_at ex) (fall_at ex) l j) (lead_is : lead ≡ leads_by R l j s) where
       falling : (m : ℕ) (u : Vertex) (o : Option ℕ) → Shows R l a (suc m) u → u.time ≡ time → Falling R m u j from to limit drop o
       falling m u o h t y q k =
           subst (λ (d : ℕ). NoMore (least_of R m (child R u j y)) (plus d (least_of R m (child R u j (suc y)))))
@@ -169,29 +159,28 @@ module _ (R : Recorder) (valid : Valid R) (l : List ℕ) (a j time limit given b
             low = omega (arith, c.low);
             high = omega (arith, c.low, c.high);
             small = omega (arith, c.small);
-            small_ahead = omega (arith, came_small (turn o.left o.vertex o.shows (omega (arith, o.time))) z);
-            so_far = λ m u p h t q. more m u p h t q (on m u p h t q);
+            small_ahead = omega (arith, (turn o.left o.vertex o.shows (omega (arith, o.time))).1.0);
+            so_far = more;
           })
         where
           more : (m : ℕ) (u : Vertex) (o : Option ℕ) → Shows R l a (suc m) u → u.time ≡ time → Answers limit o given
-              → Came budget start f ((s - from) * most_of R m 0 + most_of R m 0) x (Tried (min limit best) lead ahead (least_of R m (child R u j s)) x)
               → (f ≤ start + (suc s - from) * most_of R m 0) × Trying R m u j from to limit drop o (suc s - from) (min best (lead + x)) (x - drop)
-          more m u o h t p (stopped k r) = absurd (z k)
-          more m u o h t p (told small k r) =
+          more m u o h t p =
+              let w = turn m u h (omega arith) in
               let at : s ≡ from + (s - from) = omega (arith, c.low) in
               let one_more : suc (s - from) ≡ suc s - from = omega (arith, c.low) in (
-                rw (← one_more) (omega arith),
+                rw (← one_more) (omega (arith, w.0, (c.so_far m u o h t p).0)),
                 subst (λ (n : ℕ). Trying R m u j from to limit drop o n (min best (lead + x)) (x - drop)) one_more
                     (tried_on R m u j from to limit drop o (falling m u o h t) (s - from) best ahead x lead (c.so_far m u o h t p).1 (omega arith)
                     (lead_is ∙ leads_shown R valid l a (suc m) u h j s ∙ ap (lead_of R u j) at)
-                    (subst (λ (n : ℕ). Tried (min limit best) lead ahead (least_of R m (child R u j n)) x) at r)),
+                    (subst (λ (n : ℕ). Tried (min limit best) lead ahead (least_of R m (child R u j n)) x) at w.1.1)),
               )
 
   pub trial_end :
       (until : ℕ) → j < jobs R → has a j ≡ true → from ≡ earliest R time j
       → to ≡ min until (slot (release R j) (deadline R j) (run R j) (latest_of R (a - 2 ^ j)))
       → (s e best ahead : ℕ) → Trial R l a j time limit given budget start from to drop s e best ahead → to ≤ s → (m : ℕ) (u : Vertex) (o : Option ℕ) → Shows R l a (suc m) u → u.time ≡ time → Answers limit o given
-      → Came budget start e ((until - time) * most_of R m 0) best (Answers limit (lesser o (before R m u until j)) best)
+      → (e ≤ start + (until - time) * most_of R m 0) × Small (Answers limit (lesser o (before R m u until j))) best
   trial_end until known one from_is to_is s e best ahead c q m u o h t p =
       let d = c.so_far m u o h t p in
       let n : s - from ≡ to - from = omega (arith, c.high) in
@@ -200,5 +189,4 @@ module _ (R : Recorder) (valid : Valid R) (l : List ℕ) (a j time limit given b
       let w : before R m u until j ≡ least_in (via_child R m u j) (up_from from (s - from)) =
       span_is R valid l a m u h j i until ∙ same_span (via_child R m u j) from to s (earliest R u.time j) (min until (slot (release R j) (deadline R j) (run R j) (latest_of R (a - 2 ^ j))))
       (subst (λ (k : ℕ). from ≡ earliest R k j) (sym t) from_is) to_is n in
-      told c.small (omega (arith, d.0))
-      (subst (λ (z : Option ℕ). Answers limit (lesser o z) best) (sym w) d.1.answers)
+      (omega (arith, d.0), (c.small, subst (λ (z : Option ℕ). Answers limit (lesser o z) best) (sym w) d.1.answers))

@@ -1,5 +1,5 @@
 -- What the calls of the search come to.
-use Rattle.std.specs.Prelude.{◌≡◌, Bool, true, false, List, ℕ, suc, ◌+◌, ◌-◌, ◌/◌, ◌%◌, ◌≤◌, ◌<◌, max, eqb, take}
+use Rattle.std.specs.Prelude.{List, ℕ, suc, ◌+◌, ◌-◌, ◌/◌, ◌%◌, ◌≤◌, ◌<◌, max, eqb, take, Result, Ok, Err}
 use Rattle.std.proofs.Math.Option.{Option}
 use Rattle.schedule.specs.declared.Recorder.{Recorder}
 use Rattle.base.specs.Lists.{In}
@@ -13,6 +13,9 @@ use Rattle.value.specs.inside.Leasts.{least_of}
 use Rattle.extras.specs.inside.Tabled.{Tabled, cap_at}
 use Rattle.stored.specs.declared.Key.{Key}
 pub use Rattle.stored.specs.inside.Naming.{of_devices, Named}
+use Rattle.flat.specs.inside.Flat.{recorder_of}
+use Rattle.least.specs.declared.search.Search.{Search}
+use Rattle.least.specs.declared.search.Stop.{Stop}
 use Rattle.least.specs.inside.Shown.{Shows}
 use Rattle.least.specs.inside.Entries.{Right}
 use Rattle.least.specs.Effort.{most_vertices}
@@ -30,6 +33,13 @@ pub record Lent (R : Recorder) (extras latest memory : List ℕ) : Type 0 where
   pub laid : Laid R latest
   pub right : Right (Recalls R (cap_at extras)) memory
 
+-- The recorder that a search goes over; and what it is lent.
+abbrev pub recorder : Search → Recorder
+recorder s = recorder_of s.r.now
+
+abbrev pub LentTo : Search → List ℕ → Type 0
+LentTo s memory = Lent (recorder s) s.extras.now s.latest.now memory
+
 -- Job j may start at s: the numbers show a vertex with it unplaced, which ends by then, and s lies in the job's window.
 pub record Offers (R : Recorder) (l : List ℕ) (unplaced j s : ℕ) : Type 0 where
   pub left : ℕ
@@ -41,10 +51,14 @@ pub record Offers (R : Recorder) (l : List ℕ) (unplaced j s : ℕ) : Type 0 wh
 
 -- ---- the budget
 
--- A call answered x: with P, after at most n vertices more; or the budget is used up, which is less than n more.
-pub data Came (budget before after n x : ℕ) (P : Type 0) : Type 0 where
-  told : x ≤ 2147483647 → after ≤ before + n → P → Came budget before after n x P
-  stopped : x ≡ 4294967295 → budget < before + n → Came budget before after n x P
+-- A call came to an answer with P, after at most n vertices more; or the budget is used up, which is less than n more.
+abbrev pub Came : {A : Type 0} → ℕ → ℕ → ℕ → ℕ → (A → Type 0) → Result A Stop → Type 0
+Came budget before after n P (Ok x) = (after ≤ before + n) × P x
+Came budget before after n P (Err s) = budget < before + n
+
+-- A number that is no more than `NEVER`, with P.
+abbrev pub Small : (ℕ → Type 0) → ℕ → Type 0
+Small P x = (x ≤ 2147483647) × P x
 
 -- ---- one start
 
@@ -56,7 +70,7 @@ pub data Tried (most lead ahead : ℕ) (o : Option ℕ) : ℕ → Type 0 where
 
 -- ---- all of it
 
--- The starts of the first of the least-energy schedules stand in l, by job number; or the budget was used up.
-pub data ReadOff (R : Recorder) (budget : ℕ) (l : List ℕ) : Bool → Type 0 where
-  read : FirstLeast R (take (jobs R) l) (plan_energy R (take (jobs R) l)) → ReadOff R budget l true
-  over : budget < most_vertices R → ReadOff R budget l false
+-- The starts of the first of the least-energy schedules, by job number; or the budget was used up.
+abbrev pub ReadOff : Recorder → ℕ → Result (List ℕ) Stop → Type 0
+ReadOff R budget (Ok l) = FirstLeast R (take (jobs R) l) (plan_energy R (take (jobs R) l))
+ReadOff R budget (Err s) = budget < most_vertices R

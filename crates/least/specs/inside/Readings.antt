@@ -1,5 +1,5 @@
 -- What reading a schedule off comes to, step by step.
-use Rattle.std.specs.Prelude.{◌≡◌, List, ℕ, ◌+◌, ◌*◌, ◌≤◌, ◌<◌, length, replicate}
+use Rattle.std.specs.Prelude.{◌≡◌, Bool, true, false, List, ℕ, ◌+◌, ◌*◌, ◌≤◌, ◌<◌, length, replicate}
 use Rattle.std.proofs.Math.Option.{Option, some}
 use Rattle.base.specs.Lists.{In}
 use Rattle.schedule.specs.declared.Recorder.{Recorder}
@@ -10,16 +10,19 @@ use Rattle.value.proofs.Reading.{Settles}
 use Rattle.least.specs.inside.Shown.{Shows}
 use Rattle.least.specs.Effort.{most_of, most_vertices}
 
--- Whether o is the goal: 1 or 0.
-pub data Hit (goal : ℕ) (o : Option ℕ) : ℕ → Type 0 where
-  hit : o ≡ some goal → Hit goal o 1
-  missed : (o ≡ some goal → ⊥) → Hit goal o 0
+-- Whether o is the goal.
+abbrev pub Hit : ℕ → Option ℕ → Bool → Type 0
+Hit goal o true = o ≡ some goal
+Hit goal o false = o ≡ some goal → ⊥
 
--- The first start of job j with which v has the goal; or none has.
-pub data FirstStart (R : Recorder) (m : ℕ) (v : Vertex) (j goal : ℕ) : ℕ → Type 0 where
-  first : {x : ℕ} → In x (starts R v.time j) → via_child R m v j x ≡ some goal
-      → ((y : ℕ) → y < x → In y (starts R v.time j) → via_child R m v j y ≡ some goal → ⊥) → FirstStart R m v j goal x
-  nowhere : ((y : ℕ) → In y (starts R v.time j) → via_child R m v j y ≡ some goal → ⊥) → FirstStart R m v j goal 2147483647
+-- x is the first start of job j with which v has the goal; or none has it.
+pub record First (R : Recorder) (m : ℕ) (v : Vertex) (j goal x : ℕ) : Type 0 where
+  pub start : In x (starts R v.time j)
+  pub hits : via_child R m v j x ≡ some goal
+  pub none_before : (y : ℕ) → y < x → In y (starts R v.time j) → via_child R m v j y ≡ some goal → ⊥
+
+abbrev pub Nowhere : Recorder → ℕ → Vertex → ℕ → ℕ → Type 0
+Nowhere R m v j goal = (y : ℕ) → In y (starts R v.time j) → via_child R m v j y ≡ some goal → ⊥
 
 -- Part of the schedule is read off: the numbers l show the vertex that it has come to, whose least is the goal, and whose starts stand in s; what it settles is the
 -- first of the least. And so many vertices were entered that those for each job that is left fit in.

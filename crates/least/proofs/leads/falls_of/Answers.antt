@@ -1,5 +1,4 @@
 use mathlib.Core.Path.{◌≡◌}
-use Prim.Native.Nat.{◌+◌, ◌*◌, ◌≤◌}
 use native.Mathlib.Omega.{arith}
 use Rattle.base.proofs.Additions.{sum_more}
 use Rattle.flat.specs.inside.Flat.{recorder_of}

@@ -1,142 +1,94 @@
-use mathlib.Core.Path.{refl, ap, ◌∙◌, subst}
+use mathlib.Core.Path.{ap, ◌∙◌, subst}
 use Prim.Native.Nat.{ℕ, ◌<◌, max}
 use native.Mathlib.Omega.{arith}
-use Rattle.flat.specs.inside.Flat.{recorder_of}
-use Rattle.latest.proofs.Members.{has_le}
+use Rattle.std.proofs.lemmas.Result.{err_from_is_err_and}
 use Rattle.vertex.proofs.Showing.{ordered_later}
+use Rattle.least.specs.inside.Outcome.{recorder}
 use Rattle.least.proofs.Trials.{slot_late}
 use Rattle.least.proofs.Going.{held_ordered, held_few, held_offers, starts_slot}
-use Rattle.least.proofs.Hitting.{passed_none, passed_next, start_stopped, start_found, start_nowhere}
+use Rattle.least.proofs.Hitting.{passed_next, start_stopped, start_found, start_nowhere}
 use Rattle.least.proofs.reading.first_start.Goals as goal
 
-pub overflow_sub-set : goal.overflow_sub-set
-overflow_sub-set c =
-    let R = recorder_of c.args.r.now in
+pub returns-then-branch-clause-answer : goal.returns-then-branch-clause-answer
+returns-then-branch-clause-answer c =
+    let R = recorder c.args.search.now in
     let valid = c.requires.0.tabled.valid in
     let held = c.requires.1.1.0 in
     let known = c.requires.1.1.1.1.0 in
-    let one = c.requires.1.1.1.1.1.0 in
-    let p-is = c.requires.1.1.1.1.1.1 in
-    omega (arith, p-is, has_le c.args.set c.args.j one)
+    let one = c.requires.1.1.1.1.1 in
+    let from_is = c.max-from.ensures ∙ ap (max _) (c.from.ensures ∙ c.release_of.ensures) in
+    let i = c.loop-s.invariant in
+    let late = slot_late _ _ _ _ c.loop-s.s (subst (λ (n : ℕ). c.loop-s.s < n) c.last_of-to.ensures c.loop-s-test.true) in
+    λ m u h q.
+    start_found R valid _ _ _ _ _ 0 _ _ c.last_of-to.result known one from_is _ _ i.passed late _ c.lead_of-lead.ensures.0 _ (rw c.if-branch.true at c.in_ok-hits.ensures.answer) m u h q
 
 pub last_of-to-requires : goal.last_of-to-requires
 last_of-to-requires c =
-    let R = recorder_of c.args.r.now in
     let valid = c.requires.0.tabled.valid in
-    let held = c.requires.1.1.0 in
-    let known = c.requires.1.1.1.1.0 in
-    let one = c.requires.1.1.1.1.1.0 in
-    let p-is = c.requires.1.1.1.1.1.1 in
-    (omega (arith, known, valid.few_jobs), omega (arith, (held_few R valid c.args.v.now c.args.set c.args.time held).1))
-
-pub release_of-requires : goal.release_of-requires
-release_of-requires c =
-    let R = recorder_of c.args.r.now in
-    let valid = c.requires.0.tabled.valid in
-    let held = c.requires.1.1.0 in
-    let known = c.requires.1.1.1.1.0 in
-    let one = c.requires.1.1.1.1.1.0 in
-    let p-is = c.requires.1.1.1.1.1.1 in
-    omega (arith, known, valid.few_jobs)
-
-pub loop-s-init : goal.loop-s-init
-loop-s-init c =
-    (c.requires.0, c.requires.1.0, passed_none _ _ _ _ _ _ _ _, refl)
+    (omega (arith, c.requires.1.1.1.1.0, valid.few_jobs), omega (arith, (held_few (recorder c.args.search.now) valid c.args.v.now c.args.set c.args.time c.requires.1.1.0).1))
 
 pub lead_of-lead-requires : goal.lead_of-lead-requires
 lead_of-lead-requires c =
-    let R = recorder_of c.args.r.now in
+    let R = recorder c.args.search.now in
     let valid = c.requires.0.tabled.valid in
     let held = c.requires.1.1.0 in
     let known = c.requires.1.1.1.1.0 in
-    let one = c.requires.1.1.1.1.1.0 in
-    let p-is = c.requires.1.1.1.1.1.1 in
-    let l = c.loop-s in
-    let from_is = c.larger-s.ensures ∙ ap (max _) (c.wide.ensures.0 ∙ c.release_of.ensures) in
-    let last-is = c.last_of-to.ensures in
-    let late = slot_late _ _ _ _ l.s (subst (λ (n : ℕ). l.s < n) last-is c.loop-s-test.true) in
-    (c.requires.0.tabled, (omega (arith, known, valid.few_jobs), ordered_later R valid _ _ _ (held_ordered R valid _ _ _ held) (omega (arith, l.invariant.2.low, from_is)) (omega (arith, late, valid.ends c.args.j known))))
+    let one = c.requires.1.1.1.1.1 in
+    let from_is = c.max-from.ensures ∙ ap (max _) (c.from.ensures ∙ c.release_of.ensures) in
+    let i = c.loop-s.invariant in
+    let late = slot_late _ _ _ _ c.loop-s.s (subst (λ (n : ℕ). c.loop-s.s < n) c.last_of-to.ensures c.loop-s-test.true) in
+    (c.requires.0.tabled, (omega (arith, known, valid.few_jobs), ordered_later R valid _ _ _ (held_ordered R valid _ _ _ held) (omega (arith, i.passed.low, from_is)) (omega (arith, late, valid.ends c.args.j known))))
 
-pub hits-x-requires : goal.hits-x-requires
-hits-x-requires c =
-    let R = recorder_of c.args.r.now in
+pub hits-requires : goal.hits-requires
+hits-requires c =
+    let R = recorder c.args.search.now in
     let valid = c.requires.0.tabled.valid in
     let held = c.requires.1.1.0 in
     let known = c.requires.1.1.1.1.0 in
-    let one = c.requires.1.1.1.1.1.0 in
-    let p-is = c.requires.1.1.1.1.1.1 in
-    let l = c.loop-s in
-    let from_is = c.larger-s.ensures ∙ ap (max _) (c.wide.ensures.0 ∙ c.release_of.ensures) in
-    let last-is = c.last_of-to.ensures in
-    let late = slot_late _ _ _ _ l.s (subst (λ (n : ℕ). l.s < n) last-is c.loop-s-test.true) in
-    (l.invariant.0, (l.invariant.1, (held_offers R valid _ _ _ held _ _ known one (omega (arith, l.invariant.2.low, from_is)) late, (p-is, c.requires.1.1.1.0))))
+    let one = c.requires.1.1.1.1.1 in
+    let from_is = c.max-from.ensures ∙ ap (max _) (c.from.ensures ∙ c.release_of.ensures) in
+    let i = c.loop-s.invariant in
+    let late = slot_late _ _ _ _ c.loop-s.s (subst (λ (n : ℕ). c.loop-s.s < n) c.last_of-to.ensures c.loop-s-test.true) in
+    (i.lent, (i.within, (held_offers R valid _ _ _ held _ _ known one (omega (arith, i.passed.low, from_is)) late, c.requires.1.1.1.0)))
 
-pub returns-then-x : goal.returns-then-x
-returns-then-x c =
-    let R = recorder_of c.args.r.now in
+pub returns-in_err-hits-clause-answer : goal.returns-in_err-hits-clause-answer
+returns-in_err-hits-clause-answer c =
+    let R = recorder c.args.search.now in
     let valid = c.requires.0.tabled.valid in
     let held = c.requires.1.1.0 in
     let known = c.requires.1.1.1.1.0 in
-    let one = c.requires.1.1.1.1.1.0 in
-    let p-is = c.requires.1.1.1.1.1.1 in
-    let l = c.loop-s in
-    let from_is = c.larger-s.ensures ∙ ap (max _) (c.wide.ensures.0 ∙ c.release_of.ensures) in
-    let last-is = c.last_of-to.ensures in
-    let late = slot_late _ _ _ _ l.s (subst (λ (n : ℕ). l.s < n) last-is c.loop-s-test.true) in
-    let e = c.hits-x in
-    record {
-      lent = e.ensures.lent;
-      answer = λ m u h q. start_stopped R valid _ _ _ _ _ _ _ _ c.last_of-to.result known one from_is _ _ l.invariant.2 late _ _ _ c.lead_of-lead.ensures.0 e.ensures.answer c.if-x.true m u h q _;
-    }
-
-pub returns-then-x-eq1 : goal.returns-then-x-eq1
-returns-then-x-eq1 c =
-    let R = recorder_of c.args.r.now in
-    let valid = c.requires.0.tabled.valid in
-    let held = c.requires.1.1.0 in
-    let known = c.requires.1.1.1.1.0 in
-    let one = c.requires.1.1.1.1.1.0 in
-    let p-is = c.requires.1.1.1.1.1.1 in
-    let l = c.loop-s in
-    let from_is = c.larger-s.ensures ∙ ap (max _) (c.wide.ensures.0 ∙ c.release_of.ensures) in
-    let last-is = c.last_of-to.ensures in
-    let late = slot_late _ _ _ _ l.s (subst (λ (n : ℕ). l.s < n) last-is c.loop-s-test.true) in
-    let e = c.hits-x in
-    record {
-      lent = e.ensures.lent;
-      answer = λ m u h q. start_found R valid _ _ _ _ _ _ _ _ c.last_of-to.result known one from_is _ _ l.invariant.2 late _ _ _ c.lead_of-lead.ensures.0 e.ensures.answer c.if-x.false c.if-x-eq1.true m u h q;
-    }
+    let one = c.requires.1.1.1.1.1 in
+    let from_is = c.max-from.ensures ∙ ap (max _) (c.from.ensures ∙ c.release_of.ensures) in
+    let i = c.loop-s.invariant in
+    let late = slot_late _ _ _ _ c.loop-s.s (subst (λ (n : ℕ). c.loop-s.s < n) c.last_of-to.ensures c.loop-s-test.true) in
+    λ m u h q.
+    rw (err_from_is_err_and c.from_residual.result c.from_residual.ensures.1).1
+    (start_stopped R valid _ _ _ _ _ _ _ _ c.last_of-to.result known one from_is _ _ i.passed late _ c.lead_of-lead.ensures.0 c.in_err-hits.ensures.answer m u h q)
 
 pub loop-s-preserved : goal.loop-s-preserved
 loop-s-preserved c =
-    let R = recorder_of c.args.r.now in
+    let R = recorder c.args.search.now in
     let valid = c.requires.0.tabled.valid in
     let held = c.requires.1.1.0 in
     let known = c.requires.1.1.1.1.0 in
-    let one = c.requires.1.1.1.1.1.0 in
-    let p-is = c.requires.1.1.1.1.1.1 in
-    let l = c.loop-s in
-    let from_is = c.larger-s.ensures ∙ ap (max _) (c.wide.ensures.0 ∙ c.release_of.ensures) in
-    let last-is = c.last_of-to.ensures in
-    let late = slot_late _ _ _ _ l.s (subst (λ (n : ℕ). l.s < n) last-is c.loop-s-test.true) in
-    let e = c.hits-x in
-    (e.ensures.lent.0, e.ensures.lent.1, passed_next R valid _ _ _ _ _ c.args.budget _ _ c.last_of-to.result known one from_is _ _ l.invariant.2 late _ _ _ c.lead_of-lead.ensures.0 e.ensures.answer c.if-x.false c.if-x-eq1.false, omega arith)
-
-pub shape_of-memory : goal.shape_of-memory
-shape_of-memory c = c.loop-s.invariant.3
-
-pub returns : goal.returns
-returns c =
-    let R = recorder_of c.args.r.now in
-    let valid = c.requires.0.tabled.valid in
-    let held = c.requires.1.1.0 in
-    let known = c.requires.1.1.1.1.0 in
-    let one = c.requires.1.1.1.1.1.0 in
-    let p-is = c.requires.1.1.1.1.1.1 in
-    let l = c.loop-s in
-    let from_is = c.larger-s.ensures ∙ ap (max _) (c.wide.ensures.0 ∙ c.release_of.ensures) in
-    let last-is = c.last_of-to.ensures in
+    let one = c.requires.1.1.1.1.1 in
+    let from_is = c.max-from.ensures ∙ ap (max _) (c.from.ensures ∙ c.release_of.ensures) in
+    let i = c.loop-s.invariant in
+    let late = slot_late _ _ _ _ c.loop-s.s (subst (λ (n : ℕ). c.loop-s.s < n) c.last_of-to.ensures c.loop-s-test.true) in
+    let e = c.in_ok-hits.ensures in
     record {
-      lent = (l.invariant.0, l.invariant.1);
-      answer = λ m u h q. start_nowhere R valid _ _ _ _ _ _ _ _ _ known one from_is _ _ l.invariant.2 (starts_slot R _ c.requires.0.laid _ _ _ _ (held_few R valid _ _ _ held).0 p-is last-is) (omega (arith, c.loop-s-test.false)) m u h q;
+      lent = e.lent.0;
+      within = e.lent.1;
+      passed = passed_next R valid _ _ _ _ _ 0 _ _ c.last_of-to.result known one from_is _ _ i.passed late _ c.lead_of-lead.ensures.0 _ (rw c.if-branch.false at e.answer);
     }
+
+pub returns-clause-answer : goal.returns-clause-answer
+returns-clause-answer c =
+    let R = recorder c.args.search.now in
+    let valid = c.requires.0.tabled.valid in
+    let held = c.requires.1.1.0 in
+    let known = c.requires.1.1.1.1.0 in
+    let one = c.requires.1.1.1.1.1 in
+    let from_is = c.max-from.ensures ∙ ap (max _) (c.from.ensures ∙ c.release_of.ensures) in
+    λ m u h q.
+    start_nowhere R valid _ _ _ _ _ 0 _ _ _ known one from_is _ _ c.loop-s.invariant.passed (starts_slot R _ c.requires.0.laid _ _ _ _ (held_few R valid _ _ _ held).0 c.power.ensures c.last_of-to.ensures) (omega (arith, c.loop-s-test.false)) m u h q
