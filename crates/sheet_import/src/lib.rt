@@ -2,6 +2,7 @@
 // asks anything of its caller: any bytes of any length get an answer. sheet/specs/Promises.antt and specs/LineFaults.antt say the complete outcome of each.
 #![tactic(auto)]
 
+ghost use Rattle.std.specs.Prelude.{◌≡◌};
 ghost use Rattle.planner.specs.Answers.{answered, plain};
 ghost use Rattle.sheet.specs.Promises.{ImportedDevices, ImportedJobs};
 
