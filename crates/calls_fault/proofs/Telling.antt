@@ -6,13 +6,13 @@ use native.Mathlib.Omega.{arith}
 use lib.ListN.{length, take, drop}
 use borrow.Rule.Slice.PartMut.{put_mid}
 use Rattle.base.proofs.Filling.{filled_first, filled_part}
-use Rattle.faults.specs.declared.PlaceFault.{PlaceFault}
+use Rattle.faults.specs.Places.{Judged}
 use Rattle.calls.specs.Bytes.{big}
 use Rattle.calls.proofs.Digits.{length_big}
-use Rattle.calls_fault.specs.FaultCall.{code_of, record_of, eighteen}
+use Rattle.calls_fault.specs.FaultCall.{code_in, record_in, eighteen}
 
 pub place_told :
-    (f : PlaceFault) (l m₁ m₂ m₃ m₄ : List ℕ) (code number : ℕ) → 18 ≤ length l → code ≡ code_of f.place → number ≡ record_of f.place
+    (f : Judged) (l m₁ m₂ m₃ m₄ : List ℕ) (code number : ℕ) → 18 ≤ length l → code ≡ code_in f.place → number ≡ record_in f.place
     → m₁ ≡ big (length (take 1 l)) code
     → (let l₁ = m₁ ++ drop 1 l in m₂ ≡ big (length (take 1 (drop 1 l₁))) number)
     → (let l₂ = put_mid 1 1 (m₁ ++ drop 1 l) m₂ in m₃ ≡ big (length (take 8 (drop 2 l₂))) f.from)

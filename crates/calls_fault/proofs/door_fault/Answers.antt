@@ -7,10 +7,7 @@ use Rattle.calls_fault.specs.FaultCall.{shut, answered}
 use Rattle.calls_fault.proofs.door_fault.Goals as goal
 
 pub returns-then-res-lt-PLACE : goal.returns-then-res-lt-PLACE
-returns-then-res-lt-PLACE c = shut (λ o. omega (arith, o.1, c.if-res-lt-PLACE.true))
-
-pub returns-then-not-is_tables : goal.returns-then-not-is_tables
-returns-then-not-is_tables c = shut (λ o. c.is_tables.ensures.1 c.if-not-is_tables.true o.0)
+returns-then-res-lt-PLACE c = ?
 
 pub tables_from-requires : goal.tables_from-requires
 tables_from-requires c = c.is_tables.ensures.0 c.if-not-is_tables.false

@@ -8,9 +8,8 @@ use Rattle.calls_fault.proofs.tell_place.Goals as goal
 pub slice_bounds-put-end-2 : goal.slice_bounds-put-end-2
 slice_bounds-put-end-2 c = sym (length-take-le 1 c.args.res.now (omega arith))
 
-pub returns : goal.returns
-returns c = (
-  refl,
-  place_told c.args.fault c.args.res.now _ _ _ _ _ _ c.requires c.code_of-code.ensures c.record_of-record.ensures
-      c.put.ensures c.put-2.ensures c.put-3.ensures c.put-4.ensures,
-)
+pub returns-in-Ok : goal.returns-in-Ok
+returns-in-Ok c = ?
+
+pub returns-in-Err : goal.returns-in-Err
+returns-in-Err c = ?
