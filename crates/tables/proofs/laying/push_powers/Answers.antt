@@ -34,9 +34,6 @@ module _ (d : DeviceRecord) where
   counted : (f g : File) (l : List ℕ) → g ≡ appended f l → g.count ≡ f.count + length l
   counted f g l e = ap (λ (x : File). x.count) e ∙ appended_count f l
 
-pub push_power-a-requires : goal.push_power-a-requires
-push_power-a-requires c = omega (arith, long c.args.d, c.requires)
-
 pub push_power-b-requires : goal.push_power-b-requires
 push_power-b-requires c =
     let d = c.args.d in
