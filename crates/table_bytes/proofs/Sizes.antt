@@ -32,6 +32,3 @@ pub tables_long : (s : List ℕ) → AreTables s → (9 ≤ length s) × (tasks_
 tables_long s t =
     let from = after_from_lem (device_size (kind_named (byte_at s 0)) s) (min (pair_at s 3) 8) 9 in
     (omega (arith, t.ends, from), omega (arith, t.ends))
-
-pub counted : (f g : File) (l : List ℕ) → g ≡ appended f l → g.count ≡ f.count + length l
-counted f g l e = ap (λ (x : File). x.count) e ∙ appended_count f l

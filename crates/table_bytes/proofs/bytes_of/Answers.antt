@@ -11,7 +11,7 @@ use Rattle.tables.specs.inside.Held.{held}
 use Rattle.tables.proofs.Appending.{appended_more, held_more}
 use Rattle.tables.proofs.Joining.{length_devices, length_tasks, length_jobs}
 use Rattle.table_bytes.specs.TableBytes.{head_of, table_bytes}
-use Rattle.table_bytes.proofs.Sizes.{counted}
+use Rattle.tables.proofs.Appending.{counted}
 use Rattle.table_bytes.proofs.bytes_of.Goals as goal
 
 pub push_records-second-requires : goal.push_records-second-requires

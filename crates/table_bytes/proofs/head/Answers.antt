@@ -7,7 +7,7 @@ use Rattle.base.specs.Bytes.{pair_bytes}
 use Rattle.tables.specs.inside.Held.{held}
 use Rattle.tables.proofs.Appending.{appended_more, held_all}
 use Rattle.table_bytes.specs.TableBytes.{kind_byte, head_of}
-use Rattle.table_bytes.proofs.Sizes.{counted}
+use Rattle.tables.proofs.Appending.{counted}
 use Rattle.table_bytes.proofs.head.Goals as goal
 
 pub push-a-requires : goal.push-a-requires
