@@ -33,6 +33,16 @@ fn parts_of(fault: Result<(), PlaceFault>) -> [u64; 4]
     }
 }
 
+// The number that it is refused for, 0 for none.
+fn number_of(fault: Result<(), PlaceFault>) -> u8
+    ensures { result ≡ (judged fault).number }
+{
+    match fault {
+        Ok(()) => 0,
+        Err(f) => f.reason.number(),
+    }
+}
+
 // Puts a place into the buffer, and returns its number.
 pub fn tell_place(fault: Result<(), PlaceFault>, res: &mut [u8]) -> u8
     requires { 18 ≤ length res.old }
@@ -43,10 +53,7 @@ pub fn tell_place(fault: Result<(), PlaceFault>, res: &mut [u8]) -> u8
     put(&mut res[1..2], record);
     put(&mut res[2..10], from);
     put(&mut res[10..18], to);
-    match fault {
-        Ok(()) => 0,
-        Err(f) => f.reason.number(),
-    }
+    number_of(fault)
 }
 
 // Where a file is refused: its first place at fault.
