@@ -4,9 +4,9 @@ use mathlib.Core.List.{List, [], ◌∷◌, ◌++◌, append_assoc, append-nil}
 use Prim.Native.Nat.{ℕ, zero, suc, ◌+◌, ◌*◌, ◌/◌, ◌%◌, ◌≤◌, ◌<◌}
 use native.Mathlib.Numerals.{add-one}
 use native.Mathlib.Omega.{arith}
-use lib.ListN.{length, set, take, drop, get_or, length-append, drop_of_length-le}
-use lib.Seq.{drop-cons, drop-set-lt, get_or-set_same, lt-length-set, take-suc}
-use Rattle.base.proofs.Filling.{Filled, filled_store, filled_first, filled_part}
+use lib.ListN.{length, set, take, drop, get_or, length-append, length-drop, drop_of_length-le}
+use lib.Seq.{drop-cons, drop-set-lt, get_or-set_same, lt-length-set, take-suc, length-take-le}
+use Rattle.base.proofs.Filling.{Filled, filled_length, filled_first, filled_part}
 use borrow.Author.Tests.{le-leb, lt-leb}
 use borrow.Rule.Slice.PartMut.{put_mid}
 use Rattle.planner.specs.declared.Answer.{Answer}
@@ -49,14 +49,21 @@ pub spread_none : (l bytes : List ℕ) → Filled bytes 0 (spread (take 0 l)) by
 unfolding spread
 spread_none l bytes = record { long = refl; is = refl }
 
+big_two : (x : ℕ) → x < 65536 → big 2 x ≡ x / 256 ∷ x % 256 ∷ []
+unfolding big
+big_two x h = let e : x / 256 % 256 ≡ x / 256 = omega arith in rw e
+
 pub spread_next :
-    (l bytes₀ bytes : List ℕ) (j : ℕ) → j < length l → j * 2 + 2 ≤ length bytes₀ → Filled bytes₀ (j * 2) (spread (take j l)) bytes
-    → Filled bytes₀ ((j + 1) * 2) (spread (take (j + 1) l)) (set (set bytes (j * 2) (get_or l j 0 / 256)) (j * 2 + 1) (get_or l j 0 % 256))
-spread_next l bytes₀ bytes j h room w =
+    (l bytes₀ bytes m : List ℕ) (j : ℕ) → j < length l → j * 2 + 2 ≤ length bytes₀ → get_or l j 0 < 65536 → Filled bytes₀ (j * 2) (spread (take j l)) bytes
+    → m ≡ get_or l j 0 / 256 % 256 ∷ get_or l j 0 % 256 ∷ [] → Filled bytes₀ ((j + 1) * 2) (spread (take (j + 1) l)) (put_mid (j * 2) 2 bytes m)
+unfolding big
+spread_next l bytes₀ bytes m j h room small w e =
     let x = get_or l j 0 in
-    let both = filled_store (filled_store w (omega arith) (x / 256)) (omega arith) (x % 256) in
-    let at : j * 2 + 1 + 1 ≡ (j + 1) * 2 = omega arith in
-    rw (← at) (filled_as both (sym (spread_more (take j l) x) ∙ ap spread (sym (rw (add-one j) (take-suc l j 0 h)))))
+    let long = filled_length w (omega arith) in
+    let two : length (take 2 (drop (j * 2) bytes)) ≡ 2 = length-take-le 2 (drop (j * 2) bytes) (omega (arith, length-drop (j * 2) bytes)) in
+    let whole : m ≡ big (length (take 2 (drop (j * 2) bytes))) x = rw two e in
+    let part = filled_part (λ n. big n x) (λ n. length_big n x) w 2 ((j + 1) * 2) (omega arith) (omega arith) m whole in
+    filled_as part (rw (big_two x small) (sym (append_assoc (spread (take j l)) (x / 256 ∷ []) (x % 256 ∷ []))) ∙ sym (spread_more (take j l) x) ∙ ap spread (sym (rw (add-one j) (take-suc l j 0 h))))
 
 -- ---- the result buffer
 

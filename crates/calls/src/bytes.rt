@@ -9,11 +9,9 @@ pub fn put(part: &mut [u8], x: u64)
     ensures { part.new ≡ big (length part.old) x }
 {
     let mut left = x;
-    let mut i = part.len();
-    while 0 < i {
-        i -= 1;
+    for i in (0..part.len()).rev() {
         part[i] = (left % 256) as u8;
-        left = left / 256;
+        left /= 256;
     }
 }
 
@@ -22,10 +20,8 @@ pub fn get_starts(bytes: &[u8], starts: &mut [u16])
     requires { length starts.old * 2 ≤ length bytes.now }
     ensures { starts.new ≡ starts_in bytes.now (length starts.old) }
 {
-    let mut j = 0;
-    while j < starts.len() {
-        starts[j] = pair_at(bytes, j * 2);
-        j += 1;
+    for (j, start) in starts.iter_mut().enumerate() {
+        *start = pair_at(bytes, j * 2);
     }
 }
 
@@ -34,11 +30,8 @@ pub fn put_starts(starts: &[u16], bytes: &mut [u8])
     requires { length starts.now * 2 ≤ length bytes.old }
     ensures { bytes.new ≡ spread starts.now ++ drop (length starts.now * 2) bytes.old }
 {
-    let mut j = 0;
-    while j < starts.len() {
+    for (j, start) in starts.iter().enumerate() {
         let at = j * 2;
-        bytes[at] = (starts[j] / 256) as u8;
-        bytes[at + 1] = (starts[j] % 256) as u8;
-        j += 1;
+        bytes[at..at + 2].copy_from_slice(&start.to_be_bytes());
     }
 }

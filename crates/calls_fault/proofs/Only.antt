@@ -9,11 +9,9 @@ use Rattle.planner.proofs.Reading.{not_both}
 use Rattle.faults.specs.Places.{Judged}
 use Rattle.faults.proofs.Only.{only_fault, only_tables_fault, fault_refused}
 use Rattle.table_bytes.specs.TableBytes.{tables_from}
-use Rattle.catalogue.specs.declared.PartFault.{PartFault}
-use Rattle.catalogue.specs.Faults.{part_fault, OrderFault}
+use Rattle.catalogue.specs.Faults.{PartTold, part_fault, OrderFault}
 use Rattle.catalogue.proofs.Only.{only_order_fault}
-use Rattle.sheet_import.specs.declared.LineFault.{LineFault}
-use Rattle.sheet_import.specs.LineFaults.{line_fault_at, DevicesFault, JobsFault}
+use Rattle.sheet_import.specs.LineFaults.{LineTold, line_fault_at, DevicesFault, JobsFault}
 use Rattle.sheet_import.proofs.Only.{only_devices_fault, only_jobs_fault}
 use Rattle.calls.specs.Bytes.{big}
 use Rattle.calls_fault.specs.FaultCall.{eighteen, FaultCalled, cramped, short, told, FaultDoor, shut, answered, CountedDoor, closed, counted, OrderFaultDoor, DevicesFaultDoor, JobsFaultDoor}
@@ -59,14 +57,14 @@ pub only_order_door : (catalogue wanted result : List ℕ) {n n' : ℕ} {r r' : 
     → (n ≡ n') × (r ≡ r')
 only_order_door catalogue wanted result =
     only_counted result (λ n k. OrderFault catalogue wanted (part_fault n k))
-    (λ n k n' k' p p'. let e = only_order_fault catalogue wanted p p' in (ap (λ (f : PartFault). f.number) e, ap (λ (f : PartFault). f.part) e))
+    (λ n k n' k' p p'. let e = only_order_fault catalogue wanted p p' in (ap (λ (f : PartTold). f.number) e, ap (λ (f : PartTold). f.part) e))
 
 pub only_devices_door : (text result : List ℕ) {n n' : ℕ} {r r' : List ℕ} → DevicesFaultDoor text result n r → DevicesFaultDoor text result n' r' → (n ≡ n') × (r ≡ r')
 only_devices_door text result =
     only_counted result (λ n k. DevicesFault text (line_fault_at n k))
-    (λ n k n' k' p p'. let e = only_devices_fault text p p' in (ap (λ (f : LineFault). f.number) e, ap (λ (f : LineFault). f.line) e))
+    (λ n k n' k' p p'. let e = only_devices_fault text p p' in (ap (λ (f : LineTold). f.number) e, ap (λ (f : LineTold). f.line) e))
 
 pub only_jobs_door : (text result : List ℕ) {n n' : ℕ} {r r' : List ℕ} → JobsFaultDoor text result n r → JobsFaultDoor text result n' r' → (n ≡ n') × (r ≡ r')
 only_jobs_door text result =
     only_counted result (λ n k. JobsFault text (line_fault_at n k))
-    (λ n k n' k' p p'. let e = only_jobs_fault text p p' in (ap (λ (f : LineFault). f.number) e, ap (λ (f : LineFault). f.line) e))
+    (λ n k n' k' p p'. let e = only_jobs_fault text p p' in (ap (λ (f : LineTold). f.number) e, ap (λ (f : LineTold). f.line) e))

@@ -5,12 +5,14 @@
 ghost use Rattle.std.specs.Prelude.{◌≡◌, ◌++◌, ◌≤◌, length, drop};
 ghost use Rattle.calls_fault.specs.FaultCall.{parts_of, eighteen, FaultCalled, FaultDoor, OrderFaultDoor, DevicesFaultDoor, JobsFaultDoor};
 ghost use Rattle.calls.specs.Bytes.{big};
+ghost use Rattle.catalogue.specs.Faults.{told as part_told};
 ghost use Rattle.faults.specs.Places.{judged};
+ghost use Rattle.sheet_import.specs.LineFaults.{told as line_told};
 
 use calls::{cramped, put};
-use catalogue::order_fault;
+use catalogue::{PartFault, order_fault};
 use faults::{PlaceFault, fault_of, fault_of_tables};
-use sheet_import::{devices_fault, jobs_fault};
+use sheet_import::{LineFault, devices_fault, jobs_fault};
 use table_bytes::{is_tables, tables_from};
 
 pub const PLACE: usize = 18;
@@ -85,6 +87,27 @@ fn tell_counted(number: u8, place: usize, res: &mut [u8]) -> u8
     number
 }
 
+// The same of a part or a wanted number, and of a line: 0 and 0 where none is at fault.
+fn tell_part(fault: Result<(), PartFault>, res: &mut [u8]) -> u8
+    requires { 8 ≤ length res.old }
+    ensures { (result ≡ (part_told fault).number) × (res.new ≡ big 8 (part_told fault).part ++ drop 8 res.old) }
+{
+    match fault {
+        Ok(()) => tell_counted(0, 0, res),
+        Err(at) => tell_counted(at.reason.number(), at.part, res),
+    }
+}
+
+fn tell_line(fault: Result<(), LineFault>, res: &mut [u8]) -> u8
+    requires { 8 ≤ length res.old }
+    ensures { (result ≡ (line_told fault).number) × (res.new ≡ big 8 (line_told fault).line ++ drop 8 res.old) }
+{
+    match fault {
+        Ok(()) => tell_counted(0, 0, res),
+        Err(at) => tell_counted(at.reason.number(), at.line, res),
+    }
+}
+
 // The part, or the wanted number, for which an order is refused. 255: the result buffer has no room.
 pub fn door_order_fault(catalogue: &[u8], wanted: &[u8], res: &mut [u8]) -> u8
     ensures { OrderFaultDoor catalogue.now wanted.now res.old result res.new }
@@ -92,8 +115,7 @@ pub fn door_order_fault(catalogue: &[u8], wanted: &[u8], res: &mut [u8]) -> u8
     if res.len() < COUNTED {
         return 255;
     }
-    let fault = order_fault(catalogue, wanted);
-    tell_counted(fault.number, fault.part, res)
+    tell_part(order_fault(catalogue, wanted), res)
 }
 
 // The line for which a sheet of devices is refused, and that of a sheet of jobs. 255: the result buffer has no room.
@@ -103,8 +125,7 @@ pub fn door_devices_fault(text: &[u8], res: &mut [u8]) -> u8
     if res.len() < COUNTED {
         return 255;
     }
-    let fault = devices_fault(text);
-    tell_counted(fault.number, fault.line, res)
+    tell_line(devices_fault(text), res)
 }
 
 pub fn door_jobs_fault(text: &[u8], res: &mut [u8]) -> u8
@@ -113,6 +134,5 @@ pub fn door_jobs_fault(text: &[u8], res: &mut [u8]) -> u8
     if res.len() < COUNTED {
         return 255;
     }
-    let fault = jobs_fault(text);
-    tell_counted(fault.number, fault.line, res)
+    tell_line(jobs_fault(text), res)
 }

@@ -2,6 +2,7 @@
 use mathlib.Core.Path.{◌≡◌, refl, sym, subst, ◌∙◌}
 use mathlib.Core.Bool.{Bool, true, false, not, ◌||◌, true≢false}
 use mathlib.Core.List.{List, []}
+use Rattle.std.specs.Prelude.{Option, Some, None, is_some}
 use Prim.Native.Nat.{ℕ, ◌≤◌, ◌<◌}
 use native.Mathlib.Decide.{dec_lt}
 use native.Mathlib.Omega.{arith}
@@ -13,7 +14,7 @@ use Rattle.base.specs.Lists.{all}
 use Rattle.base.proofs.Cases.{test_cases, neither, or_right}
 use Rattle.base.proofs.Members.{all_holds, all_fails}
 use Rattle.catalogue.specs.Parts.{Part, numbers, well_formed, whole, has, unfit, repeated, lacking}
-use Rattle.catalogue.specs.Faults.{First, no_part, unfit_at, repeated_at, lacking_at}
+use Rattle.catalogue.specs.Faults.{First, FirstOf, no_part, unfit_at, repeated_at, lacking_at}
 use Rattle.catalogue.proofs.Meaning.{has_at, at_has, repeated_twice, twice_repeated}
 
 -- There is one first place.
@@ -35,6 +36,11 @@ by_first n k b h some none =
       | yes l ↦ some l ∙ sym (lt-ltb k n l)
       | no l ↦ none (omega arith) ∙ sym (le-ltb k n (omega arith))
     ]
+
+-- The same of an option: a place is found just where it holds of the whole.
+pub first_some : {n : ℕ} {test : ℕ → Bool} (b : Bool) → ((k : ℕ) → First n test k → b ≡ ltb k n) → (o : Option ℕ) → FirstOf n test o → is_some o ≡ b
+first_some {n} b by None f = sym (by n f ∙ le-ltb n n (omega arith))
+first_some {n} b by (Some k) f = sym (by k f.1 ∙ lt-ltb k n f.0)
 
 either : {P : Type 0} (s t : Bool) → s || t ≡ true → (s ≡ true → P) → (t ≡ true → P) → P
 either true t e f g = f refl
@@ -80,6 +86,9 @@ module _ (ps : List Part) where
   first_unfit {k} f =
       by_first (length ps) k (unfit ps) f.within (λ h. unfit_here k h (f.here h)) (λ h. unfit_nowhere (λ i l. f.before i (omega arith)))
 
+  pub some_unfit : (o : Option ℕ) → FirstOf (length ps) (unfit_at ps) o → is_some o ≡ unfit ps
+  some_unfit = first_some (unfit ps) (λ k f. first_unfit f)
+
   -- ---- 22
 
   repeated_here : (k : ℕ) → k < length ps → repeated_at ps k ≡ true → repeated (numbers ps) ≡ true
@@ -104,6 +113,9 @@ module _ (ps : List Part) where
   first_repeated {k} f =
       by_first (length ps) k (repeated (numbers ps)) f.within (λ h. repeated_here k h (f.here h)) (λ h. repeated_nowhere (λ i l. f.before i (omega arith)))
 
+  pub some_repeated : (o : Option ℕ) → FirstOf (length ps) (repeated_at ps) o → is_some o ≡ repeated (numbers ps)
+  some_repeated = first_some (repeated (numbers ps)) (λ k f. first_repeated f)
+
   -- ---- 23
 
   pub first_lacking : (ws : List (List ℕ)) {k : ℕ} → First (length ws) (lacking_at ps ws) k → lacking ps ws ≡ ltb k (length ws)
@@ -111,3 +123,6 @@ module _ (ps : List Part) where
       by_first (length ws) k (lacking ps ws) f.within
       (λ h. rw (all_fails (has (numbers ps)) [] ws k h (not-true _ (f.here h))))
       (λ h. rw (all_holds (has (numbers ps)) [] ws (λ i l. not-false _ (f.before i (omega arith)))))
+
+  pub some_lacking : (ws : List (List ℕ)) (o : Option ℕ) → FirstOf (length ws) (lacking_at ps ws) o → is_some o ≡ lacking ps ws
+  some_lacking ws = first_some (lacking ps ws) (λ k f. first_lacking ws f)

@@ -3,25 +3,27 @@ use mathlib.Core.Path.{◌≡◌, refl, sym, ap, subst, ◌∙◌}
 use mathlib.Core.Bool.{true, false, not, true≢false}
 use mathlib.Core.List.{List, [], ◌∷◌, map, map-append}
 use mathlib.Core.Logic.{⊎_elim}
+use Rattle.std.specs.Prelude.{Option, Some, None, is_some}
 use Prim.Native.Nat.{ℕ, zero, suc, ◌+◌, ◌-◌, ◌*◌, ◌/◌, ◌%◌, ◌<◌, ◌≤◌, min}
 use native.Mathlib.Nat.{eq-or-lt_of_le}
 use native.Mathlib.Decide.{dec_lt}
 use native.Mathlib.Omega.{arith}
 use lib.ListN.{length, take, drop, get_or, length-take, length-drop, length-map, get_or-map}
 use lib.Seq.{take-take, take_all, get_or-take, get_or-drop, length-take-le}
-use lib.Dec.{leb, ltb}
+use Rattle.std.proofs.lemmas.List.{drop-take}
+use lib.Dec.{leb}
 use borrow.Author.Tests.{lt-leb, eq-eqb, ne_eqb, not-true, not-false}
 use Rattle.base.proofs.Pieces.{piece_at}
 use Rattle.base.specs.Bytes.{byte_at, pair_at, same, pieces}
 use Rattle.base.specs.Lists.{up_to, padded}
 use Rattle.base.proofs.Arrays.{length_up_to, get_d_up_to, up_to_take, up_to_same}
-use Rattle.base.proofs.Cases.{test_cases, or_right, ltb_same}
+use Rattle.base.proofs.Cases.{test_cases, or_right}
 use Rattle.base.proofs.Comparing.{same_lengths}
 use Rattle.base.proofs.Members.{all_fails, one_holds, one_fails}
 use Rattle.tables.specs.declared.DeviceRecord.{DeviceRecord}
 use Rattle.tables.specs.Records.{first_at, blank_device}
 use Rattle.catalogue.specs.Parts.{has, well_formed, Part, part_of, parts_of, numbers, whole, unfit, lacking, record_of}
-use Rattle.catalogue.specs.inside.Places.{number_at, wanted_at, Sought}
+use Rattle.catalogue.specs.inside.Places.{number_at, wanted_at, Sought, SoughtOf}
 use Rattle.catalogue.specs.Building.{devices_of}
 use Rattle.catalogue.specs.Faults.{no_part, unfit_at, repeated_at, lacking_at}
 use Rattle.catalogue.proofs.Members.{record_at_lem}
@@ -45,10 +47,6 @@ module _ (s : List ℕ) where
       get_or-map (λ (p : Part). p.number) (parts_of s) i no_part
       ∙ ap (λ (p : Part). p.number) (part_at i h)
       ∙ take-take 8 15 (drop (15 * i) s) (omega arith)
-
-  -- A part begins before the end just where it is one.
-  pub part_begins : (k : ℕ) → ltb (15 * k) (length s) ≡ ltb k (length (parts_of s))
-  part_begins k = ltb_same (15 * k) (length s) k (length (parts_of s)) (λ h. omega (arith, parts_count)) (λ h. omega (arith, parts_count))
 
   -- Whether part i is whole.
   record_length : (i : ℕ) → length (drop 8 (take 15 (drop (15 * i) s))) ≡ min 15 (length s - 15 * i) - 8
@@ -125,21 +123,33 @@ module _ (s : List ℕ) (ok : unfit (parts_of s) ≡ false) where
       rw (get_or-drop from (numbers (parts_of s)) i [], number_at_lem s (from + i) (omega arith))
       (q.others (from + i) (omega arith) (omega (arith, evenly))))
 
-  -- A part before part k has its number, or none has.
-  pub sought_before : (k j : ℕ) → k < length s / 15 → Sought s 0 (number_at s k) j → j < k → repeated_at (parts_of s) k ≡ true
-  sought_before k j h q l =
-      let ns = numbers (parts_of s) in
-      rw (number_of_lem k h)
-      (one_holds (same (number_at s k)) [] (take k ns) j (omega (arith, length-take-le k ns (omega (arith, whole_numbers))))
-      (rw (get_or-take k ns j [] l, number_of_lem j (omega arith)) (q.here (omega arith))))
+  -- A part before part k has its number, or none has: they are looked for in the bytes before it.
+  module _ (k : ℕ) (h : k < length s / 15) where
+    before_count : length (take (15 * k) s) ≡ 15 * k
+    before_count = length-take-le (15 * k) s (omega arith)
 
-  pub sought_new : (k j : ℕ) → k < length s / 15 → Sought s 0 (number_at s k) j → k ≤ j → repeated_at (parts_of s) k ≡ false
-  sought_new k j h q l =
-      let ns = numbers (parts_of s) in
-      rw (number_of_lem k h)
-      (one_fails (same (number_at s k)) [] (take k ns)
-      (λ i m. let less : i < k = omega (arith, m, length-take-le k ns (omega (arith, whole_numbers))) in
-      rw (get_or-take k ns i [] less, number_of_lem i (omega arith)) (q.others i (omega arith) (omega arith))))
+    before_at : (i : ℕ) → i < k → number_at (take (15 * k) s) i ≡ number_at s i
+    before_at i l =
+        let e : 15 * k ≡ 15 * i + (15 * k - 15 * i) = omega arith in
+        ap (λ (x : ℕ). take 8 (drop (15 * i) (take x s))) e ∙ rw (drop-take (15 * i) (15 * k - 15 * i) s, take-take 8 (15 * k - 15 * i) (drop (15 * i) s) (omega arith))
+
+    pub again_of : (o : Option ℕ) → SoughtOf (take (15 * k) s) (number_at s k) o → is_some o ≡ true → repeated_at (parts_of s) k ≡ true
+    again_of None q e = cc
+    again_of (Some j) q e =
+        let ns = numbers (parts_of s) in
+        let less : j < k = omega (arith, q.0, before_count) in
+        rw (number_of_lem k h)
+        (one_holds (same (number_at s k)) [] (take k ns) j (omega (arith, length-take-le k ns (omega (arith, whole_numbers))))
+        (rw (get_or-take k ns j [] less, number_of_lem j (omega arith)) (rw (before_at j less) at (q.1.here q.0))))
+
+    pub new_of : (o : Option ℕ) → SoughtOf (take (15 * k) s) (number_at s k) o → is_some o ≡ false → repeated_at (parts_of s) k ≡ false
+    new_of (Some j) q e = cc
+    new_of None q e =
+        let ns = numbers (parts_of s) in
+        rw (number_of_lem k h)
+        (one_fails (same (number_at s k)) [] (take k ns)
+        (λ i m. let less : i < k = omega (arith, m, length-take-le k ns (omega (arith, whole_numbers))) in
+        rw (get_or-take k ns i [] less, number_of_lem i (omega arith)) (rw (before_at i less) at (q.others i (omega arith) (omega (arith, before_count))))))
 
   -- A number of other than 8 bytes is that of no part.
   pub odd_none : (n : List ℕ) → (length n ≡ 8 → ⊥) → has (numbers (parts_of s)) n ≡ false
@@ -156,9 +166,6 @@ module _ (w : List ℕ) where
   unfolding pieces
   wanted_count = length_up_to (λ k. take 8 (drop (8 * k) w)) ((length w + 7) / 8)
 
-  pub wanted_begins : (k : ℕ) → ltb (8 * k) (length w) ≡ ltb k (length (pieces 8 w))
-  wanted_begins k = ltb_same (8 * k) (length w) k (length (pieces 8 w)) (λ h. omega (arith, wanted_count)) (λ h. omega (arith, wanted_count))
-
   pub wanted_at_lem : (i : ℕ) → i < (length w + 7) / 8 → get_or (pieces 8 w) i [] ≡ wanted_at w i
   wanted_at_lem i h = piece_at 8 w i h
 
@@ -169,6 +176,14 @@ module _ (s w : List ℕ) (ok : unfit (parts_of s) ≡ false) where
 
   pub lacking_at_lem : (k j : ℕ) → k < length w / 8 → Sought s 0 (wanted_at w k) j → length s / 15 ≤ j → lacking_at (parts_of s) (pieces 8 w) k ≡ true
   lacking_at_lem k j h q l = rw (wanted_at_lem w k (omega arith), sought_none s ok 0 (wanted_at w k) j q l)
+
+  pub had_of : (k : ℕ) (o : Option ℕ) → k < length w / 8 → SoughtOf s (wanted_at w k) o → is_some o ≡ true → lacking_at (parts_of s) (pieces 8 w) k ≡ false
+  had_of k None h q e = cc
+  had_of k (Some j) h q e = had_at k j h q.1 q.0
+
+  pub lacking_of : (k : ℕ) (o : Option ℕ) → k < length w / 8 → SoughtOf s (wanted_at w k) o → is_some o ≡ false → lacking_at (parts_of s) (pieces 8 w) k ≡ true
+  lacking_of k None h q e = lacking_at_lem k (length s / 15) h q (omega arith)
+  lacking_of k (Some j) h q e = cc
 
   pub lacking_short : (k : ℕ) → k ≡ length w / 8 → k < length (pieces 8 w) → lacking_at (parts_of s) (pieces 8 w) k ≡ true
   lacking_short k e h =
@@ -215,12 +230,9 @@ found_record s n k ok q h =
     rw e (record_read s k)
 
 -- The number is there, so a part is found.
-pub found_within : (s n : List ℕ) (k : ℕ) → unfit (parts_of s) ≡ false → Sought s 0 n k → has (numbers (parts_of s)) n ≡ true → k < length s / 15
-found_within s n k ok q e =
-    elim (dec_lt k (length s / 15)) [
-      | yes l ↦ l
-      | no l ↦ absurd (true≢false (sym e ∙ sought_none s ok 0 n k q (omega arith)))
-    ]
+pub found_some : (s n : List ℕ) (o : Option ℕ) → unfit (parts_of s) ≡ false → SoughtOf s n o → has (numbers (parts_of s)) n ≡ true → is_some o ≡ true
+found_some s n None ok q e = absurd (true≢false (sym e ∙ sought_none s ok 0 n (length s / 15) q (omega arith)))
+found_some s n (Some k) ok q e = refl
 
 -- ---- the device table of the wanted parts
 

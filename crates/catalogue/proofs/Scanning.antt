@@ -1,17 +1,27 @@
--- A loop over bytes, from the front on: what its test finds at place i, and what is then left.
-use mathlib.Core.Path.{◌≡◌, refl, sym}
-use mathlib.Core.Bool.{true, false}
+-- What the tests of a part number find in its bytes.
+use mathlib.Core.Path.{◌≡◌, refl, sym, ◌∙◌}
+use mathlib.Core.Bool.{Bool, true, false}
 use mathlib.Core.List.{List, [], ◌∷◌, ◌++◌}
-use Prim.Native.Nat.{ℕ, suc, ◌+◌, ◌-◌, ◌<◌, ◌≤◌}
+use Prim.Native.Nat.{ℕ, zero, suc, ◌+◌, ◌-◌, ◌<◌, ◌≤◌}
 use native.Mathlib.Numerals.{add-one}
 use native.Mathlib.Omega.{arith}
 use lib.ListN.{length, replicate, take, drop, get_or, length-drop}
 use lib.Seq.{drop-cons, drop-length, take_all}
-use borrow.Author.Tests.{eq-eqb, ne_eqb, lt-ltb}
+use lib.Dec.{eqb}
+use lib.Pointwise.{pointwise}
+use borrow.Author.Tests.{eq-eqb, ne_eqb, lt-ltb, eqb-true}
+use Rattle.std.specs.Prelude.{EachIndex, IsTrue, ◌↔◌}
 use Rattle.base.specs.Lists.{padded}
-use Rattle.base.proofs.Cases.{cond_cases}
+use Rattle.base.proofs.Cases.{cond_cases, test_cases, both}
 use Rattle.base.specs.Bytes.{same}
 use Rattle.catalogue.specs.Parts.{space, sign, front, well_formed}
+
+-- The code compares bytes as slices are compared.
+pub same_pointwise : (s t : List ℕ) → pointwise eqb s t ≡ same s t
+same_pointwise [] [] = refl
+same_pointwise [] (y ∷ t) = refl
+same_pointwise (x ∷ s) [] = refl
+same_pointwise (x ∷ s) (y ∷ t) = rw (same_pointwise s t)
 
 -- ---- the signs at the front
 
@@ -34,24 +44,21 @@ front_same (b ∷ s) u =
 
 -- ---- spaces
 
-pub spaces_start : (s : List ℕ) → same s (replicate (length s) space) ≡ same (drop 0 s) (replicate (length s - 0) space)
-spaces_start s = let m : length s - 0 ≡ length s = omega arith in rw m
+spaces_each : (s : List ℕ) → ((k : ℕ) → k < length s → get_or s k 0 ≡ space) → same s (replicate (length s) space) ≡ true
+spaces_each [] h = refl
+spaces_each (b ∷ s) h = rw (eq-eqb b space (h 0 (omega arith))) (spaces_each s (λ k l. h (suc k) (omega arith)))
 
-pub spaces_next : (s : List ℕ) (i : ℕ) → i < length s → get_or s i 0 ≡ space
-    → same (drop i s) (replicate (length s - i) space) ≡ same (drop (i + 1) s) (replicate (length s - (i + 1)) space)
-spaces_next s i h e =
-    let m : length s - i ≡ suc (length s - (i + 1)) = omega arith in
-    rw (drop-cons s i 0 h, m, eq-eqb _ _ e, add-one i)
+each_space : (s : List ℕ) → same s (replicate (length s) space) ≡ true → (k : ℕ) → k < length s → get_or s k 0 ≡ space
+each_space [] e k l = absurd (omega arith)
+each_space (b ∷ s) e zero l = eqb-true b space (both (eqb b space) _ e).0
+each_space (b ∷ s) e (suc k) l = each_space s (both (eqb b space) _ e).1 k (omega arith)
 
-pub spaces_stop : (s : List ℕ) (i : ℕ) → i < length s → (get_or s i 0 ≡ space → ⊥) → same (drop i s) (replicate (length s - i) space) ≡ false
-spaces_stop s i h e =
-    let m : length s - i ≡ suc (length s - (i + 1)) = omega arith in
-    rw (drop-cons s i 0 h, m, ne_eqb _ _ e)
-
-pub spaces_end : (s : List ℕ) (i : ℕ) → i ≡ length s → same (drop i s) (replicate (length s - i) space) ≡ true
-spaces_end s i e =
-    let m : length s - length s ≡ 0 = omega arith in
-    rw (e, drop-length, m)
+pub all_spaces : (b : Bool) (s : List ℕ) → (IsTrue b ↔ EachIndex s (λ k. get_or s k 0 ≡ space)) → b ≡ same s (replicate (length s) space)
+all_spaces b s h =
+    test_cases (λ x. b ≡ x → b ≡ same s (replicate (length s) space)) b
+    (λ _ e. e ∙ sym (spaces_each s (h.0 e)))
+    (λ _ e. test_cases (λ y. y ≡ same s (replicate (length s) space) → b ≡ y) (same s (replicate (length s) space)) (λ f _. h.1 (each_space s f)) (λ _ _. e) refl)
+    refl
 
 -- ---- a whole number
 

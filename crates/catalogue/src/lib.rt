@@ -3,10 +3,12 @@
 // their caller; specs/Building.antt and specs/Faults.antt say the complete outcome of each.
 #![tactic(auto)]
 
+ghost use Rattle.std.specs.Prelude.{◌≡◌};
 ghost use Rattle.catalogue.specs.Building.{others, Built};
-ghost use Rattle.catalogue.specs.Faults.{OrderFault};
+ghost use Rattle.catalogue.specs.Faults.{OrderFault, fault_at, told};
 
 use crate::look_up::{devices_of, lacking_at, unfit_at};
+use base::Reason;
 use planner::{Answer, refusal, write};
 use tables::{JobTable, Kind, Tables, TaskTable};
 
@@ -16,39 +18,29 @@ mod numbers; // numbers.rt: one part number
 pub use crate::look_up::{is_repeated, is_unfit, repeated_at};
 pub use crate::numbers::{is_formed, signs_of};
 
-// The number of what refuses an order, 0 for none, and the place of the part, or of 23 that of the wanted number.
-#[derive(Clone, Copy)]
+// What refuses an order, and the place of the part, or of 23 that of the wanted number.
+#[derive(Clone, Copy, PartialEq, Eq)]
 pub struct PartFault {
-    pub number: u8,
+    pub reason: Reason,
     pub part: usize,
 }
 
-// The first part, or the first wanted number, at fault.
-pub fn order_fault(catalogue: &[u8], wanted: &[u8]) -> PartFault
-    ensures { OrderFault catalogue.now wanted.now result }
+fn fault_at(reason: Reason, place: Option<usize>) -> Result<(), PartFault>
+    ensures { result ≡ fault_at reason place }
 {
-    let unfit = unfit_at(catalogue);
-    if 15 * unfit < catalogue.len() {
-        return PartFault {
-            number: 21,
-            part: unfit,
-        };
+    match place {
+        Some(part) => Err(PartFault { reason, part }),
+        None => Ok(()),
     }
-    let repeated = repeated_at(catalogue);
-    if 15 * repeated < catalogue.len() {
-        return PartFault {
-            number: 22,
-            part: repeated,
-        };
-    }
-    let lacking = lacking_at(catalogue, wanted);
-    if 8 * lacking < wanted.len() {
-        return PartFault {
-            number: 23,
-            part: lacking,
-        };
-    }
-    PartFault { number: 0, part: 0 }
+}
+
+// The first part, or the first wanted number, at fault.
+pub fn order_fault(catalogue: &[u8], wanted: &[u8]) -> Result<(), PartFault>
+    ensures { OrderFault catalogue.now wanted.now (told result) }
+{
+    fault_at(Reason::PartNumber, unfit_at(catalogue))?;
+    fault_at(Reason::PartTwice, repeated_at(catalogue))?;
+    fault_at(Reason::PartLacking, lacking_at(catalogue, wanted))
 }
 
 // Writes the request file of the wanted parts. The catalogue has 15 bytes a part, 8 of part number and 7 of device record; the wanted parts are 8 bytes each.
@@ -62,9 +54,8 @@ pub fn build(
 ) -> Answer
     ensures { Built catalogue.now wanted.now (others horizon tasks jobs) out.old result out.new }
 {
-    let fault = order_fault(catalogue, wanted);
-    if fault.number != 0 {
-        return refusal(fault.number);
+    if let Err(fault) = order_fault(catalogue, wanted) {
+        return refusal(fault.reason.number());
     }
     let devices = devices_of(catalogue, wanted);
     write(

@@ -43,10 +43,8 @@ pub fn gap_trip(d: Device, g: u16) -> Trip
         level: 0,
         cost: d.pw as u32 * g as u32,
     };
-    let mut n = 0;
-    while n < d.levels as usize {
+    for n in 0..d.levels as usize {
         best = better_trip(d, g, n, best);
-        n += 1;
     }
     best
 }
@@ -56,8 +54,7 @@ fn gap_energy(d: Device, g: u16) -> u32
     requires { Sound d }
     ensures { (result ≡ gap_cost d g) × (result ≤ 65535 * g) }
 {
-    let trip = gap_trip(d, g);
-    trip.cost
+    gap_trip(d, g).cost
 }
 
 // The power of a device in its deepest sleep.
@@ -65,15 +62,14 @@ fn deep_power(d: Device) -> u16
     requires { Sound d }
     ensures { result ≡ deep d }
 {
-    let last = d.levels as usize - 1;
-    d.powers[last]
+    d.powers[d.levels as usize - 1]
 }
 
 // Whether the device is never used in a round (rule 88).
 pub fn is_idle(round: bool, u: Uses) -> bool
     ensures { result ≡ idle round u }
 {
-    if round { u.count == 0 } else { false }
+    round && u.count == 0
 }
 
 // The ticks before the first use that lie in the gap after the last: in a round all of them (rule 87), in a list none.
@@ -90,14 +86,12 @@ fn energy_from(d: Device, h: u16, u: Uses, front: u16) -> u32
 {
     let mut sum: u32 = 0;
     let mut at = front;
-    let mut i = 0;
-    while i < u.count {
+    for i in 0..u.count {
         let begin = u.begins[i];
         let end = u.ends[i];
         sum += gap_energy(d, begin - at);
         sum += d.pw as u32 * (end - begin) as u32;
         at = end;
-        i += 1;
     }
     sum + gap_energy(d, (h - at) + front)
 }

@@ -13,12 +13,8 @@ fn write_run(rest: &mut [u8], n: usize, letter: u8) -> usize
     requires { n ≤ length rest.old }
     ensures { (result ≡ n) × (rest.new ≡ replicate n letter ++ drop n rest.old) }
 {
-    let mut written = 0;
-    while written < n {
-        rest[written] = letter;
-        written += 1;
-    }
-    written
+    rest[..n].fill(letter);
+    n
 }
 
 // The letter of a tick at a level (rules 30 and 82).
@@ -35,19 +31,12 @@ fn letter_at(sleeps: Sleeps, level: usize) -> u8
     }
 }
 
-// How far x lies beyond c.
-fn beyond(x: usize, c: usize) -> usize
-    ensures { result ≡ x - c }
-{
-    if c < x { x - c } else { 0 }
-}
-
 // Writes there, of a run of c equal letters, those from x on and before y.
 fn write_some(rest: &mut [u8], c: usize, letter: u8, x: usize, y: usize) -> usize
     requires { (x ≤ y) × (shared c x y ≤ length rest.old) }
     ensures { (result ≡ shared c x y) × (rest.new ≡ replicate (shared c x y) letter ++ drop (shared c x y) rest.old) }
 {
-    write_run(rest, beyond(c, x) - beyond(c, y), letter)
+    write_run(rest, c.saturating_sub(x) - c.saturating_sub(y), letter)
 }
 
 // Writes there, of a trip, n ticks from tick x on. The trip has so many ticks down, then so many of one letter, then so many up; done counts the places.
@@ -70,15 +59,15 @@ fn write_trip(
         &mut rest[done..],
         stay,
         letter,
-        beyond(x, down),
-        beyond(y, down),
+        x.saturating_sub(down),
+        y.saturating_sub(down),
     );
     done + write_some(
         &mut rest[done..],
         up,
         b'U',
-        beyond(x, rising),
-        beyond(y, rising),
+        x.saturating_sub(rising),
+        y.saturating_sub(rising),
     )
 }
 
@@ -122,14 +111,12 @@ fn write_around(
 {
     let seam = tail + front;
     let mut at = write_gap(out, sleeps, d, seam, tail, front);
-    let mut i = 0;
-    while i < u.count {
+    for i in 0..u.count {
         let begin = u.begins[i] as usize;
         let end = u.ends[i] as usize;
         let gap = begin - at;
         at += write_gap(&mut out[at..], sleeps, d, gap, 0, gap);
         at += write_run(&mut out[at..], end - begin, b'W');
-        i += 1;
     }
     write_gap(&mut out[at..], sleeps, d, seam, 0, tail);
 }

@@ -1,5 +1,5 @@
 -- What the code has when it returns is a case of the promise.
-use mathlib.Core.Path.{◌≡◌, sym}
+use mathlib.Core.Path.{◌≡◌}
 use mathlib.Core.Bool.{true, false, cond, true≢false}
 use mathlib.Core.List.{List, ◌++◌}
 use mathlib.Core.Logic.{by_cases}
@@ -15,10 +15,7 @@ use Rattle.schedule.specs.declared.Recorder.{Recorder}
 use Rattle.schedule.specs.Quantities.{jobs}
 use Rattle.schedule.specs.Listing.{start}
 use Rattle.planner.specs.Promises.{success, refusal_at}
-use Rattle.mend.specs.declared.settling.Settled.{Settled}
-use Rattle.mend.specs.Mending.{Mends, moves, numbers}
-use Rattle.mend.specs.inside.Settling as S
-use Rattle.mend.specs.inside.Settling.{Settles}
+use Rattle.mend.specs.Mending.{Mends, ComesOut, FirstLate, moves, numbers}
 use Rattle.mend.specs.Promises as P
 use Rattle.mend.specs.Promises.{Lent, lending, Room, MendOf}
 use Rattle.mend.proofs.Outcome.{late_none}
@@ -34,9 +31,8 @@ lacks_not n s m e =
     (λ h. let l : n ≤ s = omega arith in (l, ltb-false m (3 * n) (rw (le-ltb s n l) at e)))
 
 module _ (given : List ℕ) (lent : Lent) (R : Recorder) (e : length given ≡ jobs R) (room : Room R lent) where
-  pub settled_late : (x : Settled) → Settles R given x → x.late ≡ true → MendOf given lent R (refusal_at 17 x.job.0) lent
-  settled_late x (S.Settles.late out f) q = P.MendOf.late e room (late_none R given out f) out f
-  settled_late x (S.Settles.done m) q = absurd (true≢false (sym q))
+  pub settled_late : {s : List ℕ} {j : ℕ} → ComesOut R given s → FirstLate R s j → MendOf given lent R (refusal_at 17 j) lent
+  settled_late out f = P.MendOf.late e room (late_none R given out f) out f
 
   -- The starts stand in front of an array, and are written from there.
   abbrev written : List ℕ → ℕ → Lent
@@ -54,7 +50,6 @@ module _ (given : List ℕ) (lent : Lent) (R : Recorder) (e : length given ≡ j
       (P.MendOf.mended e room m)
 
   pub settled_given :
-      (x : Settled) → Settles R given x → x.late ≡ false
-      → MendOf given lent R (success R.horizon 0 (length (moves given x.starts (jobs R)))) (written x.starts (jobs R))
-  settled_given x (S.Settles.late out f) q = absurd (true≢false q)
-  settled_given x (S.Settles.done {s = s} m) q = mends_given s m
+      (new : List ℕ) (s : List ℕ) → Mends R given s → new ≡ padded 16 0 s
+      → MendOf given lent R (success R.horizon 0 (length (moves given new (jobs R)))) (written new (jobs R))
+  settled_given new s m q = rw q (mends_given s m)

@@ -20,10 +20,7 @@ fn lacks_room(jobs: usize, starts: usize, moved: usize) -> bool
     requires { jobs ≤ 16 }
     ensures { result ≡ cond (ltb starts jobs) true (ltb moved (3 * jobs)) }
 {
-    if starts < jobs {
-        return true;
-    }
-    moved < 3 * jobs
+    starts < jobs || moved < 3 * jobs
 }
 
 // The start times of a recorder, mended.
@@ -38,11 +35,10 @@ fn mend_recorder(r: Recorder, given: &[u16], starts: &mut [u16], moved: &mut [u1
     if lacks_room(n, starts.len(), moved.len()) {
         return refusal(15);
     }
-    let settled = settle(r, given);
-    if settled.late {
-        return refusal_at(17, settled.job);
-    }
-    let new = settled.starts;
+    let new = match settle(r, given) {
+        Ok(new) => new,
+        Err(late) => return refusal_at(17, late),
+    };
     write_starts(new, n, starts);
     let count = list_moves(given, new, moved);
     success(r.horizon, 0, count as u32)

@@ -12,11 +12,7 @@ pub fn write_starts(new: [u16; 16], n: usize, starts: &mut [u16])
     requires { (n ≤ 16) × (n ≤ length starts.old) }
     ensures { starts.new ≡ up_to (start new) n ++ drop n starts.old }
 {
-    let mut j = 0;
-    while j < n {
-        starts[j] = new[j];
-        j += 1;
-    }
+    starts[..n].copy_from_slice(&new[..n]);
 }
 
 // Lists a job after `count` others if it moved, and says how many there are then.
@@ -42,10 +38,8 @@ pub fn list_moves(given: &[u16], new: [u16; 16], moved: &mut [u16]) -> usize
     ensures list { moved.new ≡ numbers (moves given.now new (length given.now)) ++ drop (3 * length (moves given.now new (length given.now))) moved.old }
 {
     let mut count = 0;
-    let mut job = 0;
-    while job < given.len() {
+    for job in 0..given.len() {
         count = list_move(JobNumber(job), given[job], new[job], count, moved);
-        job += 1;
     }
     count
 }

@@ -1,68 +1,82 @@
-// The answers, each made in one place.
+// What the operations give: figures, or a refusal. The reasons of the parts become refusals by `?`.
 ghost use Rattle.std.specs.Prelude.{◌≡◌};
-ghost use Rattle.planner.specs.Promises as Promises;
-ghost use Rattle.planner.specs.inside.Found.{answer_in};
+ghost use Rattle.planner.specs.Answers.{answered, plain, placed, unfound};
 
 use crate::Answer;
-use base::JobNumber;
-use visit::{Found, Unfound};
+use base::{JobNumber, Reason};
+use schedule::Misplaced;
+use visit::Unfound;
 
-pub fn success(horizon: u16, energy: u32, count: u32) -> Answer
-    ensures { result ≡ Promises.success horizon energy count }
-{
-    Answer {
-        number: 0,
-        job: JobNumber(0),
-        horizon,
-        energy,
-        count,
+// The horizon, and the energy and the count where the operation has them to give.
+#[derive(Clone, Copy, PartialEq, Eq)]
+pub struct Figures {
+    pub horizon: u16,
+    pub energy: u32,
+    pub count: u32,
+}
+
+// Why an operation refuses, with the job at fault or the count of a search where the reason has one.
+#[derive(Clone, Copy, PartialEq, Eq)]
+pub struct Refusal {
+    pub reason: Reason,
+    pub job: JobNumber,
+    pub count: u32,
+}
+
+impl From<Reason> for Refusal {
+    ghost from_gives = { λ e r. r ≡ plain e };
+
+    fn from(reason: Reason) -> Refusal {
+        Refusal {
+            reason,
+            job: JobNumber(0),
+            count: 0,
+        }
     }
 }
 
-pub fn refusal(number: u8) -> Answer
-    ensures { result ≡ Promises.refusal number }
-{
-    Answer {
-        number,
-        job: JobNumber(0),
-        horizon: 0,
-        energy: 0,
-        count: 0,
+impl From<Misplaced> for Refusal {
+    ghost from_gives = { λ m r. r ≡ placed m };
+
+    fn from(fault: Misplaced) -> Refusal {
+        Refusal {
+            reason: fault.reason,
+            job: fault.job,
+            count: 0,
+        }
     }
 }
 
-// A refusal of start times, with the job at fault.
-pub fn refusal_at(number: u8, job: JobNumber) -> Answer
-    ensures { result ≡ Promises.refusal_at number job.0 }
-{
-    Answer {
-        number,
-        job,
-        horizon: 0,
-        energy: 0,
-        count: 0,
+impl From<Unfound> for Refusal {
+    ghost from_gives = { λ u r. r ≡ unfound u };
+
+    fn from(stop: Unfound) -> Refusal {
+        Refusal {
+            reason: stop.reason,
+            job: JobNumber(0),
+            count: stop.count,
+        }
     }
 }
 
-// A refusal of the search, with its count.
-pub fn refusal_after(number: u8, count: u32) -> Answer
-    ensures { result ≡ Promises.refusal_after number count }
+// The answer as numbers, as C is told it.
+pub fn told(outcome: Result<Figures, Refusal>) -> Answer
+    ensures { result ≡ answered outcome }
 {
-    Answer {
-        number,
-        job: JobNumber(0),
-        horizon: 0,
-        energy: 0,
-        count,
-    }
-}
-
-// The answer of a search, by what it found.
-pub fn answer_of(horizon: u16, found: Result<Found, Unfound>) -> Answer
-    ensures { result ≡ answer_in horizon found }
-{
-    match found {
-        Ok(f) => success(horizon, f.energy, f.count),
-        Err(f) => refusal_after(f.reason.number(), f.count),
+    match outcome {
+        Ok(figures) => Answer {
+            number: 0,
+            job: JobNumber(0),
+            horizon: figures.horizon,
+            energy: figures.energy,
+            count: figures.count,
+        },
+        Err(refusal) => Answer {
+            number: refusal.reason.number(),
+            job: refusal.job,
+            horizon: 0,
+            energy: 0,
+            count: refusal.count,
+        },
     }
 }

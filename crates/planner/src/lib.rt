@@ -3,20 +3,21 @@
 #![tactic(auto)]
 
 ghost use Rattle.std.specs.Prelude.{◌<◌};
+ghost use Rattle.planner.specs.Answers.{answered};
 ghost use Rattle.planner.specs.Promises.{Checked, Sized, Margined, Judged, Rowed, Searched, KeptUnless, Written, TablesGiven};
 
 use crate::recorders::sizes_of;
-use base::{JobNumber, copy};
+use base::{JobNumber, Reason};
 use request::{read, read_by};
-use tables::{Tables, file_of, no_tables, tables_in};
+use tables::{Tables, file_of, tables_in};
 
-mod answers; // answers.rt: the answers, each made in one place
+mod answers; // answers.rt: what the operations give
 mod recorders; // recorders.rt: the operations on a recorder, once its file is read
 
-pub use crate::answers::{answer_of, refusal, refusal_after, refusal_at, success};
+pub use crate::answers::{Figures, Refusal, told};
 pub use crate::recorders::{margins_of, rows_of, search_in_of, search_of, verdict_of};
 
-// What every operation answers: 0 or the number of its refusal, and what the operation works out; 0 elsewhere.
+// An answer as numbers, for C: 0 or the number of its refusal, and what the operation works out; 0 elsewhere.
 #[derive(Clone, Copy)]
 pub struct Answer {
     pub number: u8,
@@ -26,126 +27,103 @@ pub struct Answer {
     pub count: u32,
 }
 
-// The tables of a file, with the answer of the reading: none with a refusal.
+// The tables of a file, and its horizon.
 #[derive(Clone, Copy)]
 pub struct FileTables {
-    pub answer: Answer,
+    pub horizon: u16,
     pub tables: Tables,
 }
 
 // Whether the file is accepted, and its horizon.
-pub fn check(file: &[u8]) -> Answer
-    ensures { Checked file.now result }
+pub fn check(file: &[u8]) -> Result<Figures, Refusal>
+    ensures { Checked file.now (answered result) }
 {
-    let request = read(file);
-    if request.number != 0 {
-        return refusal(request.number);
-    }
-    success(request.recorder.horizon, 0, 0)
+    let recorder = read(file)?;
+    Ok(Figures {
+        horizon: recorder.horizon,
+        energy: 0,
+        count: 0,
+    })
 }
 
 // Writes how many devices, tasks and jobs the request has, a byte each: of jobs all that are planned, those that tasks release too.
-pub fn sizes(file: &[u8], out: &mut [u8]) -> Answer
-    ensures { Sized file.now out.old result out.new }
+pub fn sizes(file: &[u8], out: &mut [u8]) -> Result<Figures, Refusal>
+    ensures { Sized file.now out.old (answered result) out.new }
 {
-    let request = read(file);
-    if request.number != 0 {
-        return refusal(request.number);
-    }
+    let recorder = read(file)?;
     let tables = tables_in(file);
-    sizes_of(request.recorder, tables.tasks.count, out)
+    sizes_of(recorder, tables.tasks.count, out)
 }
 
 // Writes the margin of each job, for any start times.
-pub fn margins(file: &[u8], starts: &[u16], out: &mut [i32]) -> Answer
-    ensures { Margined file.now starts.now out.old result out.new }
+pub fn margins(file: &[u8], starts: &[u16], out: &mut [i32]) -> Result<Figures, Refusal>
+    ensures { Margined file.now starts.now out.old (answered result) out.new }
 {
-    let request = read(file);
-    if request.number != 0 {
-        return refusal(request.number);
-    }
-    margins_of(request.recorder, starts, out)
+    margins_of(read(file)?, starts, out)
 }
 
 // Whether the start times are feasible, with the plan's energy; or their first fault.
-pub fn verdict(file: &[u8], starts: &[u16]) -> Answer
-    ensures { Judged file.now starts.now result }
+pub fn verdict(file: &[u8], starts: &[u16]) -> Result<Figures, Refusal>
+    ensures { Judged file.now starts.now (answered result) }
 {
-    let request = read(file);
-    if request.number != 0 {
-        return refusal(request.number);
-    }
-    verdict_of(request.recorder, starts)
+    verdict_of(read(file)?, starts)
 }
 
 // Writes the row of every device, the legal row of least energy, for feasible start times.
-pub fn rows(file: &[u8], starts: &[u16], out: &mut [u8]) -> Answer
-    ensures { Rowed file.now starts.now out.old result out.new }
+pub fn rows(file: &[u8], starts: &[u16], out: &mut [u8]) -> Result<Figures, Refusal>
+    ensures { Rowed file.now starts.now out.old (answered result) out.new }
 {
-    let request = read(file);
-    if request.number != 0 {
-        return refusal(request.number);
-    }
-    rows_of(request.recorder, starts, out)
+    rows_of(read(file)?, starts, out)
 }
 
 // Writes the start times of the first of the least-energy schedules that meet all deadlines, if the budget covers the vertices of the search.
-pub fn search(file: &[u8], budget: u32, starts: &mut [u16]) -> Answer
-    ensures { Searched file.now budget starts.old result starts.new }
+pub fn search(file: &[u8], budget: u32, starts: &mut [u16]) -> Result<Figures, Refusal>
+    ensures { Searched file.now budget starts.old (answered result) starts.new }
 {
-    let request = read(file);
-    if request.number != 0 {
-        return refusal(request.number);
-    }
-    search_of(request.recorder, budget, starts)
+    search_of(read(file)?, budget, starts)
 }
 
 // The same with a memory that the caller lends, of any length and whatever it holds: the more, the faster. It is written to only where more than 256 vertices are
 // counted.
-pub fn search_in(file: &[u8], budget: u32, memory: &mut [u64], starts: &mut [u16]) -> Answer
-    ensures planned { Searched file.now budget starts.old result starts.new }
-    ensures lent { KeptUnless (256 < result.count) memory.old memory.new }
+pub fn search_in(
+    file: &[u8],
+    budget: u32,
+    memory: &mut [u64],
+    starts: &mut [u16],
+) -> Result<Figures, Refusal>
+    ensures planned { Searched file.now budget starts.old (answered result) starts.new }
+    ensures lent { KeptUnless (256 < (answered result).count) memory.old memory.new }
 {
-    let request = read(file);
-    if request.number != 0 {
-        return refusal(request.number);
-    }
-    search_in_of(request.recorder, budget, memory, starts)
+    search_in_of(read(file)?, budget, memory, starts)
 }
 
 // Writes the request file that the tables make, if the reader accepts it.
-pub fn write(given: Tables, out: &mut [u8]) -> Answer
-    ensures { Written given out.old result out.new }
+pub fn write(given: Tables, out: &mut [u8]) -> Result<Figures, Refusal>
+    ensures { Written given out.old (answered result) out.new }
 {
     let file = file_of(given);
     let n = file.count;
     let bytes = file.bytes;
     let kind = given.kind;
-    let request = read_by(&bytes[..n], kind);
-    let number = request.number;
-    if number != 0 {
-        return refusal(number);
-    }
+    let recorder = read_by(&bytes[..n], kind)?;
     if out.len() < n {
-        return refusal(15);
+        return Err(Refusal::from(Reason::NoRoom));
     }
-    copy(&bytes[..n], out);
-    success(request.recorder.horizon, 0, n as u32)
+    out[..n].copy_from_slice(&bytes[..n]);
+    Ok(Figures {
+        horizon: recorder.horizon,
+        energy: 0,
+        count: n as u32,
+    })
 }
 
 // The tables of a file.
-pub fn tables_of(file: &[u8]) -> FileTables
+pub fn tables_of(file: &[u8]) -> Result<FileTables, Refusal>
     ensures { TablesGiven file.now result }
 {
-    let request = read(file);
-    if request.number != 0 {
-        return FileTables {
-            answer: refusal(request.number),
-            tables: no_tables(),
-        };
-    }
-    FileTables {
-        answer: success(request.recorder.horizon, 0, 0),
+    let recorder = read(file)?;
+    Ok(FileTables {
+        horizon: recorder.horizon,
         tables: tables_in(file),
-    }
+    })
 }

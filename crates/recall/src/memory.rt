@@ -63,7 +63,8 @@ pub fn look(memory: &[u64], q: Key) -> Spot
 
 // Writes entry i, if there is room for it.
 pub fn keep(memory: &mut [u64], i: usize, q: Key, count: u32)
-    ensures { memory.new ≡ kept memory.old i q count }
+    ensures few { count < 4294967296 }
+    ensures written { memory.new ≡ kept memory.old i q count }
 {
     if i < memory.len() / 6 {
         let at = 6 * i;

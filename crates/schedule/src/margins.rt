@@ -21,10 +21,8 @@ pub fn write_margins(r: Recorder, starts: &[u16], out: &mut [i32])
     ensures { out.new ≡ up_to (margin r starts.now) (jobs r) ++ drop (jobs r) out.old }
 {
     let jobs = r.jobs;
-    let mut j = 0;
-    while j < jobs.count {
+    for j in 0..jobs.count {
         let job = jobs.list[j];
         out[j] = margin_of(job.deadline, starts[j], job.run);
-        j += 1;
     }
 }

@@ -17,11 +17,9 @@ pub fn plan_energy(r: Recorder, starts: &[u16]) -> u32
     let devices = r.devices;
     let order = running_order(starts);
     let mut sum: u32 = 0;
-    let mut k = 0;
-    while k < devices.count {
+    for k in 0..devices.count {
         let uses = uses_of(r, starts, order, k);
         sum += energy_of(r.round, devices.list[k], r.horizon, uses);
-        k += 1;
     }
     sum
 }
@@ -37,8 +35,7 @@ pub fn write_rows(r: Recorder, starts: &[u16], out: &mut [u8]) -> u32
     let h = r.horizon as usize;
     let order = running_order(starts);
     let mut sum: u32 = 0;
-    let mut k = 0;
-    while k < devices.count {
+    for k in 0..devices.count {
         let uses = uses_of(r, starts, order, k);
         sum += energy_of(r.round, devices.list[k], r.horizon, uses);
         let at = k * h;
@@ -50,7 +47,6 @@ pub fn write_rows(r: Recorder, starts: &[u16], out: &mut [u8]) -> u32
             uses,
             &mut out[at..],
         );
-        k += 1;
     }
     sum
 }

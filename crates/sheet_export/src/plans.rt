@@ -7,7 +7,7 @@ ghost use Rattle.sheet_export.specs.inside.Margins.{Spare};
 
 use planner::{Answer, margins, verdict};
 use sheet::give;
-use text::put_three;
+use text::put_line;
 
 // A margin of feasible starts.
 fn spare_of(margin: i32) -> u16
@@ -22,12 +22,9 @@ fn put_plan_lines(out: &mut [u8], starts: &[u16], margins: &[i32]) -> usize
     requires { (length starts.now ≤ 16) × (length margins.now ≡ 16) × (length out.old ≡ 304) × ((j : ℕ) → Spare (get_or margins.now j (pos 0))) }
     ensures { (result ≤ 304) × Put (plan_text starts.now (map nat_abs margins.now)) 0 out.old result out.new }
 {
-    let count = starts.len();
     let mut at = 0;
-    let mut j = 0;
-    while j < count {
-        at = put_three(out, at, j as u16, starts[j], spare_of(margins[j]));
-        j += 1;
+    for (j, start) in starts.iter().enumerate() {
+        at = put_line(out, at, &[j as u16, *start, spare_of(margins[j])]);
     }
     at
 }

@@ -9,7 +9,7 @@ ghost use Rattle.sheet_export.specs.inside.Printing.{part_text, record_text};
 
 use catalogue::signs_of;
 use tables::{first_at, job_at};
-use text::{put_byte, put_bytes, put_four};
+use text::{put_byte, put_bytes, put_line};
 
 // A part number in quotes, without its padding, and a comma.
 fn put_quoted(out: &mut [u8], at: usize, number: &[u8]) -> usize
@@ -30,21 +30,17 @@ fn put_part_line(out: &mut [u8], at: usize, part: &[u8]) -> usize
 {
     let next = put_quoted(out, at, &part[..8]);
     let d = first_at(part, 8);
-    put_four(out, next, d.wake as u16, d.pw, d.ps, d.pwake)
+    put_line(out, next, &[u16::from(d.wake), d.pw, d.ps, d.pwake])
 }
 
 pub(crate) fn put_part_lines(out: &mut [u8], catalogue: &[u8]) -> usize
     requires { (unfit (parts_of catalogue.now) ≡ false) × (length out.old ≡ 2304) }
     ensures { (result ≤ 2304) × Put (devices_text (parts_of catalogue.now)) 0 out.old result out.new }
 {
-    let count = catalogue.len() / 15;
     let mut at = 0;
-    let mut k = 0;
-    while k < count {
+    for k in 0..catalogue.len() / 15 {
         let from = 15 * k;
-        let to = from + 15;
-        at = put_part_line(out, at, &catalogue[from..to]);
-        k += 1;
+        at = put_part_line(out, at, &catalogue[from..from + 15]);
     }
     at
 }
@@ -55,21 +51,17 @@ fn put_job_line(out: &mut [u8], at: usize, piece: &[u8]) -> usize
     ensures { Put (record_text piece.now) at out.old result out.new }
 {
     let j = job_at(piece, 0);
-    put_four(out, at, j.release, j.deadline, j.run, j.set as u16)
+    put_line(out, at, &[j.release, j.deadline, j.run, u16::from(j.set)])
 }
 
 pub(crate) fn put_job_lines(out: &mut [u8], records: &[u8]) -> usize
     requires { (length records.now ≤ 112) × (length records.now % 7 ≡ 0) × (length out.old ≡ 400) }
     ensures { (result ≤ 400) × Put (jobs_text (jobs_of (pieces 7 records.now))) 0 out.old result out.new }
 {
-    let count = records.len() / 7;
     let mut at = 0;
-    let mut k = 0;
-    while k < count {
+    for k in 0..records.len() / 7 {
         let from = 7 * k;
-        let to = from + 7;
-        at = put_job_line(out, at, &records[from..to]);
-        k += 1;
+        at = put_job_line(out, at, &records[from..from + 7]);
     }
     at
 }

@@ -2,18 +2,20 @@
 use mathlib.Core.Path.{◌≡◌, refl, sym, ap, ◌∙◌}
 use mathlib.Core.Bool.{Bool, true, false, ◌&&◌}
 use mathlib.Core.List.{List, [], ◌∷◌}
+use Rattle.std.specs.Prelude.{Option, Some, None, Result, Err, ok_or}
+use Rattle.base.specs.Reasons as R
+use Rattle.base.specs.declared.reasons.Reason.{Reason}
+use Rattle.base.specs.declared.reasons.Reason.TheVariants.{StrayQuote}
 use Prim.Native.Nat.{ℕ, zero, suc, ◌+◌, ◌<◌, ◌≤◌}
 use native.Mathlib.Omega.{arith}
 use native.Mathlib.Numerals.{add-one}
 use lib.ListN.{length, drop, get_or}
 use lib.Seq.{drop-cons, drop-drop, get_or-drop}
-use lib.Dec.{leb}
-use borrow.Author.Tests.{le-leb, lt-leb, eq-eqb, ne_eqb}
-use Rattle.base.proofs.Cases.{test_cases}
+use borrow.Author.Tests.{eq-eqb, ne_eqb}
 use Rattle.text.specs.Grammar.{unread}
 use Rattle.text.specs.Numerals.{is_number}
-use Rattle.text.specs.inside.Cursors.{raw_of, counted, number_of}
-use Rattle.text.proofs.Cutting.{count_some, count_read}
+use Rattle.text.specs.inside.Cursors.{raw_of, counted, number_of, fits}
+use Rattle.text.proofs.Cutting.{count_read, count_none}
 use Rattle.text.proofs.Scanning.{number_test}
 use Rattle.sheet.specs.declared.SheetKind.{SheetKind}
 use Rattle.sheet.specs.declared.SheetKind.TheVariants.{Devices, Jobs}
@@ -78,14 +80,14 @@ module _ (r : SheetKind) (fs : List (List ℕ)) (k : ℕ) (h : k < 4) where
       ap (λ (ms : List ℕ). are_numbers ms (drop at fs)) (drop-cons (columns_of r).most k 0 (omega (arith, most_count r)))
       ∙ first_number (get_or (columns_of r).most k 0) (drop (suc k) (columns_of r).most) (drop at fs) ∙ rw (f, rest, add-one k)
 
-  test : leb (number_of (get_or fs ((columns_of r).texts + k) [])) (get_or (columns_of r).most k 0) ≡ is_number (get_or (columns_of r).most k 0) (get_or fs ((columns_of r).texts + k) [])
+  test : fits (get_or (columns_of r).most k 0) (number_of (get_or fs ((columns_of r).texts + k) [])) ≡ is_number (get_or (columns_of r).most k 0) (get_or fs ((columns_of r).texts + k) [])
   test = number_test (get_or (columns_of r).most k 0) (get_or fs ((columns_of r).texts + k) []) (most_small r k h)
 
-  pub number_fails : get_or (columns_of r).most k 0 < number_of (get_or fs ((columns_of r).texts + k) []) → Left k ≡ false
-  number_fails l = next_number ∙ rw (← test, lt-leb (number_of (get_or fs ((columns_of r).texts + k) [])) (get_or (columns_of r).most k 0) l)
+  pub number_fails : fits (get_or (columns_of r).most k 0) (number_of (get_or fs ((columns_of r).texts + k) [])) ≡ false → Left k ≡ false
+  number_fails l = next_number ∙ rw (← test, l)
 
-  pub number_passes : number_of (get_or fs ((columns_of r).texts + k) []) ≤ get_or (columns_of r).most k 0 → Left k ≡ Left (k + 1)
-  number_passes l = next_number ∙ rw (← test, le-leb (number_of (get_or fs ((columns_of r).texts + k) [])) (get_or (columns_of r).most k 0) l)
+  pub number_passes : fits (get_or (columns_of r).most k 0) (number_of (get_or fs ((columns_of r).texts + k) [])) ≡ true → Left k ≡ Left (k + 1)
+  number_passes l = next_number ∙ rw (← test, l)
 
 pub numbers_done : (r : SheetKind) (fs : List (List ℕ)) (k : ℕ) → k ≡ 4 → are_numbers (drop k (columns_of r).most) (drop ((columns_of r).texts + k) fs) ≡ true
 numbers_done Devices fs k e = rw e
@@ -93,28 +95,32 @@ numbers_done Jobs fs k e = rw e
 
 -- ---- a line
 
+pub stray : (o : Option ℕ) (e : Reason) → o ≡ None → Err e ≡ ok_or o StrayQuote → R.number_of e ≡ 27
+stray o e n q =
+    let f : ◌≡◌ {A = Result ℕ Reason} (Err e) (Err StrayQuote) = q ∙ ap (λ x. ok_or x StrayQuote) n in
+    let g : e ≡ StrayQuote = cc in
+    rw g
+
 module _ (r : SheetKind) (l : List ℕ) where
-  pub fault_27 : counted 0 (raw_of l) ≡ 0 → 27 ≡ line_fault r l
-  fault_27 e =
-      let u : unread (raw_of l) ≡ true = test_cases (λ b. b ≡ true) (unread (raw_of l)) (λ q. refl) (λ q. absurd (count_some l q e)) in
-      sym (raw_fault r l ∙ rw u)
+  pub fault_27 : counted 0 (raw_of l) ≡ None → 27 ≡ line_fault r l
+  fault_27 e = sym (raw_fault r l ∙ rw (count_none (raw_of l) e))
 
-  module _ (h : counted 0 (raw_of l) ≡ 0 → ⊥) where
+  module _ (n : ℕ) (h : counted 0 (raw_of l) ≡ Some n) where
     pub counted_read : unread (raw_of l) ≡ false
-    counted_read = (count_read (raw_of l) h).0
+    counted_read = (count_read (raw_of l) n h).0
 
-    pub fault_28 : (counted 0 (raw_of l) ≡ (columns_of r).texts + 4 → ⊥) → 28 ≡ line_fault r l
-    fault_28 n =
-        let c = count_read (raw_of l) h in
-        sym (raw_fault r l ∙ rw (c.0, ne_eqb (length (raw_in l)) ((columns_of r).texts + 4) (λ e. n (c.1 ∙ e))))
+    pub fault_28 : (n ≡ (columns_of r).texts + 4 → ⊥) → 28 ≡ line_fault r l
+    fault_28 m =
+        let c = count_read (raw_of l) n h in
+        sym (raw_fault r l ∙ rw (c.0, ne_eqb (length (raw_in l)) ((columns_of r).texts + 4) (λ e. m (c.1 ∙ e))))
 
-    module _ (e : counted 0 (raw_of l) ≡ (columns_of r).texts + 4) where
+    module _ (e : n ≡ (columns_of r).texts + 4) where
       pub fault_29 : are_numbers (columns_of r).most (drop (columns_of r).texts (raw_in l)) ≡ false → 29 ≡ line_fault r l
-      fault_29 n =
-          let c = count_read (raw_of l) h in
-          sym (raw_fault r l ∙ rw (c.0, eq-eqb (length (raw_in l)) ((columns_of r).texts + 4) (sym c.1 ∙ e), n))
+      fault_29 m =
+          let c = count_read (raw_of l) n h in
+          sym (raw_fault r l ∙ rw (c.0, eq-eqb (length (raw_in l)) ((columns_of r).texts + 4) (sym c.1 ∙ e), m))
 
       pub fault_none : are_numbers (columns_of r).most (drop (columns_of r).texts (raw_in l)) ≡ true → 0 ≡ line_fault r l
-      fault_none n =
-          let c = count_read (raw_of l) h in
-          sym (raw_fault r l ∙ rw (c.0, eq-eqb (length (raw_in l)) ((columns_of r).texts + 4) (sym c.1 ∙ e), n))
+      fault_none m =
+          let c = count_read (raw_of l) n h in
+          sym (raw_fault r l ∙ rw (c.0, eq-eqb (length (raw_in l)) ((columns_of r).texts + 4) (sym c.1 ∙ e), m))

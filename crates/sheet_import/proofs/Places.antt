@@ -1,12 +1,12 @@
 -- The first line at fault, as the walk tells it and as the promise does; and the first unfit part of a table, raw or not.
-use mathlib.Core.Path.{◌≡◌, refl, ap, ◌∙◌}
+use mathlib.Core.Path.{◌≡◌, refl, sym, ap, ◌∙◌}
 use mathlib.Core.Bool.{Bool, true, false, cond}
 use mathlib.Core.List.{List, [], ◌∷◌}
 use Prim.Native.Nat.{ℕ, zero, suc, ◌+◌, ◌<◌, ◌≤◌}
 use native.Mathlib.Omega.{arith}
 use lib.ListN.{length, get_or, take, drop}
 use lib.Dec.{eqb, leb}
-use borrow.Author.Tests.{eqb-false, le-leb, lt-leb, not-true, not-false}
+use borrow.Author.Tests.{eqb-false, ne_eqb, le-leb, lt-leb, not-true, not-false}
 use Rattle.base.specs.Lists.{padded}
 use Rattle.base.proofs.Cases.{test_cases, or_right}
 use Rattle.catalogue.specs.Parts.{space, well_formed, whole, numbers}
@@ -16,8 +16,7 @@ use Rattle.text.specs.inside.Cursors.{raw_of, field_at, line_length, next_line}
 use Rattle.text.proofs.Scanning.{line_first, lines_past}
 use Rattle.sheet.specs.declared.SheetKind.{SheetKind}
 use Rattle.sheet.specs.Sheets.{line_fault, lines_fault}
-use Rattle.sheet_import.specs.declared.LineFault.{LineFault}
-use Rattle.sheet_import.specs.LineFaults.{line_fault_at, faulty_at, SheetFault, line}
+use Rattle.sheet_import.specs.LineFaults.{LineTold, line_fault_at, faulty_at, SheetFault, line}
 use Rattle.sheet_import.specs.inside.Reading.{devices_raw}
 use Rattle.sheet_import.specs.inside.Judging.{first_line}
 
@@ -28,6 +27,13 @@ module _ (r : SheetKind) (k : ℕ) (s : List ℕ) where
       → first_line r k (lines_of s) ≡ cond (eqb (line_fault r (take (line_length s) s)) 0) (first_line r (suc k) (lines_of (drop (next_line s) s))) (line_fault_at (line_fault r (take (line_length s) s)) k)
   unfolding first_line
   walk_step h = ap (first_line r k) (line_first s h)
+
+  -- The first of these lines is at fault, or has none and the others are walked.
+  pub walk_err : (n : ℕ) → 0 < length s → 0 < n → n ≡ line_fault r (take (line_length s) s) → line_fault_at n k ≡ first_line r k (lines_of s)
+  walk_err n h m e = sym (walk_step h ∙ rw (← e, ne_eqb n 0 (λ z. omega (arith, z))))
+
+  pub walk_ok : 0 < length s → 0 ≡ line_fault r (take (line_length s) s) → first_line r k (lines_of s) ≡ first_line r (suc k) (lines_of (drop (next_line s) s))
+  walk_ok h e = walk_step h ∙ rw (← e)
 
 pub walk_done : (r : SheetKind) (k : ℕ) (s : List ℕ) (i : ℕ) → i ≡ length s → first_line r k (lines_of (drop i s)) ≡ line_fault_at 0 0
 unfolding first_line
@@ -90,7 +96,7 @@ module _ (r : SheetKind) where
       let p = first_fault ls k (first_sooner f) (omega arith) in
       (rw e p.0, p.1)
 
-  pub walk_told : (text : List ℕ) (Table : LineFault → Type 0) → (lines_fault r (lines_of text) ≡ 0 → ⊥) → SheetFault r text Table (first_line r 0 (lines_of text))
+  pub walk_told : (text : List ℕ) (Table : LineTold → Type 0) → (lines_fault r (lines_of text) ≡ 0 → ⊥) → SheetFault r text Table (first_line r 0 (lines_of text))
   walk_told text Table n =
       let f = walk_first 0 (lines_of text) n in
       let z : 0 + f.0 ≡ f.0 = omega arith in

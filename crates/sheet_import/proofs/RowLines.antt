@@ -2,12 +2,13 @@
 use mathlib.Core.Path.{◌≡◌, refl}
 use mathlib.Core.Bool.{true, ◌&&◌}
 use mathlib.Core.List.{List}
+use Rattle.std.specs.Prelude.{Some}
 use Prim.Native.Nat.{ℕ, ◌+◌, ◌*◌, ◌<◌, ◌≤◌}
 use native.Mathlib.Omega.{arith}
 use native.Mathlib.Nat.{add-mul, one-mul, mul-le-mul_right}
 use lib.ListN.{length, length-append}
 use lib.Dec.{leb, ltb}
-use borrow.Author.Tests.{leb-true}
+use borrow.Author.Tests.{leb-true, le-leb}
 use Rattle.base.specs.Lists.{padded, all}
 use Rattle.base.proofs.Cases.{both}
 use Rattle.catalogue.specs.Parts.{space}
@@ -23,12 +24,13 @@ use Rattle.sheet_import.specs.inside.RowBytes.{row_bytes, row_size, Ready}
 -- ---- fields
 
 -- A field that is a number counts as its value, which keeps its bound.
-pub number_is : (m : ℕ) (f : List ℕ) → m < 65536 → is_number m f ≡ true → (number_of f ≡ value_of f) × (number_of f ≤ m)
+pub number_is : (m : ℕ) (f : List ℕ) → m < 65536 → is_number m f ≡ true → (number_of f ≡ Some (value_of f)) × (value_of f ≤ m) × (is_number 65535 f ≡ true)
 number_is m f h e =
     let v = number_value m f h e in
     let p = both (ltb 0 (length f)) (all digit f && leb (value_of f) m) e in
     let q = both (all digit f) (leb (value_of f) m) p.1 in
-    (v, omega (arith, leb-true (value_of f) m q.1))
+    let few = leb-true (value_of f) m q.1 in
+    (v, few, rw (p.0, q.0, le-leb (value_of f) 65535 (omega arith)))
 
 -- ---- rows
 

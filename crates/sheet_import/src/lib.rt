@@ -6,6 +6,7 @@ ghost use Rattle.sheet.specs.Promises.{ImportedDevices, ImportedJobs};
 
 use crate::judging::put_devices;
 use crate::reading::put_rows;
+use base::Reason;
 use planner::{Answer, refusal};
 use sheet::{SheetKind, give};
 use text::count_lines;
@@ -17,10 +18,10 @@ mod reading; // reading.rt: the rows of a text, as bytes
 
 pub use crate::judging::{devices_fault, jobs_fault};
 
-// The number of what refuses a sheet, 0 for none, and the line, counted from 0.
-#[derive(Clone, Copy)]
+// What refuses a sheet, and the line, counted from 0.
+#[derive(Clone, Copy, PartialEq, Eq)]
 pub struct LineFault {
-    pub number: u8,
+    pub reason: Reason,
     pub line: usize,
 }
 
@@ -29,9 +30,8 @@ pub fn import_devices(text: &[u8], out: &mut [u8]) -> Answer
     ensures { ImportedDevices text.now out.old result out.new }
 {
     let mut own = [0u8; 960];
-    let fault = put_devices(text, &mut own);
-    if fault.number != 0 {
-        return refusal(fault.number);
+    if let Err(fault) = put_devices(text, &mut own) {
+        return refusal(fault.reason.number());
     }
     let lines = count_lines(text);
     let size = lines * 15;
@@ -42,9 +42,8 @@ pub fn import_devices(text: &[u8], out: &mut [u8]) -> Answer
 pub fn import_jobs(text: &[u8], out: &mut [u8]) -> Answer
     ensures { ImportedJobs text.now out.old result out.new }
 {
-    let fault = jobs_fault(text);
-    if fault.number != 0 {
-        return refusal(fault.number);
+    if let Err(fault) = jobs_fault(text) {
+        return refusal(fault.reason.number());
     }
     let lines = count_lines(text);
     let size = lines * 7;

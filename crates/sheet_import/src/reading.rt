@@ -21,14 +21,14 @@ fn number_at(line: &[u8], i: usize) -> u16
     requires { (unread (raw_of line.now) ≡ false) × (is_number 65535 (field_at (raw_of line.now) i) ≡ true) }
     ensures { result ≡ value_of (field_at (raw_of line.now) i) }
 {
-    number_of(field(line, i)) as u16
+    number_of(field(line, i)).unwrap()
 }
 
 fn byte_at(line: &[u8], i: usize) -> u8
     requires { (unread (raw_of line.now) ≡ false) × (is_number 255 (field_at (raw_of line.now) i) ≡ true) }
     ensures { result ≡ value_of (field_at (raw_of line.now) i) }
 {
-    number_of(field(line, i)) as u8
+    number_at(line, i) as u8
 }
 
 // ---- devices
@@ -89,9 +89,7 @@ pub(crate) fn put_rows(out: &mut [u8], text: &[u8], lines: usize, rows: SheetKin
     ensures { Put (in_row (map (row_bytes rows) (lines_of text.now))) 0 out.old (lines * row_size rows) out.new }
 {
     let mut at = 0;
-    let mut k = 0;
-    while k < lines {
+    for k in 0..lines {
         at = put_row(out, at, line(text, k), rows);
-        k += 1;
     }
 }

@@ -15,36 +15,21 @@ fn has_room(t: u8, pause: u16) -> bool
 fn falls_at_start(t: u8, this: bool, next: bool, pause: u16) -> bool
     ensures { result ≡ (not this && (not next || leb t pause)) }
 {
-    if this {
-        return false;
-    }
-    if next {
-        return has_room(t, pause);
-    }
-    true
+    !this && (!next || has_room(t, pause))
 }
 
 // Whether a sleeping device comes up at a start.
 fn rises_at_start(t: u8, next: bool, pause: u16) -> bool
     ensures { result ≡ (next && ltb pause t) }
 {
-    if next {
-        return pause < t as u16;
-    }
-    false
+    next && pause < t as u16
 }
 
 // Whether a working device goes down at a completion.
 fn falls_at_end(t: u8, this: bool, next: bool, pause: u16) -> bool
     ensures { result ≡ (this && (not next && leb t pause)) }
 {
-    if this {
-        if next {
-            return false;
-        }
-        return has_room(t, pause);
-    }
-    false
+    this && !next && has_room(t, pause)
 }
 
 // The state after a start.
@@ -52,22 +37,9 @@ pub fn start_state(t: u8, this: bool, next: bool, pause: u16, st: State) -> Stat
     ensures { result ≡ at_start t this next pause st }
 {
     match st {
-        State::Working => {
-            if falls_at_start(t, this, next, pause) {
-                State::Down(t)
-            } else {
-                State::Working
-            }
-        }
-        State::Asleep => {
-            if rises_at_start(t, next, pause) {
-                State::Up(t)
-            } else {
-                State::Asleep
-            }
-        }
-        State::Down(left) => State::Down(left),
-        State::Up(left) => State::Up(left),
+        State::Working if falls_at_start(t, this, next, pause) => State::Down(t),
+        State::Asleep if rises_at_start(t, next, pause) => State::Up(t),
+        _ => st,
     }
 }
 
@@ -76,15 +48,8 @@ pub fn end_state(t: u8, this: bool, next: bool, pause: u16, st: State) -> State
     ensures { result ≡ at_end t this next pause st }
 {
     match st {
-        State::Working => {
-            if falls_at_end(t, this, next, pause) {
-                State::Down(t)
-            } else {
-                State::Working
-            }
-        }
-        State::Asleep => { if next { State::Up(t) } else { State::Asleep } }
-        State::Down(left) => State::Down(left),
-        State::Up(left) => State::Up(left),
+        State::Working if falls_at_end(t, this, next, pause) => State::Down(t),
+        State::Asleep if next => State::Up(t),
+        _ => st,
     }
 }

@@ -14,12 +14,9 @@ pub fn pass_fitting(d: Device, n: u16, x: Stepped) -> Stepped
     requires { Sound d × ((pass_over d n x).energy < 4294967296) }
     ensures { result ≡ pass_over d n x }
 {
-    let st = x.state;
-    let spent = x.energy + energy_ticks(d, n, st);
-    let now = after_ticks(n, st);
     Stepped {
-        state: now,
-        energy: spent,
+        state: after_ticks(n, x.state),
+        energy: x.energy + energy_ticks(d, n, x.state),
     }
 }
 
@@ -35,11 +32,9 @@ pub fn pass(d: Device, n: u16, x: Stepped) -> Stepped
 pub fn on_start(d: Device, this: bool, next: bool, pause: u16, x: Stepped) -> Stepped
     ensures { result ≡ ruled_to at_start d this next pause x }
 {
-    let st = x.state;
-    let now = start_state(d.shut, this, next, pause, st);
     Stepped {
-        state: now,
-        energy: x.energy,
+        state: start_state(d.shut, this, next, pause, x.state),
+        ..x
     }
 }
 
@@ -47,11 +42,9 @@ pub fn on_start(d: Device, this: bool, next: bool, pause: u16, x: Stepped) -> St
 pub fn on_end(d: Device, this: bool, next: bool, pause: u16, x: Stepped) -> Stepped
     ensures { result ≡ ruled_to at_end d this next pause x }
 {
-    let st = x.state;
-    let now = end_state(d.shut, this, next, pause, st);
     Stepped {
-        state: now,
-        energy: x.energy,
+        state: end_state(d.shut, this, next, pause, x.state),
+        ..x
     }
 }
 
@@ -79,10 +72,7 @@ fn next_begin(h: u16, o: Order, j: usize) -> u16
     requires { o.count ≤ 16 }
     ensures { result ≡ next_begin h o j }
 {
-    if j < o.count {
-        return o.begins[j];
-    }
-    h
+    if j < o.count { o.begins[j] } else { h }
 }
 
 // Whether job j uses the device: not where there is none.
@@ -90,10 +80,7 @@ fn next_use(o: Order, j: usize) -> bool
     requires { o.count ≤ 16 }
     ensures { result ≡ next_use o j }
 {
-    if j < o.count {
-        return o.uses[j];
-    }
-    false
+    j < o.count && o.uses[j]
 }
 
 // The device over h ticks.
@@ -106,8 +93,7 @@ pub fn run(d: Device, h: u16, o: Order) -> Stepped
         energy: 0,
     };
     let mut at: u16 = 0;
-    let mut i = 0;
-    while i < o.count {
+    for i in 0..o.count {
         let begin = o.begins[i];
         let end = o.ends[i];
         let next = next_begin(h, o, i + 1);
@@ -121,7 +107,6 @@ pub fn run(d: Device, h: u16, o: Order) -> Stepped
             x,
         );
         at = end;
-        i += 1;
     }
     pass(d, h - at, x)
 }

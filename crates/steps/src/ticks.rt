@@ -14,24 +14,11 @@ pub fn after_ticks(n: u16, st: State) -> State
         return st;
     }
     match st {
-        State::Working => State::Working,
-        State::Asleep => State::Asleep,
-        State::Down(left) => {
-            let l = left as u16;
-            if l <= n {
-                State::Asleep
-            } else {
-                State::Down((l - n) as u8)
-            }
-        }
-        State::Up(left) => {
-            let l = left as u16;
-            if l <= n {
-                State::Working
-            } else {
-                State::Up((l - n) as u8)
-            }
-        }
+        State::Working | State::Asleep => st,
+        State::Down(left) if left as u16 <= n => State::Asleep,
+        State::Down(left) => State::Down((left as u16 - n) as u8),
+        State::Up(left) if left as u16 <= n => State::Working,
+        State::Up(left) => State::Up((left as u16 - n) as u8),
     }
 }
 
@@ -39,12 +26,8 @@ pub fn after_ticks(n: u16, st: State) -> State
 fn moving_energy(n: u16, left: u8, p0: u16, p: u16) -> u32
     ensures { result ≡ p0 * min left n + p * (n - left) }
 {
-    let l = left as u32;
-    let m = n as u32;
-    if m <= l {
-        return p0 as u32 * m;
-    }
-    p0 as u32 * l + p as u32 * (m - l)
+    let moved = n.min(left as u16);
+    p0 as u32 * moved as u32 + p as u32 * (n - moved) as u32
 }
 
 // The energy of n ticks.

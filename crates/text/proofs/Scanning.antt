@@ -11,6 +11,7 @@ use lib.Seq.{drop-cons, drop-length, drop-drop, get_or-drop}
 use lib.Dec.{eqb, leb, ltb}
 use borrow.Author.Tests.{leb-true, leb-false, le-leb, lt-leb, lt-ltb, le-ltb, ltb-true, ltb-false}
 use Rattle.base.proofs.Cases.{cond_cases, test_cases, both, and_right}
+use Rattle.base.proofs.Pieces.{part_rest}
 use Rattle.base.specs.Lists.{all}
 use Rattle.text.specs.Grammar.{cr, lf, onto, lines_of}
 use Rattle.text.specs.Numerals.{digit, value_from, value_of, is_number}
@@ -93,6 +94,13 @@ pub next_within : (s : List ℕ) → next_line s ≤ length s
 next_within s =
     cond_cases (λ (n : ℕ). n ≤ length s) (ltb (line_length s) (length s)) (λ e. line_broken s (ltb-true (line_length s) (length s) e)) (λ e. line_within s)
 
+-- From a place on, as a part of a slice has it: where the line ends, and where the next one begins.
+module _ (s : List ℕ) (at n : ℕ) where
+  pub line_ends : at ≤ length s → n ≡ line_length (take (length s - at) (drop at s)) → (n ≡ line_length (drop at s)) × (at + n ≤ length s)
+  line_ends h e =
+      let end = e ∙ ap line_length (part_rest s at) in
+      (end, omega (arith, end, line_within (drop at s), length-drop at s))
+
 next_drop : (s : List ℕ) → drop (next_line s) s ≡ drop (line_length s + 2) s
 next_drop s =
     cond_cases (λ (n : ℕ). drop n s ≡ drop (line_length s + 2) s) (ltb (line_length s) (length s)) (λ e. refl)
@@ -102,6 +110,13 @@ next_drop s =
 pub next_some : (s : List ℕ) → 0 < length s → 0 < next_line s
 next_some s h =
     cond_cases (λ (n : ℕ). 0 < n) (ltb (line_length s) (length s)) (λ e. omega arith) (λ e. omega (arith, ltb-false (line_length s) (length s) e))
+
+pub line_begins : (s : List ℕ) (at n : ℕ) → at < length s → n ≡ next_line (take (length s - at) (drop at s))
+    → (n ≡ next_line (drop at s)) × (0 < n) × (at + n ≤ length s)
+line_begins s at n h e =
+    let next = e ∙ ap next_line (part_rest s at) in
+    let long = length-drop at s in
+    (next, omega (arith, next, next_some (drop at s) (omega arith)), omega (arith, next, next_within (drop at s)))
 
 -- The first line, and those from the next one on.
 pub line_first : (s : List ℕ) → 0 < length s → lines_of s ≡ take (line_length s) s ∷ lines_of (drop (next_line s) s)

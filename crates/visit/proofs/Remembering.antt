@@ -8,6 +8,8 @@ use native.Mathlib.Omega.{arith}
 use lib.ListN.{get_or, set, length, length-set}
 use lib.Seq.{get_or-set_same, get_or-set_other}
 use borrow.Author.Tests.{eq-eqb, ne_eqb}
+use Rattle.std.specs.Prelude.{Some}
+use Rattle.std.proofs.lemmas.Option.{MatchOption-at_some}
 use Rattle.schedule.specs.declared.Recorder.{Recorder}
 use Rattle.schedule.specs.Visiting.{Vertex, Visited, choices, visit}
 use Rattle.extras.specs.inside.Tabled.{cap_at}
@@ -92,9 +94,9 @@ module _ (R : Recorder) where
     -- What is remembered comes.
     pub asked_comes :
         (ex l : List ℕ) (a from time : ℕ) (asked : Asked) (tally : List ℕ) → Asks R (cap_at ex) l a time (slack_by (energy_at tally) from) asked → from < energy_at tally
-        → 0 < asked.count → (m : ℕ) (u : Vertex) → Stands R l a from m u → u.time ≡ time → (st : Visited) → Tells R stop budget tally u st
-        → choices R (visit_by R stop m) u st ≡ more asked.count st
-    asked_comes ex l a from time asked tally asks spare some_Known m u stands t st tells =
-        let known = asks.told some_Known m u stands.shows t st
+        → (n : ℕ) → asked.count ≡ Some n → (m : ℕ) (u : Vertex) → Stands R l a from m u → u.time ≡ time → (st : Visited) → Tells R stop budget tally u st
+        → choices R (visit_by R stop m) u st ≡ more n st
+    asked_comes ex l a from time asked tally asks spare n is m u stands t st tells =
+        let known = MatchOption-at_some _ _ n is asks.told m u stands.shows t st
         (subst (λ (f : ℕ). Slack R f st.best (slack_by (energy_at tally) from)) (sym stands.floor_is) (slack_told tally from st.best tells.best spare)) in
         choices_left R m u st stop tells.going (ap (λ (w : Visited). w.best) known) ∙ known

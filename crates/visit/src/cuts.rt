@@ -8,7 +8,7 @@ ghost use Rattle.vertex.specs.inside.Sums.{limit_for};
 ghost use Rattle.visit.specs.inside.Lent.{count_at, Added};
 
 use crate::tally::{Tally, add_count};
-use base::{JobNumber, lessened, smaller, wide};
+use base::JobNumber;
 use flat::{Flat, deadline_of, horizon_of, run_of};
 use vertex::cells::{Cells, LOAD};
 use vertex::dues::{Dues, limit_of};
@@ -19,9 +19,10 @@ pub fn first_cut(r: &Flat, v: &Cells, dues: Dues, j: JobNumber) -> u32
     requires { Valid (recorder_of r.now) × ((j.0 < 16) × ((run (recorder_of r.now) j.0 ≤ load_at v.now) × (load_at v.now ≤ (recorder_of r.now).horizon))) }
     ensures { result ≡ min (limit_for (recorder_of r.now).horizon (load_at v.now - run (recorder_of r.now) j.0) dues j.0) (deadline (recorder_of r.now) j.0) + 1 - run (recorder_of r.now) j.0 }
 {
-    let c = wide(run_of(r, j.0));
-    let limit = limit_of(dues, wide(horizon_of(r)), v[LOAD] - c, j);
-    lessened(smaller(limit, wide(deadline_of(r, j.0))) + 1, c)
+    let c = u32::from(run_of(r, j.0));
+    let limit = limit_of(dues, u32::from(horizon_of(r)), v[LOAD] - c, j);
+    let last = limit.min(u32::from(deadline_of(r, j.0)));
+    (last + 1).saturating_sub(c)
 }
 
 // The same, once the child that places job j at s has the floor `floor`: where cut B drops it, and would drop it at the least floor of all from here on too, it
@@ -54,7 +55,7 @@ pub fn drops(r: &Flat, tally: &mut Tally, budget: u32, j: JobNumber, start: u32)
     requires { (j.0 < 16) × ((start ≤ 65536) × ((length tally.old ≡ 35) × (count_at tally.old ≤ budget))) }
     ensures { Added budget (suc (deadline (recorder_of r.now) j.0) - (start + run (recorder_of r.now) j.0)) tally.old tally.new result }
 {
-    let c = wide(run_of(r, j.0));
-    let d = wide(deadline_of(r, j.0));
-    add_count(tally, budget, lessened(d + 1, start + c))
+    let c = u32::from(run_of(r, j.0));
+    let d = u32::from(deadline_of(r, j.0));
+    add_count(tally, budget, (d + 1).saturating_sub(start + c))
 }

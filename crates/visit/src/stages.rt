@@ -8,7 +8,6 @@ ghost use Rattle.visit.specs.inside.Lent.{Lends, Ran, KeptWithin};
 
 use crate::tally::{Tally, begin, is_over};
 use crate::walk::root_visit;
-use base::smaller;
 use extras::laying::lay_extras;
 use flat::Flat;
 use stored::clear;
@@ -64,7 +63,7 @@ fn few_visit(r: &Flat, extras: &[u32], tally: &mut Tally, stop: bool, budget: u3
     ensures { (length tally.new ≡ 35) × Ran (recorder_of r.now) stop (min budget 256) tally.new result }
 {
     let mut none = [0u64; 1];
-    whole_visit(r, extras, &mut none, tally, stop, smaller(budget, FEW))
+    whole_visit(r, extras, &mut none, tally, stop, budget.min(FEW))
 }
 
 // The same: without a memory first, since to forget one takes longer than a few vertices; with one where these do not suffice and the budget has more, its own or the

@@ -13,30 +13,18 @@ ghost use Rattle.visit.specs.inside.Lent.{Leaves, StandsAt, VisitCame, EnterCame
 
 use crate::cuts::{cut_at, drops, first_cut};
 use crate::tally::{COUNT, ENERGY, NONE, Tally, add_count, count_one, note, offer, stops};
-use base::{JobNumber, larger, wide};
+use base::JobNumber;
 use flat::{Flat, horizon_of, job_count, release_of, run_of};
 use latest::all_jobs;
 use recall::asking::{Asked, ask};
 use recall::memory::keep;
-use vertex::cells::{Cells, LOAD, place, root_of};
+use vertex::cells::{Cells, LOAD, place as place_job, root_of};
 use vertex::dues::{Dues, dues_in};
 use vertex::gaps::{close_of, end_of, lead_of, root_floor};
 
 // Whether a set has two jobs or more, and a memory of so many words an entry. Below a vertex with one job the work is less than looking for it.
 fn is_many(set: usize, words: usize) -> bool {
-    if words < 6 {
-        return false;
-    }
-    let mut rest = set;
-    let mut i: usize = 0;
-    while i < 16 {
-        if rest % 2 == 1 {
-            return 1 < rest;
-        }
-        rest = rest / 2;
-        i += 1;
-    }
-    false
+    6 <= words && 1 < set.count_ones()
 }
 
 // By how much the best lies above a floor; 0 where there is no best.
@@ -51,126 +39,139 @@ fn slack_of(best: u32, floor: u32) -> u32
 fn is_whole(short: bool, best: u32, after: u32) -> bool
     ensures { result ≡ true → (short ≡ false) × (after ≡ best) }
 {
-    if short {
-        return false;
-    }
-    best == after
+    !short && best == after
 }
 
-// The child of v that places job j at s, and all below it. From the start `cut` on it is dropped; before, its floor is `floor`. Answers whether the visit goes no
-// further: the budget is used up, or what it stops at is found.
+// What the search reads: the recorder, the table of extras, and how many vertices it may count.
+#[derive(Clone, Copy)]
+struct Search<'a> {
+    r: &'a Flat,
+    extras: &'a [u32],
+    budget: u32,
+}
+
+// A vertex: what shows it, the set of its unplaced jobs, its floor and its time.
+#[derive(Clone, Copy)]
+struct Place<'a> {
+    v: &'a Cells,
+    set: usize,
+    from: u32,
+    time: u32,
+}
+
+// A child of it: the job that it places, the bit of that job in a set, its start, and the child's floor.
+#[derive(Clone, Copy)]
+struct Child {
+    j: JobNumber,
+    p: usize,
+    s: u32,
+    floor: u32,
+}
+
+// The child of a place that places job j at s, and all below it. From the start `cut` on it is dropped. Answers whether the visit goes no further: the budget is used up,
+// or what it stops at is found.
 #[cycle(below_choices_enter_learn_tries_visit)]
 fn visit(
-    r: &Flat,
-    extras: &[u32],
+    search: &Search,
     memory: &mut [u64],
-    v: &Cells,
     tally: &mut Tally,
-    budget: u32,
-    set: usize,
-    p: usize,
-    from: u32,
+    place: &Place,
+    child: Child,
     cut: u32,
-    floor: u32,
-    j: JobNumber,
-    s: u32,
 ) -> bool
-    requires { Lends (recorder_of r.now) extras.now memory.old × ((p ≡ 2 ^ j.0) × Some (recorder_of r.now) budget tally.old (Tries (recorder_of r.now) v.now (energy_at tally.old) set from cut floor j.0 s)) }
-    ensures kept { Leaves (recorder_of r.now) extras.now memory.new tally.old tally.new }
-    ensures came { VisitCame (recorder_of r.now) budget v.now tally.old tally.new result set from cut floor j.0 s }
+    requires { Lends (recorder_of search.now.r.now) search.now.extras.now memory.old × ((child.p ≡ 2 ^ child.j.0) × Some (recorder_of search.now.r.now) search.now.budget tally.old (Tries (recorder_of search.now.r.now) place.now.v.now (energy_at tally.old) place.now.set place.now.from cut child.floor child.j.0 child.s)) }
+    ensures kept { Leaves (recorder_of search.now.r.now) search.now.extras.now memory.new tally.old tally.new }
+    ensures came { VisitCame (recorder_of search.now.r.now) search.now.budget place.now.v.now tally.old tally.new result place.now.set place.now.from cut child.floor child.j.0 child.s }
 {
-    if tally[COUNT] == budget {
+    if tally[COUNT] == search.budget {
         return true;
     }
     count_one(tally);
-    if cut <= s {
+    if cut <= child.s {
         return false;
     }
-    if tally[ENERGY] <= floor {
+    if tally[ENERGY] <= child.floor {
         return false;
     }
-    enter(r, extras, memory, v, tally, budget, set - p, floor, j, s)
+    enter(search, memory, tally, place, child, place.set - child.p)
 }
 
 // The same child, which is counted and which no cut drops: it is complete, or its children are examined. `left` is the set of the jobs that it leaves unplaced.
 #[cycle(below_choices_enter_learn_tries_visit)]
 fn enter(
-    r: &Flat,
-    extras: &[u32],
+    search: &Search,
     memory: &mut [u64],
-    v: &Cells,
     tally: &mut Tally,
-    budget: u32,
+    place: &Place,
+    child: Child,
     left: usize,
-    floor: u32,
-    j: JobNumber,
-    s: u32,
 ) -> bool
-    requires { Lends (recorder_of r.now) extras.now memory.old × ((floor < energy_at tally.old) × Some (recorder_of r.now) budget tally.old (Enters (recorder_of r.now) v.now left floor j.0 s)) }
-    ensures kept { Leaves (recorder_of r.now) extras.now memory.new tally.old tally.new }
-    ensures came { EnterCame (recorder_of r.now) budget v.now tally.old tally.new result left floor j.0 s }
+    requires { Lends (recorder_of search.now.r.now) search.now.extras.now memory.old × ((child.floor < energy_at tally.old) × Some (recorder_of search.now.r.now) search.now.budget tally.old (Enters (recorder_of search.now.r.now) place.now.v.now left child.floor child.j.0 child.s)) }
+    ensures kept { Leaves (recorder_of search.now.r.now) search.now.extras.now memory.new tally.old tally.new }
+    ensures came { EnterCame (recorder_of search.now.r.now) search.now.budget place.now.v.now tally.old tally.new result left child.floor child.j.0 child.s }
 {
-    note(tally, j.0, s);
+    let j = child.j.0;
+    let s = child.s;
+    note(tally, j, s);
     if left == 0 {
-        let e = floor + end_of(r, extras, v, j.0, s);
+        let e = child.floor + end_of(search.r, search.extras, place.v, j, s);
         offer(tally, e);
         return stops(tally);
     }
-    let mut w = *v;
-    place(r, &mut w, j.0, s);
-    let time = s + wide(run_of(r, j.0));
-    below(r, extras, memory, &w, tally, budget, left, floor, time)
+    let mut w = *place.v;
+    place_job(search.r, &mut w, j, s);
+    let time = s + u32::from(run_of(search.r, j));
+    let below_it = Place {
+        v: &w,
+        set: left,
+        from: child.floor,
+        time,
+    };
+    below(search, memory, tally, &below_it)
 }
 
 // The children of a vertex that is not complete: what is remembered of them, or each of them examined.
 #[cycle(below_choices_enter_learn_tries_visit)]
-fn below(
-    r: &Flat,
-    extras: &[u32],
-    memory: &mut [u64],
-    v: &Cells,
-    tally: &mut Tally,
-    budget: u32,
-    set: usize,
-    from: u32,
-    time: u32,
-) -> bool
-    requires { Lends (recorder_of r.now) extras.now memory.old × ((from < energy_at tally.old) × Some (recorder_of r.now) budget tally.old (StandsAt (recorder_of r.now) v.now set from time)) }
-    ensures kept { Leaves (recorder_of r.now) extras.now memory.new tally.old tally.new }
-    ensures came { ChoicesCame (recorder_of r.now) budget v.now tally.old tally.new result set from time }
+fn below(search: &Search, memory: &mut [u64], tally: &mut Tally, place: &Place) -> bool
+    requires { Lends (recorder_of search.now.r.now) search.now.extras.now memory.old × ((place.now.from < energy_at tally.old) × Some (recorder_of search.now.r.now) search.now.budget tally.old (StandsAt (recorder_of search.now.r.now) place.now.v.now place.now.set place.now.from place.now.time)) }
+    ensures kept { Leaves (recorder_of search.now.r.now) search.now.extras.now memory.new tally.old tally.new }
+    ensures came { ChoicesCame (recorder_of search.now.r.now) search.now.budget place.now.v.now tally.old tally.new result place.now.set place.now.from place.now.time }
 {
-    if !is_many(set, memory.len()) {
-        return choices(r, extras, memory, v, tally, budget, set, from, time);
+    if !is_many(place.set, memory.len()) {
+        return choices(search, memory, tally, place);
     }
-    let slack = slack_of(tally[ENERGY], from);
-    let asked = ask(r, extras, memory, v, set, time, slack);
-    if 0 < asked.count {
-        return add_count(tally, budget, asked.count);
+    let slack = slack_of(tally[ENERGY], place.from);
+    let asked = ask(
+        search.r,
+        search.extras,
+        memory,
+        place.v,
+        place.set,
+        place.time,
+        slack,
+    );
+    match asked.count {
+        Some(count) => add_count(tally, search.budget, count),
+        None => learn(search, memory, tally, place, asked),
     }
-    learn(r, extras, memory, v, tally, budget, set, from, time, asked)
 }
 
 // Each of them examined, and remembered where they leave the best as it was.
 #[cycle(below_choices_enter_learn_tries_visit)]
 fn learn(
-    r: &Flat,
-    extras: &[u32],
+    search: &Search,
     memory: &mut [u64],
-    v: &Cells,
     tally: &mut Tally,
-    budget: u32,
-    set: usize,
-    from: u32,
-    time: u32,
+    place: &Place,
     asked: Asked,
 ) -> bool
-    requires { Lends (recorder_of r.now) extras.now memory.old × ((from < energy_at tally.old) × (Asks (recorder_of r.now) (cap_at extras.now) v.now set time (slack_by (energy_at tally.old) from) asked × Some (recorder_of r.now) budget tally.old (StandsAt (recorder_of r.now) v.now set from time))) }
-    ensures kept { Leaves (recorder_of r.now) extras.now memory.new tally.old tally.new }
-    ensures came { ChoicesCame (recorder_of r.now) budget v.now tally.old tally.new result set from time }
+    requires { Lends (recorder_of search.now.r.now) search.now.extras.now memory.old × ((place.now.from < energy_at tally.old) × (Asks (recorder_of search.now.r.now) (cap_at search.now.extras.now) place.now.v.now place.now.set place.now.time (slack_by (energy_at tally.old) place.now.from) asked × Some (recorder_of search.now.r.now) search.now.budget tally.old (StandsAt (recorder_of search.now.r.now) place.now.v.now place.now.set place.now.from place.now.time))) }
+    ensures kept { Leaves (recorder_of search.now.r.now) search.now.extras.now memory.new tally.old tally.new }
+    ensures came { ChoicesCame (recorder_of search.now.r.now) search.now.budget place.now.v.now tally.old tally.new result place.now.set place.now.from place.now.time }
 {
     let before = tally[COUNT];
     let best = tally[ENERGY];
-    let short = choices(r, extras, memory, v, tally, budget, set, from, time);
+    let short = choices(search, memory, tally, place);
     if is_whole(short, best, tally[ENERGY]) {
         keep(memory, asked.slot, asked.key, tally[COUNT] - before);
     }
@@ -179,48 +180,23 @@ fn learn(
 
 // Each unplaced job in turn.
 #[cycle(below_choices_enter_learn_tries_visit)]
-fn choices(
-    r: &Flat,
-    extras: &[u32],
-    memory: &mut [u64],
-    v: &Cells,
-    tally: &mut Tally,
-    budget: u32,
-    set: usize,
-    from: u32,
-    time: u32,
-) -> bool
-    requires { Lends (recorder_of r.now) extras.now memory.old × Some (recorder_of r.now) budget tally.old (StandsAt (recorder_of r.now) v.now set from time) }
-    ensures kept { Leaves (recorder_of r.now) extras.now memory.new tally.old tally.new }
-    ensures came { ChoicesCame (recorder_of r.now) budget v.now tally.old tally.new result set from time }
+fn choices(search: &Search, memory: &mut [u64], tally: &mut Tally, place: &Place) -> bool
+    requires { Lends (recorder_of search.now.r.now) search.now.extras.now memory.old × Some (recorder_of search.now.r.now) search.now.budget tally.old (StandsAt (recorder_of search.now.r.now) place.now.v.now place.now.set place.now.from place.now.time) }
+    ensures kept { Leaves (recorder_of search.now.r.now) search.now.extras.now memory.new tally.old tally.new }
+    ensures came { ChoicesCame (recorder_of search.now.r.now) search.now.budget place.now.v.now tally.old tally.new result place.now.set place.now.from place.now.time }
 {
-    let n = job_count(r);
-    let dues = dues_in(r, extras, set);
-    let mut rest = set;
+    let n = job_count(search.r);
+    let dues = dues_in(search.r, search.extras, place.set);
+    let mut rest = place.set;
     let mut p: usize = 1;
-    let mut j: usize = 0;
-    while j < n {
+    for j in 0..n {
         if rest % 2 == 1 {
-            if tries(
-                r,
-                extras,
-                memory,
-                v,
-                tally,
-                budget,
-                set,
-                p,
-                from,
-                time,
-                dues,
-                JobNumber(j),
-            ) {
+            if tries(search, memory, tally, place, dues, JobNumber(j), p) {
                 return true;
             }
         }
         rest = rest / 2;
         p = p * 2;
-        j += 1;
     }
     false
 }
@@ -228,36 +204,40 @@ fn choices(
 // Each start of the unplaced job j in turn.
 #[cycle(below_choices_enter_learn_tries_visit)]
 fn tries(
-    r: &Flat,
-    extras: &[u32],
+    search: &Search,
     memory: &mut [u64],
-    v: &Cells,
     tally: &mut Tally,
-    budget: u32,
-    set: usize,
-    p: usize,
-    from: u32,
-    time: u32,
+    place: &Place,
     dues: Dues,
     j: JobNumber,
+    p: usize,
 ) -> bool
-    requires { Lends (recorder_of r.now) extras.now memory.old × ((j.0 < jobs (recorder_of r.now)) × ((has set j.0 ≡ true) × ((p ≡ 2 ^ j.0) × (TwoLeast (recorder_of r.now) set (jobs (recorder_of r.now)) dues × Some (recorder_of r.now) budget tally.old (StandsAt (recorder_of r.now) v.now set from time))))) }
-    ensures kept { Leaves (recorder_of r.now) extras.now memory.new tally.old tally.new }
-    ensures came { StartsCame (recorder_of r.now) budget v.now tally.old tally.new result set from time j.0 }
+    requires { Lends (recorder_of search.now.r.now) search.now.extras.now memory.old × ((j.0 < jobs (recorder_of search.now.r.now)) × ((has place.now.set j.0 ≡ true) × ((p ≡ 2 ^ j.0) × (TwoLeast (recorder_of search.now.r.now) place.now.set (jobs (recorder_of search.now.r.now)) dues × Some (recorder_of search.now.r.now) search.now.budget tally.old (StandsAt (recorder_of search.now.r.now) place.now.v.now place.now.set place.now.from place.now.time))))) }
+    ensures kept { Leaves (recorder_of search.now.r.now) search.now.extras.now memory.new tally.old tally.new }
+    ensures came { StartsCame (recorder_of search.now.r.now) search.now.budget place.now.v.now tally.old tally.new result place.now.set place.now.from place.now.time j.0 }
 {
-    let mut cut = first_cut(r, v, dues, j);
-    let mut s = larger(time, wide(release_of(r, j.0)));
+    let mut cut = first_cut(search.r, place.v, dues, j);
+    let mut s = place.time.max(u32::from(release_of(search.r, j.0)));
     while s < cut {
-        let floor = from + lead_of(r, extras, v, j.0, s);
-        cut = cut_at(r, extras, v, tally[ENERGY], from, floor, cut, j.0, s);
-        if visit(
-            r, extras, memory, v, tally, budget, set, p, from, cut, floor, j, s,
-        ) {
+        let floor = place.from + lead_of(search.r, search.extras, place.v, j.0, s);
+        cut = cut_at(
+            search.r,
+            search.extras,
+            place.v,
+            tally[ENERGY],
+            place.from,
+            floor,
+            cut,
+            j.0,
+            s,
+        );
+        let child = Child { j, p, s, floor };
+        if visit(search, memory, tally, place, child, cut) {
             return true;
         }
         s += 1;
     }
-    drops(r, tally, budget, j, s)
+    drops(search.r, tally, search.budget, j, s)
 }
 
 // The root and all below it.
@@ -276,7 +256,7 @@ pub fn root_visit(
     }
     count_one(tally);
     let v = root_of(r);
-    if wide(horizon_of(r)) < v[LOAD] {
+    if u32::from(horizon_of(r)) < v[LOAD] {
         return false;
     }
     let floor = root_floor(r, extras, &v);
@@ -286,5 +266,12 @@ pub fn root_visit(
         offer(tally, e);
         return stops(tally);
     }
-    choices(r, extras, memory, &v, tally, budget, all_jobs(r), floor, 0)
+    let search = Search { r, extras, budget };
+    let root = Place {
+        v: &v,
+        set: all_jobs(r),
+        from: floor,
+        time: 0,
+    };
+    choices(&search, memory, tally, &root)
 }

@@ -7,5 +7,5 @@ returns-then-res-lt-COUNTED c = closed c.if-res-lt-COUNTED.true
 
 pub returns : goal.returns
 returns c =
-    let it = c.tell_counted.ensures in
-    rw (it.0, it.1) (counted c.if-res-lt-COUNTED.false c.order_fault-fault.ensures)
+    let it = c.tell_part.ensures in
+    rw (it.0, it.1) (counted c.if-res-lt-COUNTED.false c.order_fault.ensures)

@@ -7,6 +7,7 @@ use Rattle.mend.specs.Promises.{lending, Room}
 use Rattle.mend.proofs.Moves.{moves_few}
 use Rattle.mend.proofs.Promised.{lacks_none, lacks_not, settled_late, settled_given}
 use Rattle.mend.proofs.mend_recorder.Goals as goal
+use Rattle.mend.proofs.mend_recorder.Goals.{After-settle}
 
 pub returns-then-given-n : goal.returns-then-given-n
 returns-then-given-n c = rw c.refusal.ensures (P.MendOf.unequal c.if-given-n.true)
@@ -16,35 +17,30 @@ returns-then-lacks_room c =
     rw c.refusal-then-lacks_room.ensures (P.MendOf.short c.if-given-n.false
     (λ h. lacks_none _ _ _ (sym c.lacks_room.ensures ∙ c.if-lacks_room.true) h.starts h.moved))
 
-pub returns-then-settled : goal.returns-then-settled
-returns-then-settled c =
-    let room : Room c.args.r (lending c.args.starts.now c.args.moved.now) = let h = lacks_not _ _ _ (sym c.lacks_room.ensures ∙ c.if-lacks_room.false) in
-    record { starts = h.0; moved = h.1 } in
-    rw c.refusal_at.ensures (settled_late _ _ _ c.if-given-n.false room c.settle-settled.result c.settle-settled.ensures c.if-settled.true)
+-- What is lent has room.
+room : (c : After-settle) → Room c.args.r (lending c.args.starts.now c.args.moved.now)
+room c = let h = lacks_not _ _ _ (sym c.lacks_room.ensures ∙ c.if-lacks_room.false) in record { starts = h.0; moved = h.1 }
+
+pub returns-in-Err : goal.returns-in-Err
+returns-in-Err c =
+    let w = c.in-Err.ensures in
+    rw c.refusal_at.ensures (settled_late _ _ _ c.if-given-n.false (room (goal.at.returns-in-Err c).After-settle) w.1 w.2)
 
 pub write_starts-requires : goal.write_starts-requires
-write_starts-requires c =
-    let room : Room c.args.r (lending c.args.starts.now c.args.moved.now) = let h = lacks_not _ _ _ (sym c.lacks_room.ensures ∙ c.if-lacks_room.false) in
-    record { starts = h.0; moved = h.1 } in
-    let r = room in omega (arith, c.requires)
+write_starts-requires c = let r = room (goal.at.write_starts-requires c).After-settle in omega (arith, c.requires)
 
 pub list_moves-count-requires : goal.list_moves-count-requires
-list_moves-count-requires c =
-    let room : Room c.args.r (lending c.args.starts.now c.args.moved.now) = let h = lacks_not _ _ _ (sym c.lacks_room.ensures ∙ c.if-lacks_room.false) in
-    record { starts = h.0; moved = h.1 } in
-    let r = room in omega (arith, c.if-given-n.false, c.requires)
+list_moves-count-requires c = let r = room (goal.at.list_moves-count-requires c).After-settle in omega (arith, c.if-given-n.false, c.requires)
 
 pub overflow_cast-count : goal.overflow_cast-count
 overflow_cast-count c =
     let g = c.args.given.now in
-    let few = moves_few g c.settle-settled.result.starts (length g) in
+    let few = moves_few g c.in-Ok.new (length g) in
     rw c.list_moves-count.ensures.number (omega (arith, c.if-given-n.false, c.requires))
 
 pub returns : goal.returns
 returns c =
-    let room : Room c.args.r (lending c.args.starts.now c.args.moved.now) = let h = lacks_not _ _ _ (sym c.lacks_room.ensures ∙ c.if-lacks_room.false) in
-    record { starts = h.0; moved = h.1 } in
     let w = c.list_moves-count.ensures in
-    let s = c.settle-settled in
+    let m = c.in-Ok.ensures in
     rw (c.success.ensures, w.number, w.list, c.write_starts.ensures, c.if-given-n.false)
-    (settled_given _ _ _ c.if-given-n.false room s.result s.ensures c.if-settled.false)
+    (settled_given _ _ _ c.if-given-n.false (room (goal.at.returns c).After-settle) _ m.0 m.1 m.2)

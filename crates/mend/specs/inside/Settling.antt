@@ -1,12 +1,12 @@
 -- How the mended schedule is found: the jobs take their places one after the other, in the order of their given starts (rule 67). Contracts inside the crate
 -- speak of it; the promise does not.
-use Rattle.std.specs.Prelude.{true, false, cond, List, [], ◌∷◌, ℕ, zero, suc, ◌+◌, max, ltb, set, replicate}
+use Rattle.std.specs.Prelude.{◌≡◌, Result, Ok, Err, cond, List, [], ◌∷◌, ℕ, zero, suc, ◌+◌, max, ltb, set, replicate}
 use Rattle.std.proofs.Math.Option.{Option, none, some}
+use Rattle.base.specs.declared.JobNumber.{JobNumber}
 use Rattle.base.specs.Lists.{padded, up_from, remove}
 use Rattle.schedule.specs.declared.Recorder.{Recorder}
 use Rattle.schedule.specs.Quantities.{jobs, release, deadline, run}
 use Rattle.schedule.specs.Listing.{start, soonest}
-use Rattle.mend.specs.declared.settling.Settled.{Settled}
 use Rattle.mend.specs.Mending.{Mends, ComesOut, FirstLate}
 
 module _ (R : Recorder) (given : List ℕ) where
@@ -37,6 +37,6 @@ module _ (R : Recorder) (given : List ℕ) where
   first_late = late_of (jobs R) 0 (up_from 0 (jobs R))
 
 -- What `settle` of the code gives: the mended schedule, in an array, or the first late job.
-pub data Settles (R : Recorder) (given : List ℕ) : Settled → Type 0 where
-  late : {s l : List ℕ} {j : ℕ} → ComesOut R given s → FirstLate R s j → Settles R given (record { late = true; job = record { 0 = j }; starts = l })
-  done : {s : List ℕ} → Mends R given s → Settles R given (record { late = false; job = record { 0 = 0 }; starts = padded 16 0 s })
+abbrev pub Settles : Recorder → List ℕ → Result (List ℕ) JobNumber → Type 0
+Settles R given (Ok new) = (s : List ℕ) × Mends R given s × (new ≡ padded 16 0 s)
+Settles R given (Err j) = (s : List ℕ) × ComesOut R given s × FirstLate R s j.0

@@ -1,10 +1,13 @@
 -- `planner::check` meets its contract.
-use Rattle.request.proofs.Accepted.{read_accepted, read_refused}
+use mathlib.Core.Path.{sym}
+use Rattle.std.proofs.lemmas.Result.{err_from_is_err_and}
 use Rattle.planner.specs.Promises as P
 use Rattle.planner.proofs.check.Goals as goal
 
-pub returns-then-request-ne0 : goal.returns-then-request-ne0
-returns-then-request-ne0 c = rw c.refusal.ensures (P.OfFile.refused (read_refused _ _ c.read-request.ensures c.if-request-ne0.true))
+pub returns-in_err-recorder : goal.returns-in_err-recorder
+returns-in_err-recorder c =
+    let p = err_from_is_err_and c.from_residual.result c.from_residual.ensures.1 in
+    rw (p.1, p.2) (P.OfFile.refused (sym c.in_err-recorder.ensures))
 
 pub returns : goal.returns
-returns c = rw c.success.ensures (P.OfFile.read (read_accepted _ _ c.read-request.ensures c.if-request-ne0.false) P.CheckOf.accepted)
+returns c = P.OfFile.read (sym c.in_ok-recorder.ensures) P.CheckOf.accepted

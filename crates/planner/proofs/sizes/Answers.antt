@@ -1,9 +1,11 @@
 -- `planner::sizes` meets its contract.
 use mathlib.Core.List.{List}
+use mathlib.Core.Path.{sym}
 use Prim.Native.Nat.{ℕ, ◌≤◌}
 use Rattle.schedule.specs.declared.Recorder.{Recorder}
 use Rattle.tables.specs.Layout.{tables_of, tables_as}
-use Rattle.request.proofs.Accepted.{read_accepted, read_refused, accepted_valid}
+use Rattle.request.proofs.Accepted.{accepted_valid}
+use Rattle.std.proofs.lemmas.Result.{err_from_is_err_and}
 use Rattle.planner.specs.Promises as P
 use Rattle.planner.specs.Promises.{Reads}
 use Rattle.planner.proofs.Reading.{listed_whole}
@@ -14,20 +16,18 @@ few_tasks : (s : List ℕ) (R : Recorder) → Reads s R → (tables_of s).tasks.
 unfolding tables_as
 few_tasks s R r = (listed_whole s R r).few_tasks
 
-pub returns-then-request-ne0 : goal.returns-then-request-ne0
-returns-then-request-ne0 c = rw c.refusal.ensures (P.OfFile.refused (read_refused _ _ c.read-request.ensures c.if-request-ne0.true))
+pub returns-in_err-recorder : goal.returns-in_err-recorder
+returns-in_err-recorder c =
+    let p = err_from_is_err_and c.from_residual.result c.from_residual.ensures.1 in
+    rw (p.1, p.2) (P.OfFile.refused (sym c.in_err-recorder.ensures))
 
 pub tables_in-tables-requires : goal.tables_in-tables-requires
-tables_in-tables-requires c =
-    let recorded : Reads c.args.file.now c.read-request.result.recorder = read_accepted _ _ c.read-request.ensures c.if-request-ne0.false in
-    listed_whole _ _ recorded
+tables_in-tables-requires c = listed_whole _ _ (sym c.in_ok-recorder.ensures)
 
 pub sizes_of-requires : goal.sizes_of-requires
 sizes_of-requires c =
-    let recorded : Reads c.args.file.now c.read-request.result.recorder = read_accepted _ _ c.read-request.ensures c.if-request-ne0.false in
+    let recorded = sym c.in_ok-recorder.ensures in
     (accepted_valid _ _ recorded, rw c.tables_in-tables.ensures (few_tasks _ _ recorded))
 
 pub returns : goal.returns
-returns c =
-    let recorded : Reads c.args.file.now c.read-request.result.recorder = read_accepted _ _ c.read-request.ensures c.if-request-ne0.false in
-    P.OfFile.read recorded (rw c.tables_in-tables.ensures at c.sizes_of.ensures)
+returns c = P.OfFile.read (sym c.in_ok-recorder.ensures) (rw c.tables_in-tables.ensures at c.sizes_of.ensures)

@@ -1,19 +1,17 @@
 -- `planner::tables_of` meets its contract.
-use Rattle.request.proofs.Accepted.{read_accepted, read_refused}
-use Rattle.planner.specs.Promises.{Reads}
+use mathlib.Core.Path.{sym}
+use Rattle.std.proofs.lemmas.Result.{err_from_is_err_and}
 use Rattle.planner.specs.Promises as P
 use Rattle.planner.proofs.Reading.{listed_whole}
 use Rattle.planner.proofs.tables_of.Goals as goal
 
-pub returns-then-request-ne0 : goal.returns-then-request-ne0
-returns-then-request-ne0 c = rw (c.no_tables.ensures, c.refusal.ensures) (P.OfFile.refused (read_refused _ _ c.read-request.ensures c.if-request-ne0.true))
+pub returns-in_err-recorder : goal.returns-in_err-recorder
+returns-in_err-recorder c =
+    let p = err_from_is_err_and c.from_residual.result c.from_residual.ensures.1 in
+    rw (p.1, p.2) (P.OfFile.refused (sym c.in_err-recorder.ensures))
 
 pub tables_in-requires : goal.tables_in-requires
-tables_in-requires c =
-    let recorded : Reads c.args.file.now c.read-request.result.recorder = read_accepted _ _ c.read-request.ensures c.if-request-ne0.false in
-    listed_whole _ _ recorded
+tables_in-requires c = listed_whole _ _ (sym c.in_ok-recorder.ensures)
 
 pub returns : goal.returns
-returns c =
-    let recorded : Reads c.args.file.now c.read-request.result.recorder = read_accepted _ _ c.read-request.ensures c.if-request-ne0.false in
-    rw (c.tables_in.ensures, c.success.ensures) (P.OfFile.read recorded P.TablesOf.listed)
+returns c = rw c.tables_in.ensures (P.OfFile.read (sym c.in_ok-recorder.ensures) P.TablesOf.listed)

@@ -1,5 +1,5 @@
 -- The file that is laid out is that of the tables, but for counts that are refused.
-use mathlib.Core.Path.{◌≡◌, sym, ap, ◌∙◌}
+use mathlib.Core.Path.{◌≡◌, refl, sym, ap, ◌∙◌}
 use mathlib.Core.List.{List, ◌++◌}
 use Prim.Native.Nat.{ℕ, ◌≤◌}
 use native.Mathlib.Omega.{arith}
@@ -13,8 +13,8 @@ use Rattle.tables.specs.inside.Held.{limited, held}
 use Rattle.tables.proofs.Appending.{held_front, held_long}
 use Rattle.tables.proofs.Back.{unmarked}
 use Rattle.tables.proofs.Joining.{limited_fits}
-use Rattle.request.specs.Format.{read_as, accepted, handed_on}
-use Rattle.request.proofs.Accepted.{accepted_by, refused_by}
+use Rattle.std.proofs.lemmas.Result.{err_from_is_err_and}
+use Rattle.request.specs.Format.{read_as, accepted}
 use Rattle.request.proofs.Limiting.{read_limited, accepted_limited}
 use Rattle.planner.specs.Promises as P
 use Rattle.planner.proofs.Refusing.{unless_enough}
@@ -35,74 +35,80 @@ written_as :
     → P.Written T lent (P.success R.horizon 0 n) (s ++ drop (length s) lent)
 written_as T lent R s n r e f h = rw (e, f) (P.Written.read r (unless_enough (omega arith) P.gives))
 
+-- What is read of the bytes is what is read of the layout.
+module _ (T : Tables) (f : File) (e : f ≡ held (bytes_of (limited T))) where
+  fits : f.count ≤ length f.bytes
+  fits = rw e (held_long (bytes_of (limited T)) (limited_fits T))
+
+  long : f.count ≡ length (take f.count f.bytes)
+  long = sym (length-take-le f.count f.bytes fits)
+
+  small : f.count ≤ 297
+  unfolding held
+  small = rw e (limited_fits T)
+
+  laid : take f.count f.bytes ≡ bytes_of (limited T)
+  laid = rw e (held_front (bytes_of (limited T)))
+
+  reads : read_as T.kind (drop (length (marker T.kind)) (take f.count f.bytes)) ≡ read_as T.kind (layout_of T)
+  reads =
+      ap (λ (s : List ℕ). read_as T.kind (drop (length (marker T.kind)) s)) laid
+      ∙ ap (λ (s : List ℕ). read_as T.kind s) (limited-mark T).1 ∙ read-as-limited T
+
+  -- Where it is accepted no count is limited.
+  module _ (R : Recorder) (r : read_as T.kind (layout_of T) ≡ accepted R) where
+    whole : take f.count f.bytes ≡ bytes_of T
+    whole = laid ∙ ap bytes_of (accepted_limited _ _ r)
+
+    size : f.count ≡ length (bytes_of T)
+    unfolding held
+    size = ap (λ (f : File). f.count) e ∙ ap length (ap bytes_of (accepted_limited _ _ r))
+
 pub slice_bounds-bytes-end : goal.slice_bounds-bytes-end
-slice_bounds-bytes-end c =
-    let fits : c.file_of-file.result.count ≤ length c.file_of-file.result.bytes = rw c.file_of-file.ensures (held_long (bytes_of (limited c.args.given)) (limited_fits c.args.given)) in
-    fits
+slice_bounds-bytes-end c = fits c.args.given _ c.file_of-file.ensures
 
 pub slice_bounds-read_by-end : goal.slice_bounds-read_by-end
-slice_bounds-read_by-end c =
-    let fits : c.file_of-file.result.count ≤ length c.file_of-file.result.bytes = rw c.file_of-file.ensures (held_long (bytes_of (limited c.args.given)) (limited_fits c.args.given)) in
-    let long : c.file_of-file.result.count ≡ length (take c.file_of-file.result.count c.file_of-file.result.bytes) = sym (length-take-le c.file_of-file.result.count c.file_of-file.result.bytes fits) in
-    long
+slice_bounds-read_by-end c = long c.args.given _ c.file_of-file.ensures
 
-pub read_by-request-requires : goal.read_by-request-requires
-read_by-request-requires c =
-    let laid : take c.file_of-file.result.count c.file_of-file.result.bytes ≡ bytes_of (limited c.args.given) = rw c.file_of-file.ensures (held_front (bytes_of (limited c.args.given))) in
-    rw laid (limited-mark c.args.given).0
+pub read_by-requires : goal.read_by-requires
+read_by-requires c =
+    let T = c.args.given in
+    rw (laid T _ c.file_of-file.ensures) (limited-mark T).0
 
-pub returns-then-number-ne0 : goal.returns-then-number-ne0
-returns-then-number-ne0 c =
-    let laid : take c.file_of-file.result.count c.file_of-file.result.bytes ≡ bytes_of (limited c.args.given) = rw c.file_of-file.ensures (held_front (bytes_of (limited c.args.given))) in
-    let reads : (let T = c.args.given in c.read_by-request.result ≡ handed_on (read_as T.kind (layout_of T))) = let T = c.args.given in
-    c.read_by-request.ensures ∙ ap (λ (s : List ℕ). handed_on (read_as T.kind (drop (length (marker T.kind)) s))) laid
-    ∙ ap (λ (s : List ℕ). handed_on (read_as T.kind s)) (limited-mark T).1 ∙ ap handed_on (read-as-limited T) in
-    rw c.refusal.ensures (P.Written.refused (refused_by _ _ _ reads c.if-number-ne0.true))
+pub returns-in_err-recorder : goal.returns-in_err-recorder
+returns-in_err-recorder c =
+    let p = err_from_is_err_and c.from_residual.result c.from_residual.ensures.1 in
+    let T = c.args.given in
+    rw (p.1, p.2) (P.Written.refused (sym (c.in_err-recorder.ensures ∙ reads T _ c.file_of-file.ensures)))
+
+-- What was read is what the tables' layout reads as.
+read_so : (T : Tables) (f : File) (e : f ≡ held (bytes_of (limited T))) (R : Recorder)
+    → accepted R ≡ read_as T.kind (drop (length (marker T.kind)) (take f.count f.bytes)) → read_as T.kind (layout_of T) ≡ accepted R
+read_so T f e R h = sym (h ∙ reads T f e)
 
 pub returns-then-out-n : goal.returns-then-out-n
-unfolding held
 returns-then-out-n c =
-    let laid : take c.file_of-file.result.count c.file_of-file.result.bytes ≡ bytes_of (limited c.args.given) = rw c.file_of-file.ensures (held_front (bytes_of (limited c.args.given))) in
-    let reads : (let T = c.args.given in c.read_by-request.result ≡ handed_on (read_as T.kind (layout_of T))) = let T = c.args.given in
-    c.read_by-request.ensures ∙ ap (λ (s : List ℕ). handed_on (read_as T.kind (drop (length (marker T.kind)) s))) laid
-    ∙ ap (λ (s : List ℕ). handed_on (read_as T.kind s)) (limited-mark T).1 ∙ ap handed_on (read-as-limited T) in
-    let recorded : (let T = c.args.given in read_as T.kind (layout_of T) ≡ accepted c.read_by-request.result.recorder) = accepted_by _ _ _ reads c.if-number-ne0.false in
-    let whole : bytes_of (limited c.args.given) ≡ bytes_of c.args.given = ap bytes_of (accepted_limited _ _ recorded) in
-    let size : c.file_of-file.result.count ≡ length (bytes_of c.args.given) = ap (λ (f : File). f.count) c.file_of-file.ensures ∙ ap length whole in
-    rw c.refusal-then-out-n.ensures (P.Written.read recorded (P.stops (rw size at c.if-out-n.true)))
+    let T = c.args.given in
+    let e = c.file_of-file.ensures in
+    let r = read_so T _ e _ c.in_ok-recorder.ensures in
+    rw c.from.ensures (P.Written.read r (P.stops (rw (size T _ e _ r) at c.if-out-n.true)))
+
+pub slice_bounds-copy_from_slice-end-3 : goal.slice_bounds-copy_from_slice-end-3
+slice_bounds-copy_from_slice-end-3 c = long c.args.given _ c.file_of-file.ensures
 
 pub slice_bounds-bytes-end-2 : goal.slice_bounds-bytes-end-2
-slice_bounds-bytes-end-2 c =
-    let fits : c.file_of-file.result.count ≤ length c.file_of-file.result.bytes = rw c.file_of-file.ensures (held_long (bytes_of (limited c.args.given)) (limited_fits c.args.given)) in
-    fits
+slice_bounds-bytes-end-2 c = fits c.args.given _ c.file_of-file.ensures
 
-pub slice_bounds-copy-end : goal.slice_bounds-copy-end
-slice_bounds-copy-end c =
-    let fits : c.file_of-file.result.count ≤ length c.file_of-file.result.bytes = rw c.file_of-file.ensures (held_long (bytes_of (limited c.args.given)) (limited_fits c.args.given)) in
-    let long : c.file_of-file.result.count ≡ length (take c.file_of-file.result.count c.file_of-file.result.bytes) = sym (length-take-le c.file_of-file.result.count c.file_of-file.result.bytes fits) in
-    long
+pub copy_from_slice-requires : goal.copy_from_slice-requires
+copy_from_slice-requires c = length-take-le _ _ c.if-out-n.false ∙ long c.args.given _ c.file_of-file.ensures
 
-pub copy-requires : goal.copy-requires
-copy-requires c =
-    let fits : c.file_of-file.result.count ≤ length c.file_of-file.result.bytes = rw c.file_of-file.ensures (held_long (bytes_of (limited c.args.given)) (limited_fits c.args.given)) in
-    let long : c.file_of-file.result.count ≡ length (take c.file_of-file.result.count c.file_of-file.result.bytes) = sym (length-take-le c.file_of-file.result.count c.file_of-file.result.bytes fits) in
-    omega (arith, long, c.if-out-n.false)
-
-pub overflow_cast-n : goal.overflow_cast-n
-unfolding held
-overflow_cast-n c =
-    let small : c.file_of-file.result.count ≤ 297 = rw c.file_of-file.ensures (limited_fits c.args.given) in
-    omega (arith, small)
+pub overflow_cast-result : goal.overflow_cast-result
+overflow_cast-result c = omega (arith, small c.args.given _ c.file_of-file.ensures)
 
 pub returns : goal.returns
-unfolding held
 returns c =
-    let laid : take c.file_of-file.result.count c.file_of-file.result.bytes ≡ bytes_of (limited c.args.given) = rw c.file_of-file.ensures (held_front (bytes_of (limited c.args.given))) in
-    let reads : (let T = c.args.given in c.read_by-request.result ≡ handed_on (read_as T.kind (layout_of T))) = let T = c.args.given in
-    c.read_by-request.ensures ∙ ap (λ (s : List ℕ). handed_on (read_as T.kind (drop (length (marker T.kind)) s))) laid
-    ∙ ap (λ (s : List ℕ). handed_on (read_as T.kind s)) (limited-mark T).1 ∙ ap handed_on (read-as-limited T) in
-    let recorded : (let T = c.args.given in read_as T.kind (layout_of T) ≡ accepted c.read_by-request.result.recorder) = accepted_by _ _ _ reads c.if-number-ne0.false in
-    let whole : bytes_of (limited c.args.given) ≡ bytes_of c.args.given = ap bytes_of (accepted_limited _ _ recorded) in
-    let size : c.file_of-file.result.count ≡ length (bytes_of c.args.given) = ap (λ (f : File). f.count) c.file_of-file.ensures ∙ ap length whole in
-    rw (c.success.ensures, c.copy.ensures)
-    (written_as _ _ _ _ _ recorded (laid ∙ whole) size c.if-out-n.false)
+    let T = c.args.given in
+    let e = c.file_of-file.ensures in
+    let r = read_so T _ e _ c.in_ok-recorder.ensures in
+    let made = c.copy_from_slice.ensures.after ∙ whole T _ e _ r in
+    rw (made, size T _ e _ r) (written_as _ _ _ _ _ r refl refl (rw (size T _ e _ r) at c.if-out-n.false))

@@ -1,6 +1,5 @@
 -- `catalogue::look_up::devices_of` meets its contract.
 use mathlib.Core.Path.{◌≡◌}
-use Prim.Native.Nat.{◌-◌, ◌≤◌}
 use Rattle.base.specs.Lists.{up_to, padded}
 use Rattle.tables.specs.Records.{blank_device}
 use Rattle.catalogue.proofs.Pieces.{record_for}
@@ -8,7 +7,4 @@ use Rattle.catalogue.proofs.look_up.devices_of.Given as goal
 
 -- The records of the wanted parts so far.
 abbrev pub invariant-loop-k : goal.invariant-loop-k
-invariant-loop-k l = (l.k ≤ l.held) × (l.devices ≡ record { count = 0; list = padded 8 blank_device (up_to (record_for l.catalogue l.wanted) l.k) })
-
-abbrev pub decreases-loop-k : goal.decreases-loop-k
-decreases-loop-k l = l.held - l.k
+invariant-loop-k l = l.devices ≡ record { count = l.count; list = padded 8 blank_device (up_to (record_for l.catalogue l.wanted) l.k) }

@@ -1,15 +1,7 @@
 -- `catalogue::look_up::is_unfit` meets its contract.
-use mathlib.Core.Path.{sym, ◌∙◌}
-use native.Mathlib.Omega.{arith}
-use Rattle.catalogue.specs.Parts.{parts_of}
-use Rattle.catalogue.proofs.Faults.{first_unfit}
-use Rattle.catalogue.proofs.Pieces.{parts_count, part_begins}
+use Rattle.std.proofs.Common.{◌∙◌}
+use Rattle.catalogue.proofs.Faults.{some_unfit}
 use Rattle.catalogue.proofs.look_up.is_unfit.Goals as goal
 
-pub overflow_mul-result : goal.overflow_mul-result
-overflow_mul-result c = omega (arith, c.unfit_at.ensures.within, parts_count c.args.catalogue.now)
-
 pub returns : goal.returns
-returns c =
-    let s = c.args.catalogue.now in
-    part_begins s c.unfit_at.result ∙ sym (first_unfit (parts_of s) c.unfit_at.ensures)
+returns c = c.is_some.ensures ∙ some_unfit _ _ c.unfit_at.ensures

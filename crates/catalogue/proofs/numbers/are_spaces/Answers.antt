@@ -1,22 +1,12 @@
-use mathlib.Core.Path.{sym, ◌∙◌}
-use native.Mathlib.Omega.{arith}
-use Rattle.catalogue.proofs.Scanning.{spaces_start, spaces_next, spaces_stop, spaces_end}
+-- `catalogue::numbers::are_spaces` meets its contract.
+use Rattle.std.proofs.Common.{◌≡◌, rules, get_or}
+use Rattle.std.specs.Prelude.{EachIndex, IsTrue, ◌↔◌}
+use Rattle.catalogue.specs.Parts.{space}
+use Rattle.catalogue.proofs.Scanning.{all_spaces}
 use Rattle.catalogue.proofs.numbers.are_spaces.Goals as goal
-
-pub loop-i-init : goal.loop-i-init
-loop-i-init c = (omega arith, spaces_start c.args.rest.now)
-
-pub returns-then-rest-i-ne32 : goal.returns-then-rest-i-ne32
-returns-then-rest-i-ne32 c =
-    let l = c.loop-i in
-    sym (l.invariant.1 ∙ spaces_stop c.args.rest.now l.i (omega arith) c.if-rest-i-ne32.true)
-
-pub loop-i-preserved : goal.loop-i-preserved
-loop-i-preserved c =
-    let l = c.loop-i in
-    (omega arith, l.invariant.1 ∙ spaces_next c.args.rest.now l.i (omega arith) c.if-rest-i-ne32.false)
 
 pub returns : goal.returns
 returns c =
-    let l = c.loop-i in
-    sym (l.invariant.1 ∙ spaces_end c.args.rest.now l.i (omega arith))
+    let s = c.args.rest.now in
+    let each : IsTrue c.all.result ↔ EachIndex s (λ k. get_or s k 0 ≡ space) = search rules in
+    all_spaces c.all.result s each

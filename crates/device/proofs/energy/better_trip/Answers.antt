@@ -7,7 +7,7 @@ use native.Mathlib.Omega.{arith}
 use lib.ListN.{get_or}
 use Rattle.device.specs.declared.Device.{Device}
 use Rattle.device.specs.declared.energy.Trip.{Trip}
-use Rattle.device.specs.Row.{depth, trip_cost}
+use Rattle.device.specs.Row.{Sound, depth, trip_cost}
 use Rattle.device.specs.inside.Trips.{Chosen}
 use Rattle.device.proofs.Chosen.{depth_next, depth_short, depth_dear, power_falls}
 use Rattle.device.proofs.energy.better_trip.Goals as goal
@@ -26,6 +26,17 @@ cost-fits pd pu p x y g hd hu hp h hg =
     let b : pu * y ≤ 65535 * y = mul-le-mul_right y (omega arith) in
     let c : p * (g - (x + y)) ≤ 65535 * (g - (x + y)) = mul-le-mul_right (g - (x + y)) (omega arith) in
     omega arith
+
+-- The moves to the next level, and the whole trip.
+moving : (d : Device) (n g : ℕ) → d.pd < 65536 → d.pu < 65536 → d.shut * (n + 1) + d.wake * (n + 1) ≤ g → g < 65536
+    → d.pd * (d.shut * (n + 1)) + d.pu * (d.wake * (n + 1)) < 2 ^ 32
+moving d n g hd hu h hg = omega (arith, cost-fits d.pd d.pu 0 (d.shut * (n + 1)) (d.wake * (n + 1)) g hd hu (omega arith) h hg)
+
+priced : (d : Device) → Sound d → (n g : ℕ) → n < d.levels → d.pw < 65536 → d.pd < 65536 → d.pu < 65536 → d.shut * (n + 1) + d.wake * (n + 1) ≤ g → g < 65536
+    → d.pd * (d.shut * (n + 1)) + d.pu * (d.wake * (n + 1)) + get_or d.powers n 0 * (g - (d.shut * (n + 1) + d.wake * (n + 1))) < 2 ^ 32
+priced d ok n g l hw hd hu h hg =
+    cost-fits d.pd d.pu (get_or d.powers n 0) (d.shut * (n + 1)) (d.wake * (n + 1)) g hd hu
+    (omega (arith, power_falls d ok 0 (suc n) (omega arith) (omega arith), hw)) h hg
 
 -- The best so far stays, or the next level takes its place.
 stays : {d : Device} {n g : ℕ} {t : Trip} → depth d (suc n) g ≡ depth d n g → Chosen d n g t → Chosen d (n + 1) g t
@@ -50,51 +61,29 @@ returns-then-gap-down c =
 
 pub overflow_mul-cost : goal.overflow_mul-cost
 overflow_mul-cost c =
-    let moving : let a = c.args in
-    a.d.pd * (a.d.shut * (a.n + 1)) + a.d.pu * (a.d.wake * (a.n + 1)) < 2 ^ 32 = let a = c.args in
-    omega (
-      arith,
-      cost-fits a.d.pd a.d.pu 0 (a.d.shut * (a.n + 1)) (a.d.wake * (a.n + 1)) a.g
-          (omega (arith, c.well_formed.0)) (omega (arith, c.well_formed.0)) (omega arith) (omega arith) (omega arith),
-    ) in
-    record { fits = omega (arith, moving) }
+    let a = c.args in
+    record { fits = omega (arith, moving a.d a.n a.g (omega (arith, c.well_formed.0)) (omega (arith, c.well_formed.0)) (omega arith) (omega arith)) }
 
 pub overflow_mul-cost-2 : goal.overflow_mul-cost-2
 overflow_mul-cost-2 c =
-    let moving : let a = c.args in
-    a.d.pd * (a.d.shut * (a.n + 1)) + a.d.pu * (a.d.wake * (a.n + 1)) < 2 ^ 32 = let a = c.args in
-    omega (
-      arith,
-      cost-fits a.d.pd a.d.pu 0 (a.d.shut * (a.n + 1)) (a.d.wake * (a.n + 1)) a.g
-          (omega (arith, c.well_formed.0)) (omega (arith, c.well_formed.0)) (omega arith) (omega arith) (omega arith),
-    ) in
-    record { fits = omega (arith, moving) }
+    let a = c.args in
+    record { fits = omega (arith, moving a.d a.n a.g (omega (arith, c.well_formed.0)) (omega (arith, c.well_formed.0)) (omega arith) (omega arith)) }
 
 pub overflow_add-cost : goal.overflow_add-cost
 overflow_add-cost c =
-    let moving : let a = c.args in
-    a.d.pd * (a.d.shut * (a.n + 1)) + a.d.pu * (a.d.wake * (a.n + 1)) < 2 ^ 32 = let a = c.args in
-    omega (
-      arith,
-      cost-fits a.d.pd a.d.pu 0 (a.d.shut * (a.n + 1)) (a.d.wake * (a.n + 1)) a.g
-          (omega (arith, c.well_formed.0)) (omega (arith, c.well_formed.0)) (omega arith) (omega arith) (omega arith),
-    ) in
-    record { fits = omega (arith, moving) }
+    let a = c.args in
+    record { fits = omega (arith, moving a.d a.n a.g (omega (arith, c.well_formed.0)) (omega (arith, c.well_formed.0)) (omega arith) (omega arith)) }
 
 pub overflow_mul-cost-3 : goal.overflow_mul-cost-3
 overflow_mul-cost-3 c =
-    let priced : let a = c.args in
-    a.d.pd * (a.d.shut * (a.n + 1)) + a.d.pu * (a.d.wake * (a.n + 1)) + get_or a.d.powers a.n 0 * (a.g - (a.d.shut * (a.n + 1) + a.d.wake * (a.n + 1))) < 2 ^ 32 = let a = c.args in
-    cost-fits a.d.pd a.d.pu (get_or a.d.powers a.n 0) (a.d.shut * (a.n + 1)) (a.d.wake * (a.n + 1)) a.g
-    (omega (arith, c.well_formed.0)) (omega (arith, c.well_formed.0)) (omega (arith, power_falls a.d c.requires.0 0 (suc a.n) (omega arith) (omega arith), c.well_formed.0)) (omega (arith, c.if-gap-down.false)) (omega arith) in
+    let a = c.args in
+    let priced = priced a.d c.requires.0 a.n a.g c.requires.1.0 (omega (arith, c.well_formed.0)) (omega (arith, c.well_formed.0)) (omega (arith, c.well_formed.0)) (omega (arith, c.if-gap-down.false)) (omega arith) in
     record { fits = omega (arith, priced) }
 
 pub overflow_add-cost-2 : goal.overflow_add-cost-2
 overflow_add-cost-2 c =
-    let priced : let a = c.args in
-    a.d.pd * (a.d.shut * (a.n + 1)) + a.d.pu * (a.d.wake * (a.n + 1)) + get_or a.d.powers a.n 0 * (a.g - (a.d.shut * (a.n + 1) + a.d.wake * (a.n + 1))) < 2 ^ 32 = let a = c.args in
-    cost-fits a.d.pd a.d.pu (get_or a.d.powers a.n 0) (a.d.shut * (a.n + 1)) (a.d.wake * (a.n + 1)) a.g
-    (omega (arith, c.well_formed.0)) (omega (arith, c.well_formed.0)) (omega (arith, power_falls a.d c.requires.0 0 (suc a.n) (omega arith) (omega arith), c.well_formed.0)) (omega (arith, c.if-gap-down.false)) (omega arith) in
+    let a = c.args in
+    let priced = priced a.d c.requires.0 a.n a.g c.requires.1.0 (omega (arith, c.well_formed.0)) (omega (arith, c.well_formed.0)) (omega (arith, c.well_formed.0)) (omega (arith, c.if-gap-down.false)) (omega arith) in
     record { fits = priced }
 
 pub returns-then-cost-best : goal.returns-then-cost-best

@@ -12,16 +12,13 @@ overflow_mul-best c =
     record { fits = omega (arith, mul-le-mul power ticks) }
 
 pub loop-n-init : goal.loop-n-init
-loop-n-init c = (omega arith, record { level = refl; cost = simp (mul-zero, sub-zero, zero-add) })
+loop-n-init c = record { level = refl; cost = simp (mul-zero, sub-zero, zero-add) }
 
 pub better_trip-best-requires : goal.better_trip-best-requires
 better_trip-best-requires c =
-    (c.requires, (c.loop-n-test.true, c.loop-n.invariant.1))
-
-pub loop-n-preserved : goal.loop-n-preserved
-loop-n-preserved c = (omega arith, c.better_trip-best.ensures)
+    (c.requires, (c.loop-n-test.true, c.loop-n.invariant))
 
 pub returns : goal.returns
 returns c =
     let all : c.loop-n.n ≡ c.args.d.levels = omega arith in
-    subst (λ (n : ℕ). Chosen c.args.d n c.args.g c.loop-n.best) all c.loop-n.invariant.1
+    subst (λ (n : ℕ). Chosen c.args.d n c.args.g c.loop-n.best) all c.loop-n.invariant

@@ -1,10 +1,6 @@
 -- `device::gap_trip` meets its contract. The loop's invariant: of the levels passed the best trip is kept.
-use Prim.Native.Nat.{◌-◌, ◌≤◌}
 use Rattle.device.specs.inside.Trips.{Chosen}
 use Rattle.device.proofs.energy.gap_trip.Given as goal
 
 abbrev pub invariant-loop-n : goal.invariant-loop-n
-invariant-loop-n l = (l.n ≤ l.d.levels) × Chosen l.d l.n l.g l.best
-
-abbrev pub decreases-loop-n : goal.decreases-loop-n
-decreases-loop-n l = l.d.levels - l.n
+invariant-loop-n l = Chosen l.d l.n l.g l.best

@@ -2,7 +2,7 @@
 -- the last use passed, and the rest of the buffer is as it was. Then comes the beginning of that gap.
 use mathlib.Core.Path.{◌≡◌}
 use mathlib.Core.List.{List, ◌++◌, map}
-use Prim.Native.Nat.{ℕ, ◌+◌, ◌-◌, ◌≤◌}
+use Prim.Native.Nat.{ℕ, ◌+◌}
 use lib.ListN.{drop}
 use Rattle.base.proofs.Filling.{Filled}
 use Rattle.device.specs.declared.Device.{Device}
@@ -17,7 +17,4 @@ abbrev pub seamed : Sleeps → Device → ℕ → ℕ → List ℕ
 seamed sleeps d n b = map (byte_of sleeps) (gap_row d (n + b))
 
 abbrev pub invariant-loop-i : goal.invariant-loop-i
-invariant-loop-i l = (l.i ≤ l.u.count) × (l.at ≡ after_from l.front l.u l.i) × Filled l.initial.out l.at (drop l.tail (seamed l.sleeps l.d l.tail l.front) ++ bytes l.sleeps l.u l.d l.front l.at) l.out
-
-abbrev pub decreases-loop-i : goal.decreases-loop-i
-decreases-loop-i l = l.u.count - l.i
+invariant-loop-i l = (l.at ≡ after_from l.front l.u l.i) × Filled l.initial.out l.at (drop l.tail (seamed l.sleeps l.d l.tail l.front) ++ bytes l.sleeps l.u l.d l.front l.at) l.out

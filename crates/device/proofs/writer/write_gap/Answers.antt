@@ -3,7 +3,6 @@ use mathlib.Core.Path.{◌≡◌, refl, sym, ap, ◌∙◌, subst}
 use mathlib.Core.List.{List, ◌++◌, map}
 use Prim.Native.Nat.{ℕ, ◌+◌, ◌-◌, ◌*◌, ◌≤◌}
 use native.Mathlib.Omega.{arith}
-use borrow.Author.Rules.{rules}
 use lib.ListN.{take, drop}
 use Rattle.device.specs.Row.{byte_of, trip, gap_row}
 use Rattle.device.specs.Row as Row
@@ -11,38 +10,29 @@ use Rattle.device.specs.inside.Trips.{trip_bytes}
 use Rattle.device.proofs.Chosen.{chosen}
 use Rattle.device.proofs.Bytes.{bytes_trip}
 use Rattle.device.proofs.writer.write_gap.Goals as goal
+use Rattle.device.proofs.writer.write_gap.Goals.{After-gap_trip-trip}
+
+-- The trip lies within the gap.
+room : (c : After-gap_trip-trip) → let a = c.args in a.d.shut * c.gap_trip-trip.result.level + a.d.wake * c.gap_trip-trip.result.level ≤ a.g
+room c =
+    let a = c.args in
+    subst (λ (m : ℕ). a.d.shut * m + a.d.wake * m ≤ a.g) (sym c.gap_trip-trip.ensures.level) (chosen a.d a.d.levels a.g).room
 
 -- Nothing of it is asked for.
 pub returns-then-n-eq0 : goal.returns-then-n-eq0
 returns-then-n-eq0 c = rw c.if-n-eq0.true (refl, refl)
 
 pub overflow_mul-down : goal.overflow_mul-down
-overflow_mul-down c =
-    let room : let a = c.args in
-    a.d.shut * c.gap_trip-trip.result.level + a.d.wake * c.gap_trip-trip.result.level ≤ a.g = let a = c.args in
-    subst (λ (m : ℕ). a.d.shut * m + a.d.wake * m ≤ a.g) (sym c.gap_trip-trip.ensures.level) (chosen a.d a.d.levels a.g).room in
-    omega (arith, room)
+overflow_mul-down c = omega (arith, room (goal.at.overflow_mul-down c).After-gap_trip-trip)
 
 pub overflow_mul-up : goal.overflow_mul-up
-overflow_mul-up c =
-    let room : let a = c.args in
-    a.d.shut * c.gap_trip-trip.result.level + a.d.wake * c.gap_trip-trip.result.level ≤ a.g = let a = c.args in
-    subst (λ (m : ℕ). a.d.shut * m + a.d.wake * m ≤ a.g) (sym c.gap_trip-trip.ensures.level) (chosen a.d a.d.levels a.g).room in
-    omega (arith, room)
+overflow_mul-up c = omega (arith, room (goal.at.overflow_mul-up c).After-gap_trip-trip)
 
 pub overflow_add-stay : goal.overflow_add-stay
-overflow_add-stay c =
-    let room : let a = c.args in
-    a.d.shut * c.gap_trip-trip.result.level + a.d.wake * c.gap_trip-trip.result.level ≤ a.g = let a = c.args in
-    subst (λ (m : ℕ). a.d.shut * m + a.d.wake * m ≤ a.g) (sym c.gap_trip-trip.ensures.level) (chosen a.d a.d.levels a.g).room in
-    omega (arith, room)
+overflow_add-stay c = omega (arith, room (goal.at.overflow_add-stay c).After-gap_trip-trip)
 
 pub overflow_sub-stay : goal.overflow_sub-stay
-overflow_sub-stay c =
-    let room : let a = c.args in
-    a.d.shut * c.gap_trip-trip.result.level + a.d.wake * c.gap_trip-trip.result.level ≤ a.g = let a = c.args in
-    subst (λ (m : ℕ). a.d.shut * m + a.d.wake * m ≤ a.g) (sym c.gap_trip-trip.ensures.level) (chosen a.d a.d.levels a.g).room in
-    omega (arith, room)
+overflow_sub-stay c = omega (arith, room (goal.at.overflow_sub-stay c).After-gap_trip-trip)
 
 pub letter_at-requires : goal.letter_at-requires
 letter_at-requires c =
@@ -51,10 +41,7 @@ letter_at-requires c =
 
 pub write_trip-requires : goal.write_trip-requires
 write_trip-requires c =
-    let room : let a = c.args in
-    a.d.shut * c.gap_trip-trip.result.level + a.d.wake * c.gap_trip-trip.result.level ≤ a.g = let a = c.args in
-    subst (λ (m : ℕ). a.d.shut * m + a.d.wake * m ≤ a.g) (sym c.gap_trip-trip.ensures.level) (chosen a.d a.d.levels a.g).room in
-    let h = room in
+    let h = room (goal.at.write_trip-requires c).After-gap_trip-trip in
     (omega arith, (omega arith, omega arith))
 
 pub returns : goal.returns
@@ -66,6 +53,3 @@ returns c =
     = sym (bytes_trip a.sleeps a.d m a.g) ∙ ap (λ (k : ℕ). map (byte_of a.sleeps) (trip a.d k a.g)) c.gap_trip-trip.ensures.level in
     let all = ap (trip_bytes (a.d.shut * m) stay (a.d.wake * m)) c.letter_at.ensures ∙ row in
     (c.write_trip.ensures.0, c.write_trip.ensures.1 ∙ ap (λ (l : List ℕ). take a.n (drop a.x l) ++ drop a.n a.rest.now) all)
-
-pub gap_trip-trip-requires : goal.gap_trip-trip-requires
-gap_trip-trip-requires c = search rules

@@ -1,19 +1,7 @@
-use mathlib.Core.Path.{◌≡◌, refl}
+-- `mend::moving::write_starts` meets its contract.
 use native.Mathlib.Omega.{arith}
-use Rattle.base.proofs.Filling.{filled_start, filled_value, filled_length}
+use Rattle.base.proofs.Arrays.{up_to_take}
 use Rattle.mend.proofs.moving.write_starts.Goals as goal
 
-pub loop-j-init : goal.loop-j-init
-loop-j-init c = (omega arith, omega arith, filled_start _ _)
-
-pub bounds-starts-j : goal.bounds-starts-j
-bounds-starts-j c = let i = c.loop-j.invariant in omega (arith, filled_length i.2 (omega arith))
-
-pub loop-j-preserved : goal.loop-j-preserved
-loop-j-preserved c = let i = c.loop-j.invariant in (omega arith, i.1, filled_value _ i.2 (omega arith) _ refl)
-
-pub shape_of-starts : goal.shape_of-starts
-shape_of-starts c = let i = c.loop-j.invariant in filled_length i.2 (omega arith)
-
 pub returns : goal.returns
-returns c = let e : c.loop-j.j ≡ c.args.n = omega arith in rw (c.loop-j.invariant.2.is, e)
+returns c = rw (c.copy_from_slice.ensures.after, up_to_take c.args.new 0 c.args.n (omega (arith, c.requires)))

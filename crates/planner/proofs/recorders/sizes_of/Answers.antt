@@ -17,7 +17,7 @@ three (x ∷ y ∷ []) a b c h = absurd (omega arith)
 three (x ∷ y ∷ z ∷ l) a b c h = refl
 
 pub returns-then-out-lt3 : goal.returns-then-out-lt3
-returns-then-out-lt3 c = rw c.refusal.ensures (stops c.if-out-lt3.true)
+returns-then-out-lt3 c = rw c.from.ensures (stops c.if-out-lt3.true)
 
 pub overflow_cast-out : goal.overflow_cast-out
 overflow_cast-out c = omega (arith, c.requires.0)
@@ -28,4 +28,4 @@ bounds-out-1 c = let a = c.args in lt-length-set a.out.now 0 a.r.devices.count (
 pub returns : goal.returns
 returns c =
     let l = c.args.out.now in
-    rw (c.success.ensures, three l _ _ _ c.if-out-lt3.false) (unless_enough c.if-out-lt3.false gives)
+    rw (three l _ _ _ c.if-out-lt3.false) (unless_enough c.if-out-lt3.false gives)

@@ -1,5 +1,6 @@
 -- `planner::recorders::verdict_of` meets its contract.
 use mathlib.Core.Path.{sym, subst}
+use Rattle.std.proofs.lemmas.Result.{err_from_is_err_and}
 use Rattle.schedule.specs.Listing.{Costs}
 use Rattle.schedule.proofs.Outcome.{plan_costs}
 use Rattle.planner.specs.Promises.{stops, faulty, feasible, gives_such}
@@ -7,14 +8,15 @@ use Rattle.planner.proofs.Refusing.{unless_equal}
 use Rattle.planner.proofs.recorders.verdict_of.Goals as goal
 
 pub returns-then-starts-r : goal.returns-then-starts-r
-returns-then-starts-r c = rw c.refusal.ensures (stops c.if-starts-r.true)
+returns-then-starts-r c = rw c.from.ensures (stops c.if-starts-r.true)
 
-pub returns-in-Err : goal.returns-in-Err
-returns-in-Err c =
-    rw (c.refusal_at.ensures, c.number.ensures) (unless_equal c.if-starts-r.false (faulty c.in-Err.ensures))
+pub returns-in_err-judge : goal.returns-in_err-judge
+returns-in_err-judge c =
+    let p = err_from_is_err_and c.from_residual.result c.from_residual.ensures.1 in
+    rw (p.1, p.2) (unless_equal c.if-starts-r.false (faulty c.in_err-judge.ensures))
 
 pub returns : goal.returns
 returns c =
-    let cost = subst (Costs c.args.r c.args.starts.now) (sym c.plan_energy-energy.ensures) (plan_costs _ c.requires _) in
-    let g = c.in_default.ensures in
-    rw c.success.ensures (unless_equal g.one_each (feasible g (gives_such cost)))
+    let cost = subst (Costs c.args.r c.args.starts.now) (sym c.plan_energy.ensures) (plan_costs _ c.requires _) in
+    let g = c.in_ok-judge.ensures in
+    unless_equal g.one_each (feasible g (gives_such cost))

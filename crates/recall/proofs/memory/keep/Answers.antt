@@ -21,14 +21,14 @@ bounds-memory-at-then-i-memory-4 c = simp length-set (omega arith)
 pub bounds-memory-at-then-i-memory-5 : goal.bounds-memory-at-then-i-memory-5
 bounds-memory-at-then-i-memory-5 c = simp length-set (omega arith)
 
-pub returns-then-i-memory : goal.returns-then-i-memory
+pub returns-then-i-memory-clause-written : goal.returns-then-i-memory-clause-written
 unfolding kept wrote
-returns-then-i-memory c =
+returns-then-i-memory-clause-written c =
     let room : 6 * c.args.i + 6 ≤ length c.args.memory.now = omega arith in
     rw (le-leb (6 * c.args.i + 6) (length c.args.memory.now) room)
 
-pub returns-else-i-memory : goal.returns-else-i-memory
+pub returns-else-i-memory-clause-written : goal.returns-else-i-memory-clause-written
 unfolding kept wrote
-returns-else-i-memory c =
+returns-else-i-memory-clause-written c =
     let full : length c.args.memory.now < 6 * c.args.i + 6 = omega arith in
     rw (lt-leb (6 * c.args.i + 6) (length c.args.memory.now) full)

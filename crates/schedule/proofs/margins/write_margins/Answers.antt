@@ -1,7 +1,6 @@
 use mathlib.Core.Path.{◌≡◌, ◌∙◌}
 use Prim.Native.Nat.{◌<◌, ◌+◌, ◌^◌}
 use native.Mathlib.Omega.{arith}
-use borrow.Author.Rules.{rules}
 use mir.Syntax.{w32}
 use mir.Val.{to_z, of_z}
 use mir.Facts.{to_z-of_z}
@@ -12,28 +11,10 @@ use Rattle.schedule.proofs.Signs.{difference_fits}
 use Rattle.schedule.proofs.margins.write_margins.Goals as goal
 
 pub loop-j-init : goal.loop-j-init
-loop-j-init c = (omega arith, c.requires.2, filled_start _ _)
-
-pub offset_bounds-jobs-j : goal.offset_bounds-jobs-j
-offset_bounds-jobs-j c = omega (arith, c.requires.0)
-
-pub bounds-jobs-j : goal.bounds-jobs-j
-bounds-jobs-j c = omega (arith, c.requires.0)
-
-pub offset_bounds-starts-j : goal.offset_bounds-starts-j
-offset_bounds-starts-j c = omega (arith, c.requires.0)
-
-pub bounds-starts-j : goal.bounds-starts-j
-bounds-starts-j c = omega (arith, c.requires)
-
-pub offset_bounds-out-j : goal.offset_bounds-out-j
-offset_bounds-out-j c = omega (arith, c.requires.0)
+loop-j-init c = (c.requires.2, filled_start _ _)
 
 pub bounds-out-j : goal.bounds-out-j
-bounds-out-j c = let i = c.loop-j.invariant in omega (arith, filled_length i.2 (omega arith))
-
-pub overflow_add-j : goal.overflow_add-j
-overflow_add-j c = omega (arith, c.requires.0)
+bounds-out-j c = let i = c.loop-j.invariant in omega (arith, filled_length i.1 (omega arith))
 
 pub loop-j-preserved : goal.loop-j-preserved
 loop-j-preserved c =
@@ -43,15 +24,12 @@ loop-j-preserved c =
     let valid = c.requires.0 in
     let l : j < jobs R = omega arith in
     let d : deadline R j < 2 ^ 31 = omega (arith, valid.ends j l) in
-    let e : start s j + run R j < 2 ^ 31 = omega (arith, valid.fits j l, valid.ends j l, c.shared_slice_known-in-loop-j-1.given j) in
+    let e : start s j + run R j < 2 ^ 31 = omega (arith, valid.fits j l, valid.ends j l, c.type_inv.starts j) in
     rw c.margin_of.ensures (to_z-of_z (difference_fits (deadline R j) (start s j + run R j) d e)) in
-    let i = c.loop-j.invariant in (omega arith, i.1, filled_value _ i.2 (omega arith) _ stored)
+    let i = c.loop-j.invariant in (i.0, filled_value _ i.1 (omega arith) _ stored)
 
 pub shape_of-out : goal.shape_of-out
-shape_of-out c = let i = c.loop-j.invariant in filled_length i.2 (omega arith)
+shape_of-out c = let i = c.loop-j.invariant in filled_length i.1 (omega arith)
 
 pub returns : goal.returns
-returns c = let i = c.loop-j.invariant in let e : c.loop-j.j ≡ jobs c.args.r = omega arith in i.2.is ∙ rw e
-
-pub margin_of-requires : goal.margin_of-requires
-margin_of-requires c = search rules
+returns c = let i = c.loop-j.invariant in let e : c.loop-j.j ≡ jobs c.args.r = omega arith in i.1.is ∙ rw e

@@ -1,5 +1,5 @@
 -- `schedule::margins::write_margins` meets its contract.
-use Prim.Native.Nat.{◌≤◌, ◌-◌}
+use Prim.Native.Nat.{◌≤◌}
 use lib.ListN.{length}
 use Rattle.base.specs.Lists.{up_to}
 use Rattle.base.proofs.Filling.{Filled}
@@ -8,7 +8,4 @@ use Rattle.schedule.proofs.Judgements.{holding}
 use Rattle.schedule.proofs.margins.write_margins.Given as goal
 
 abbrev pub invariant-loop-j : goal.invariant-loop-j
-invariant-loop-j l = (l.j ≤ l.jobs.count) × (l.jobs.count ≤ length l.initial.out) × Filled l.initial.out l.j (up_to (margin (holding l.jobs) l.starts) l.j) l.out
-
-abbrev pub decreases-loop-j : goal.decreases-loop-j
-decreases-loop-j l = l.jobs.count - l.j
+invariant-loop-j l = (l.jobs.count ≤ length l.initial.out) × Filled l.initial.out l.j (up_to (margin (holding l.jobs) l.starts) l.j) l.out

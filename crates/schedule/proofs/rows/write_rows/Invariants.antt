@@ -1,5 +1,5 @@
 -- `schedule::rows::write_rows` meets its contract.
-use Prim.Native.Nat.{◌≤◌, ◌-◌, ◌*◌}
+use Prim.Native.Nat.{◌*◌}
 use Rattle.base.proofs.Filling.{Filled}
 use Rattle.schedule.specs.Listing.{laid}
 use Rattle.schedule.specs.Visiting.{plan_row}
@@ -7,7 +7,4 @@ use Rattle.schedule.proofs.Summing.{Summed}
 use Rattle.schedule.proofs.rows.write_rows.Given as goal
 
 abbrev pub invariant-loop-k : goal.invariant-loop-k
-invariant-loop-k l = (l.k ≤ l.r.devices.count) × Summed l.r l.starts l.k l.sum × Filled l.initial.out (l.k * l.r.horizon) (laid l.r.sleeps (plan_row l.r l.starts) l.k) l.out
-
-abbrev pub decreases-loop-k : goal.decreases-loop-k
-decreases-loop-k l = l.r.devices.count - l.k
+invariant-loop-k l = Summed l.r l.starts l.k l.sum × Filled l.initial.out (l.k * l.r.horizon) (laid l.r.sleeps (plan_row l.r l.starts) l.k) l.out

@@ -13,64 +13,15 @@ use Rattle.sheet_export.proofs.Records.{seven_count, seven_at}
 use Rattle.sheet_export.proofs.printing.put_job_lines.Goals as goal
 
 pub loop-k-init : goal.loop-k-init
-loop-k-init c = (omega arith, omega arith, put_none _ _)
-
-pub overflow_mul-from : goal.overflow_mul-from
-overflow_mul-from c =
-    let s = c.args.records.now in
-    let l = c.loop-k in
-    let count = seven_count s c.requires.1 in
-    omega (arith, c.requires.0)
-
-pub overflow_add-to : goal.overflow_add-to
-overflow_add-to c =
-    let s = c.args.records.now in
-    let l = c.loop-k in
-    let count = seven_count s c.requires.1 in
-    omega (arith, c.requires.0)
-
-pub slice_bounds-put_job_line-count : goal.slice_bounds-put_job_line-count
-slice_bounds-put_job_line-count c =
-    let s = c.args.records.now in
-    let l = c.loop-k in
-    let count = seven_count s c.requires.1 in
-    omega arith
-
-pub slice_bounds-put_job_line-start : goal.slice_bounds-put_job_line-start
-slice_bounds-put_job_line-start c =
-    let s = c.args.records.now in
-    let l = c.loop-k in
-    let count = seven_count s c.requires.1 in
-    omega arith
-
-pub slice_bounds-put_job_line-end : goal.slice_bounds-put_job_line-end
-slice_bounds-put_job_line-end c =
-    let s = c.args.records.now in
-    let l = c.loop-k in
-    let count = seven_count s c.requires.1 in
-    omega arith
+loop-k-init c = (omega arith, put_none _ _)
 
 pub put_job_line-at-requires : goal.put_job_line-at-requires
 put_job_line-at-requires c =
     let s = c.args.records.now in
     let l = c.loop-k in
     let count = seven_count s c.requires.1 in
-    let kept = put_length l.invariant.2 (omega (arith, c.requires.2, c.requires.0)) in
+    let kept = put_length l.invariant.1 (omega (arith, c.requires.2, c.requires.0)) in
     (omega (arith, c.requires.2, c.requires.0), rw (slice_is s 7 (7 * l.k)) (length-take 7 (drop (7 * l.k) s) ∙ omega (arith, length-drop (7 * l.k) s)))
-
-pub overflow_add-k : goal.overflow_add-k
-overflow_add-k c =
-    let s = c.args.records.now in
-    let l = c.loop-k in
-    let count = seven_count s c.requires.1 in
-    omega (arith, c.requires.0)
-
-pub loop-k-smaller : goal.loop-k-smaller
-loop-k-smaller c =
-    let s = c.args.records.now in
-    let l = c.loop-k in
-    let count = seven_count s c.requires.1 in
-    omega arith
 
 pub loop-k-preserved : goal.loop-k-preserved
 loop-k-preserved c =
@@ -81,19 +32,12 @@ loop-k-preserved c =
     let put = rw (slice_is s 7 (7 * l.k)) at c.put_job_line-at.ensures in
     let few = record_text_few piece in
     let here : get_or (pieces 7 s) l.k [] ≡ piece = seven_at s c.requires.1 l.k (omega arith) in
-    let more = put_more l.invariant.2 put (omega (arith, c.requires.2, c.requires.0, put.next)) in
-    (omega arith, omega (arith, put.next), rw (rows_more record_text (pieces 7 s) [] l.k (omega arith), here) more)
-
-pub shape_of-out : goal.shape_of-out
-shape_of-out c =
-    let s = c.args.records.now in
-    let l = c.loop-k in
-    let count = seven_count s c.requires.1 in
-    put_length l.invariant.2 (omega (arith, c.requires.2, c.requires.0))
+    let more = put_more l.invariant.1 put (omega (arith, c.requires.2, c.requires.0, put.next)) in
+    (omega (arith, put.next), rw (rows_more record_text (pieces 7 s) [] l.k (omega arith), here) more)
 
 pub returns : goal.returns
 returns c =
     let s = c.args.records.now in
     let l = c.loop-k in
     let count = seven_count s c.requires.1 in
-    (omega (arith, c.requires.0), rw (records_text (pieces 7 s), ← rows_all record_text (pieces 7 s) [] l.k (omega arith)) l.invariant.2)
+    (omega (arith, c.requires.0), rw (records_text (pieces 7 s), ← rows_all record_text (pieces 7 s) [] l.k (omega arith)) l.invariant.1)

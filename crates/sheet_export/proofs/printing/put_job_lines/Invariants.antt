@@ -1,6 +1,6 @@
 -- `sheet_export::printing::put_job_lines` meets its contract.
 use mathlib.Core.List.{map}
-use Prim.Native.Nat.{◌-◌, ◌*◌, ◌≤◌}
+use Prim.Native.Nat.{◌*◌, ◌≤◌}
 use lib.ListN.{take}
 use Rattle.base.specs.Bytes.{pieces, in_row}
 use Rattle.text.specs.inside.Putting.{Put}
@@ -8,7 +8,4 @@ use Rattle.sheet_export.specs.inside.Printing.{record_text}
 use Rattle.sheet_export.proofs.printing.put_job_lines.Given as goal
 
 abbrev pub invariant-loop-k : goal.invariant-loop-k
-invariant-loop-k l = (l.k ≤ l.count) × (l.at ≤ l.k * 25) × Put (in_row (map record_text (take l.k (pieces 7 l.records)))) 0 l.initial.out l.at l.out
-
-abbrev pub decreases-loop-k : goal.decreases-loop-k
-decreases-loop-k l = l.count - l.k
+invariant-loop-k l = (l.at ≤ l.k * 25) × Put (in_row (map record_text (take l.k (pieces 7 l.records)))) 0 l.initial.out l.at l.out

@@ -21,13 +21,13 @@ put_quoted-next-requires c =
     let front-few = front_eight s c.requires.1 in
     omega (arith, c.requires.0)
 
-pub put_four-requires : goal.put_four-requires
-put_four-requires c =
+pub put_line-requires : goal.put_line-requires
+put_line-requires c =
     let s = c.args.part.now in
     let eight = length-take-le 8 s (omega (arith, c.requires.1)) in
     let front-few = front_eight s c.requires.1 in
     let d = c.first_at-d.result in
-    omega (arith, c.requires.0, quoted_long (take 8 s), c.put_quoted-next.ensures.next, four_few d.wake d.pw d.ps d.pwake)
+    omega (arith, c.requires.0, quoted_long (take 8 s), c.put_quoted-next.ensures.next, four_few c.from.result d.pw d.ps d.pwake)
 
 pub returns : goal.returns
 returns c =
@@ -36,5 +36,5 @@ returns c =
     let front-few = front_eight s c.requires.1 in
     let d = c.first_at-d.result in
     let first = c.put_quoted-next.ensures in
-    let second = rw c.first_at-d.ensures at c.put_four.ensures in
-    rw (← part_text_lem s) (put_more first second (omega (arith, c.requires.0, quoted_long (take 8 s), first.next, c.put_four.ensures.next, four_few d.wake d.pw d.ps d.pwake)))
+    let second = rw (c.from.ensures, c.first_at-d.ensures) at c.put_line.ensures in
+    rw (← part_text_lem s) (put_more first second (omega (arith, c.requires.0, quoted_long (take 8 s), first.next, c.put_line.ensures.next, four_few c.from.result d.pw d.ps d.pwake)))

@@ -15,64 +15,15 @@ use Rattle.sheet_export.proofs.Printed.{text_rows, part_text_few}
 use Rattle.sheet_export.proofs.printing.put_part_lines.Goals as goal
 
 pub loop-k-init : goal.loop-k-init
-loop-k-init c = (omega arith, omega arith, put_none _ _)
-
-pub overflow_mul-from : goal.overflow_mul-from
-overflow_mul-from c =
-    let s = c.args.catalogue.now in
-    let l = c.loop-k in
-    let whole = whole_catalogue s c.requires.0 in
-    omega arith
-
-pub overflow_add-to : goal.overflow_add-to
-overflow_add-to c =
-    let s = c.args.catalogue.now in
-    let l = c.loop-k in
-    let whole = whole_catalogue s c.requires.0 in
-    omega arith
-
-pub slice_bounds-put_part_line-count : goal.slice_bounds-put_part_line-count
-slice_bounds-put_part_line-count c =
-    let s = c.args.catalogue.now in
-    let l = c.loop-k in
-    let whole = whole_catalogue s c.requires.0 in
-    omega arith
-
-pub slice_bounds-put_part_line-start : goal.slice_bounds-put_part_line-start
-slice_bounds-put_part_line-start c =
-    let s = c.args.catalogue.now in
-    let l = c.loop-k in
-    let whole = whole_catalogue s c.requires.0 in
-    omega arith
-
-pub slice_bounds-put_part_line-end : goal.slice_bounds-put_part_line-end
-slice_bounds-put_part_line-end c =
-    let s = c.args.catalogue.now in
-    let l = c.loop-k in
-    let whole = whole_catalogue s c.requires.0 in
-    omega arith
+loop-k-init c = (omega arith, put_none _ _)
 
 pub put_part_line-at-requires : goal.put_part_line-at-requires
 put_part_line-at-requires c =
     let s = c.args.catalogue.now in
     let l = c.loop-k in
     let whole = whole_catalogue s c.requires.0 in
-    let kept = put_length l.invariant.2 (omega (arith, c.requires.1)) in
+    let kept = put_length l.invariant.1 (omega (arith, c.requires.1)) in
     (omega (arith, c.requires.1), rw (slice_is s 15 (15 * l.k)) (length-take 15 (drop (15 * l.k) s) ∙ omega (arith, length-drop (15 * l.k) s)))
-
-pub overflow_add-k : goal.overflow_add-k
-overflow_add-k c =
-    let s = c.args.catalogue.now in
-    let l = c.loop-k in
-    let whole = whole_catalogue s c.requires.0 in
-    omega arith
-
-pub loop-k-smaller : goal.loop-k-smaller
-loop-k-smaller c =
-    let s = c.args.catalogue.now in
-    let l = c.loop-k in
-    let whole = whole_catalogue s c.requires.0 in
-    omega arith
 
 pub loop-k-preserved : goal.loop-k-preserved
 loop-k-preserved c =
@@ -84,19 +35,12 @@ loop-k-preserved c =
     let put = rw (slice_is s 15 (15 * l.k)) at c.put_part_line-at.ensures in
     let few = part_text_few piece long in
     let here : get_or (parts_of s) l.k no_part ≡ part_of piece = part_at s l.k (omega arith) in
-    let more = put_more l.invariant.2 put (omega (arith, c.requires.1, put.next)) in
-    (omega arith, omega (arith, put.next), rw (rows_more part_text (parts_of s) no_part l.k (omega arith), here) more)
-
-pub shape_of-out : goal.shape_of-out
-shape_of-out c =
-    let s = c.args.catalogue.now in
-    let l = c.loop-k in
-    let whole = whole_catalogue s c.requires.0 in
-    put_length l.invariant.2 (omega (arith, c.requires.1))
+    let more = put_more l.invariant.1 put (omega (arith, c.requires.1, put.next)) in
+    (omega (arith, put.next), rw (rows_more part_text (parts_of s) no_part l.k (omega arith), here) more)
 
 pub returns : goal.returns
 returns c =
     let s = c.args.catalogue.now in
     let l = c.loop-k in
     let whole = whole_catalogue s c.requires.0 in
-    (omega arith, rw (text_rows part_line (parts_of s), ← rows_all part_text (parts_of s) no_part l.k (omega arith)) l.invariant.2)
+    (omega arith, rw (text_rows part_line (parts_of s), ← rows_all part_text (parts_of s) no_part l.k (omega arith)) l.invariant.1)

@@ -1,75 +1,54 @@
 -- `sheet_import::judging::put_devices` meets its contract.
-use mathlib.Core.Path.{◌≡◌, sym, ap, ◌∙◌}
-use mathlib.Core.Bool.{false}
-use native.Mathlib.Omega.{arith}
-use Prim.Native.Nat.{◌≤◌}
-use lib.ListN.{length}
+use Rattle.std.proofs.Common.{refl, sym, ap, ◌∙◌, arith}
+use Rattle.std.proofs.lemmas.Result.{err_from_is_err_and}
 use lib.Seq.{length-take-le}
 use Rattle.catalogue.specs.Parts.{parts_of, unfit}
-use Rattle.text.specs.Grammar.{lines_of}
 use Rattle.text.proofs.Puts.{put_front}
 use Rattle.sheet.specs.declared.SheetKind.TheVariants.{Devices}
-use Rattle.sheet.specs.Sheets.{lines_fault}
-use Rattle.sheet_import.specs.inside.Reading.{devices_raw}
 use Rattle.sheet_import.proofs.Tables.{sound_lines, fit_lines}
 use Rattle.sheet_import.proofs.Outcomes.{rows_parts}
-use Rattle.sheet_import.proofs.Only.{judged_passed, judged_refused, again_told, none_told}
+use Rattle.sheet_import.proofs.Only.{judged_passed, judged_told, told_again, always}
 use Rattle.sheet_import.proofs.judging.put_devices.Goals as goal
 
-pub returns-then-fault-ne0 : goal.returns-then-fault-ne0
-returns-then-fault-ne0 c = (judged_refused _ c.judge_devices-fault.ensures c.if-fault-ne0.true, λ z. absurd (c.if-fault-ne0.true z))
+pub returns-in_err-judge_devices : goal.returns-in_err-judge_devices
+returns-in_err-judge_devices c =
+    let p = err_from_is_err_and c.from_residual.result c.from_residual.ensures.1 in
+    rw (p.1, p.2) (record { fault = judged_told c.args.text.now _ c.in_err-judge_devices.ensures; bytes = tt })
 
 pub overflow_mul-size : goal.overflow_mul-size
 overflow_mul-size c =
-    let passed : (let ls = lines_of c.args.text.now in (lines_fault Devices ls ≡ 0) × (unfit (devices_raw ls) ≡ false)) = judged_passed _ c.judge_devices-fault.ensures c.if-fault-ne0.false in
-    let few : (c.count_lines-lines.result ≤ 64) × (c.count_lines-lines.result ≡ length (lines_of c.args.text.now)) = let f = (fit_lines c.args.text.now passed.1).0 in
-    (omega (arith, f, c.count_lines-lines.ensures), c.count_lines-lines.ensures) in
-    omega (arith, few.0)
+    let s = c.args.text.now in
+    let passed = judged_passed s c.in_ok-judge_devices.ensures refl in
+    omega (arith, (fit_lines s passed.1).0, c.count_lines-lines.ensures)
 
 pub put_rows-requires : goal.put_rows-requires
 put_rows-requires c =
-    let passed : (let ls = lines_of c.args.text.now in (lines_fault Devices ls ≡ 0) × (unfit (devices_raw ls) ≡ false)) = judged_passed _ c.judge_devices-fault.ensures c.if-fault-ne0.false in
-    let few : (c.count_lines-lines.result ≤ 64) × (c.count_lines-lines.result ≡ length (lines_of c.args.text.now)) = let f = (fit_lines c.args.text.now passed.1).0 in
-    (omega (arith, f, c.count_lines-lines.ensures), c.count_lines-lines.ensures) in
     let s = c.args.text.now in
-    let p = passed in
-    let n = few in
-    (n.1, omega (arith, n.0, c.requires), λ k h. (sound_lines Devices s p.0 k h, (fit_lines s p.1).1 k h))
+    let passed = judged_passed s c.in_ok-judge_devices.ensures refl in
+    let fit = fit_lines s passed.1 in
+    (c.count_lines-lines.ensures, omega (arith, fit.0, c.count_lines-lines.ensures, c.requires), λ k h. (sound_lines Devices s passed.0 k h, fit.1 k h))
 
 pub slice_bounds-repeated_at-end : goal.slice_bounds-repeated_at-end
 slice_bounds-repeated_at-end c =
-    let passed : (let ls = lines_of c.args.text.now in (lines_fault Devices ls ≡ 0) × (unfit (devices_raw ls) ≡ false)) = judged_passed _ c.judge_devices-fault.ensures c.if-fault-ne0.false in
-    let few : (c.count_lines-lines.result ≤ 64) × (c.count_lines-lines.result ≡ length (lines_of c.args.text.now)) = let f = (fit_lines c.args.text.now passed.1).0 in
-    (omega (arith, f, c.count_lines-lines.ensures), c.count_lines-lines.ensures) in
-    omega (arith, few.0, c.requires, c.put_rows.auto)
+    let s = c.args.text.now in
+    let passed = judged_passed s c.in_ok-judge_devices.ensures refl in
+    omega (arith, (fit_lines s passed.1).0, c.count_lines-lines.ensures, c.requires, c.put_rows.auto)
 
 pub slice_bounds-repeated_at-end-2 : goal.slice_bounds-repeated_at-end-2
 slice_bounds-repeated_at-end-2 c = sym (length-take-le _ _ (slice_bounds-repeated_at-end c))
 
-pub repeated_at-again-requires : goal.repeated_at-again-requires
-repeated_at-again-requires c =
-    let passed : (let ls = lines_of c.args.text.now in (lines_fault Devices ls ≡ 0) × (unfit (devices_raw ls) ≡ false)) = judged_passed _ c.judge_devices-fault.ensures c.if-fault-ne0.false in
+pub repeated_at-requires : goal.repeated_at-requires
+repeated_at-requires c =
     let s = c.args.text.now in
-    let p = passed in
-    ap unfit (ap parts_of (put_front c.put_rows.ensures) ∙ rows_parts s p.1) ∙ p.1
-
-pub returns-then-again-lines : goal.returns-then-again-lines
-returns-then-again-lines c =
-    let passed : (let ls = lines_of c.args.text.now in (lines_fault Devices ls ≡ 0) × (unfit (devices_raw ls) ≡ false)) = judged_passed _ c.judge_devices-fault.ensures c.if-fault-ne0.false in
-    let few : (c.count_lines-lines.result ≤ 64) × (c.count_lines-lines.result ≡ length (lines_of c.args.text.now)) = let f = (fit_lines c.args.text.now passed.1).0 in
-    (omega (arith, f, c.count_lines-lines.ensures), c.count_lines-lines.ensures) in
-    let s = c.args.text.now in
-    let p = passed in
-    let same = ap parts_of (put_front c.put_rows.ensures) ∙ rows_parts s p.1 in
-    (again_told s p.0 p.1 _ same c.repeated_at-again.result c.repeated_at-again.ensures (omega (arith, few.1, c.if-again-lines.true)), λ z. absurd (omega (arith, z)))
+    let passed = judged_passed s c.in_ok-judge_devices.ensures refl in
+    ap unfit (ap parts_of (put_front c.put_rows.ensures) ∙ rows_parts s passed.1) ∙ passed.1
 
 pub returns : goal.returns
 returns c =
-    let passed : (let ls = lines_of c.args.text.now in (lines_fault Devices ls ≡ 0) × (unfit (devices_raw ls) ≡ false)) = judged_passed _ c.judge_devices-fault.ensures c.if-fault-ne0.false in
-    let few : (c.count_lines-lines.result ≤ 64) × (c.count_lines-lines.result ≡ length (lines_of c.args.text.now)) = let f = (fit_lines c.args.text.now passed.1).0 in
-    (omega (arith, f, c.count_lines-lines.ensures), c.count_lines-lines.ensures) in
     let s = c.args.text.now in
-    let p = passed in
-    let n = few.1 in
-    let same = ap parts_of (put_front c.put_rows.ensures) ∙ rows_parts s p.1 in
-    (none_told s p.0 p.1 _ same c.repeated_at-again.result c.repeated_at-again.ensures (omega (arith, n, c.if-again-lines.false)), λ z. rw (← n) c.put_rows.ensures)
+    let passed = judged_passed s c.in_ok-judge_devices.ensures refl in
+    let same = ap parts_of (put_front c.put_rows.ensures) ∙ rows_parts s passed.1 in
+    record {
+      fault = rw c.fault_at.ensures (told_again s passed.0 passed.1 _ same c.repeated_at.result c.repeated_at.ensures);
+      bytes = always c.fault_at.result (rw (← c.count_lines-lines.ensures) c.put_rows.ensures);
+    }

@@ -13,7 +13,7 @@ pub loop-k-init : goal.loop-k-init
 loop-k-init c =
     let a = c.args in
     let none : (columns_of a.rows).texts ≡ (columns_of a.rows).texts + 0 = omega arith in
-    (omega arith, ap (λ (x : ℕ). are_numbers (columns_of a.rows).most (drop x (raw_in a.line.now))) none)
+    ap (λ (x : ℕ). are_numbers (columns_of a.rows).most (drop x (raw_in a.line.now))) none
 
 pub overflow_add-first : goal.overflow_add-first
 overflow_add-first c = omega (arith, c.texts-first.ensures, few_texts c.args.rows)
@@ -21,8 +21,8 @@ overflow_add-first c = omega (arith, c.texts-first.ensures, few_texts c.args.row
 pub field-requires : goal.field-requires
 field-requires c = c.requires
 
-pub returns-then-most-number_of : goal.returns-then-most-number_of
-returns-then-most-number_of c =
+pub returns-then-not-fits : goal.returns-then-not-fits
+returns-then-not-fits c =
     let l = c.loop-k in
     let a = c.args in
     let fs = raw_in a.line.now in
@@ -30,8 +30,7 @@ returns-then-most-number_of c =
     let place : c.texts-first.result + l.k ≡ (columns_of a.rows).texts + l.k = ap (λ (x : ℕ). x + l.k) first in
     let number : c.number_of.result ≡ number_of (get_or fs ((columns_of a.rows).texts + l.k) []) =
     c.number_of.ensures ∙ ap number_of (c.field.ensures ∙ ap (λ (x : ℕ). get_or fs x []) place) in
-    let bound = c.most.ensures in
-    sym (l.invariant.1 ∙ number_fails a.rows fs l.k (omega arith) (omega arith))
+    sym (l.invariant ∙ number_fails a.rows fs l.k (omega arith) (rw (← number, ← c.most.ensures) (sym c.fits.ensures ∙ c.if-not-fits.true)))
 
 pub loop-k-preserved : goal.loop-k-preserved
 loop-k-preserved c =
@@ -42,11 +41,10 @@ loop-k-preserved c =
     let place : c.texts-first.result + l.k ≡ (columns_of a.rows).texts + l.k = ap (λ (x : ℕ). x + l.k) first in
     let number : c.number_of.result ≡ number_of (get_or fs ((columns_of a.rows).texts + l.k) []) =
     c.number_of.ensures ∙ ap number_of (c.field.ensures ∙ ap (λ (x : ℕ). get_or fs x []) place) in
-    let bound = c.most.ensures in
-    (omega arith, l.invariant.1 ∙ number_passes a.rows fs l.k (omega arith) (omega arith))
+    l.invariant ∙ number_passes a.rows fs l.k (omega arith) (rw (← number, ← c.most.ensures) (sym c.fits.ensures ∙ c.if-not-fits.false))
 
 pub returns : goal.returns
 returns c =
     let l = c.loop-k in
     let a = c.args in
-    sym (l.invariant.1 ∙ numbers_done a.rows (raw_in a.line.now) l.k (omega arith))
+    sym (l.invariant ∙ numbers_done a.rows (raw_in a.line.now) l.k (omega arith))

@@ -12,15 +12,15 @@ use Rattle.sheet_import.proofs.RowLines.{row_size_lem, one_more, room_left}
 use Rattle.sheet_import.proofs.reading.put_rows.Goals as goal
 
 pub loop-k-init : goal.loop-k-init
-loop-k-init c = (omega arith, sym (zero-mul (row_size c.args.rows)), put_none _ _)
+loop-k-init c = (sym (zero-mul (row_size c.args.rows)), put_none _ _)
 
 pub put_row-at-requires : goal.put_row-at-requires
 put_row-at-requires c =
     let l = c.loop-k in
     let inside : l.k < c.args.lines = omega arith in
     let room = room_left (row_size c.args.rows) inside c.requires.1 in
-    let kept = put_length l.invariant.2 (omega (arith, room, l.invariant.1)) in
-    rw c.line.ensures (omega (arith, room, l.invariant.1), c.requires.2 l.k (omega (arith, c.requires.0)))
+    let kept = put_length l.invariant.1 (omega (arith, room, l.invariant.0)) in
+    rw c.line.ensures (omega (arith, room, l.invariant.0), c.requires.2 l.k (omega (arith, c.requires.0)))
 
 pub loop-k-preserved : goal.loop-k-preserved
 loop-k-preserved c =
@@ -31,13 +31,13 @@ loop-k-preserved c =
     let room = room_left (row_size rows) inside c.requires.1 in
     let long = row_size_lem rows (line_at s l.k) (c.requires.2 l.k (omega (arith, c.requires.0))) in
     let put = rw c.line.ensures at c.put_row-at.ensures in
-    let more = put_more {u = row_bytes rows (line_at s l.k)} l.invariant.2 put (omega (arith, room, long, l.invariant.1, put.next)) in
-    (omega arith, omega (arith, long, l.invariant.1, put.next, one_more l.k (row_size rows)), rw (rows_more (row_bytes rows) (lines_of s) [] l.k (omega (arith, c.requires.0))) more)
+    let more = put_more {u = row_bytes rows (line_at s l.k)} l.invariant.1 put (omega (arith, room, long, l.invariant.0, put.next)) in
+    (omega (arith, long, l.invariant.0, put.next, one_more l.k (row_size rows)), rw (rows_more (row_bytes rows) (lines_of s) [] l.k (omega (arith, c.requires.0))) more)
 
 pub shape_of-out : goal.shape_of-out
 shape_of-out c =
     let l = c.loop-k in
-    put_length l.invariant.2 (omega (arith, l.invariant.1, c.requires.1, mul-le-mul_right (row_size c.args.rows) l.invariant.0))
+    put_length l.invariant.1 (omega (arith, l.invariant.0, c.requires.1, mul-le-mul_right (row_size c.args.rows) (l.auto.k-end)))
 
 pub returns : goal.returns
 returns c =
@@ -45,5 +45,5 @@ returns c =
     let rows = c.args.rows in
     let s = c.args.text.now in
     let done : l.k ≡ c.args.lines = omega arith in
-    let all : l.at ≡ c.args.lines * row_size rows = l.invariant.1 ∙ ap (λ (k : ℕ). k * row_size rows) done in
-    rw (← all, ← rows_all (row_bytes rows) (lines_of s) [] l.k (omega (arith, c.requires.0))) l.invariant.2
+    let all : l.at ≡ c.args.lines * row_size rows = l.invariant.0 ∙ ap (λ (k : ℕ). k * row_size rows) done in
+    rw (← all, ← rows_all (row_bytes rows) (lines_of s) [] l.k (omega (arith, c.requires.0))) l.invariant.1

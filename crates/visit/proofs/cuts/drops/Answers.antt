@@ -10,7 +10,7 @@ use Rattle.visit.proofs.cuts.drops.Goals as goal
 pub returns : goal.returns
 returns c =
     let a = c.args in
-    let run_is = c.wide-c.ensures.0 ∙ c.run_of.ensures in
-    let due-is = c.wide-d.ensures.0 ∙ c.deadline_of.ensures in
-    let same : c.lessened.result ≡ suc (deadline (recorder_of a.r.now) a.j.0) - (a.start + run (recorder_of a.r.now) a.j.0) = omega (arith, c.lessened.ensures, run_is, due-is) in
+    let run_is = c.from-c.ensures ∙ c.run_of.ensures in
+    let due-is = c.from-d.ensures ∙ c.deadline_of.ensures in
+    let same : c.saturating_sub.result ≡ suc (deadline (recorder_of a.r.now) a.j.0) - (a.start + run (recorder_of a.r.now) a.j.0) = omega (arith, c.saturating_sub.ensures, run_is, due-is) in
     subst (λ (n : ℕ). Added a.budget n a.tally.now c.add_count.new.tally c.add_count.result) same c.add_count.ensures

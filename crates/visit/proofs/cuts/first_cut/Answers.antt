@@ -8,19 +8,19 @@ run_of-requires c = c.requires.1.0
 
 pub overflow_sub-v : goal.overflow_sub-v
 overflow_sub-v c =
-    omega (arith, c.wide-c.ensures.0 ∙ c.run_of.ensures, c.requires.1.1.0)
+    omega (arith, c.from-c.ensures ∙ c.run_of.ensures, c.requires.1.1.0)
 
 pub limit_of-limit-requires : goal.limit_of-limit-requires
 limit_of-limit-requires c =
-    omega (arith, c.wide.ensures.0 ∙ c.horizon_of.ensures, c.requires.1.1.1)
+    omega (arith, c.from.ensures ∙ c.horizon_of.ensures, c.requires.1.1.1)
 
 pub deadline_of-requires : goal.deadline_of-requires
 deadline_of-requires c = c.requires.1.0
 
-pub overflow_add-smaller : goal.overflow_add-smaller
-overflow_add-smaller c = omega (arith, c.smaller.ensures, c.wide-2.ensures.1)
+pub overflow_add-last : goal.overflow_add-last
+overflow_add-last c = omega (arith, c.min-last.ensures, c.from-2.ensures)
 
 pub returns : goal.returns
 returns c =
-    rw (← c.run_of.ensures, ← c.wide-c.ensures.0, ← c.horizon_of.ensures, ← c.wide.ensures.0, ← c.limit_of-limit.ensures, ← c.deadline_of.ensures, ← c.wide-2.ensures.0, ← c.smaller.ensures)
-    c.lessened.ensures
+    rw (← c.run_of.ensures, ← c.from-c.ensures, ← c.horizon_of.ensures, ← c.from.ensures, ← c.limit_of-limit.ensures, ← c.deadline_of.ensures, ← c.from-2.ensures, ← c.min-last.ensures)
+    c.saturating_sub.ensures

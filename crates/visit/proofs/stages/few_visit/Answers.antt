@@ -8,4 +8,4 @@ whole_visit-requires c = (lends_clear _ _ _ c.requires.0 (get_d_zeros 1), c.requ
 pub returns : goal.returns
 returns c =
     let v = c.whole_visit.ensures in
-    (v.0, ran_as _ _ _ _ c.smaller.ensures _ _ v.1)
+    (v.0, ran_as _ _ _ _ c.min.ensures _ _ v.1)

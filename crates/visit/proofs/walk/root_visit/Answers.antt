@@ -20,18 +20,18 @@ count_one-requires c = (c.requires.1.0, omega (arith, c.requires.1.1.0))
 pub root_of-v-requires : goal.root_of-v-requires
 root_of-v-requires c = c.requires.0.tabled.valid
 
-pub returns-then-wide-v : goal.returns-then-wide-v
-returns-then-wide-v c =
+pub returns-then-from-v : goal.returns-then-from-v
+returns-then-from-v c =
     let R = recorder_of c.args.r.now in (
       (counted_less c.args.tally.now _ c.requires.1.0 c.count_one.ensures).0,
       λ stop e. root_cut R stop c.args.budget c.requires.0.tabled.valid _ c.root_of-v.ensures
-          (omega (arith, c.if-wide-v.true, c.wide.ensures.0 ∙ c.horizon_of.ensures)) c.args.tally.now _
+          (omega (arith, c.if-from-v.true, c.from.ensures ∙ c.horizon_of.ensures)) c.args.tally.now _
           (root_tells R stop c.args.budget c.args.tally.now c.requires.1.0 c.requires.1.1.0 c.requires.1.1.1.0 e) (omega (arith, c.if-budget-eq0.false)) c.count_one.ensures,
     )
 
 pub root_floor-floor-requires : goal.root_floor-floor-requires
 root_floor-floor-requires c =
-    (c.requires.0.tabled, root_aheads (recorder_of c.args.r.now) c.requires.1.1.1.1.0 c.args.budget c.requires.0.tabled.valid _ c.root_of-v.ensures (omega (arith, c.if-wide-v.false, c.wide.ensures.0 ∙ c.horizon_of.ensures)))
+    (c.requires.0.tabled, root_aheads (recorder_of c.args.r.now) c.requires.1.1.1.1.0 c.args.budget c.requires.0.tabled.valid _ c.root_of-v.ensures (omega (arith, c.if-from-v.false, c.from.ensures ∙ c.horizon_of.ensures)))
 
 pub close_of-requires : goal.close_of-requires
 close_of-requires c =
@@ -59,7 +59,7 @@ returns-then-n-eq0 c =
     let f = c.root_floor-floor in (
       offered-long,
       λ stop q.
-          root_complete R stop c.args.budget c.requires.0.tabled.valid _ c.root_of-v.ensures (omega (arith, c.if-wide-v.false, c.wide.ensures.0 ∙ c.horizon_of.ensures)) c.args.tally.now _
+          root_complete R stop c.args.budget c.requires.0.tabled.valid _ c.root_of-v.ensures (omega (arith, c.if-from-v.false, c.from.ensures ∙ c.horizon_of.ensures)) c.args.tally.now _
           (root_tells R stop c.args.budget c.args.tally.now c.requires.1.0 c.requires.1.1.0 c.requires.1.1.1.0 q) (omega (arith, c.if-budget-eq0.false)) c.count_one.ensures
           (sym c.job_count-n.ensures ∙ c.if-n-eq0.true) f.result _ f.ensures.0 (ap (λ (y : ℕ). f.result + y) close.ensures.0) (omega (arith, close.ensures.1, f.ensures.1)) _ c.offer.ensures
           _ c.stops.ensures,
@@ -74,7 +74,7 @@ choices-requires c =
     let R = recorder_of c.args.r.now in
     let f = c.root_floor-floor in
     let shows = c.root_of-v.ensures in
-    let room : load_at c.root_of-v.result ≤ R.horizon = omega (arith, c.if-wide-v.false, c.wide.ensures.0 ∙ c.horizon_of.ensures) in
+    let room : load_at c.root_of-v.result ≤ R.horizon = omega (arith, c.if-from-v.false, c.from.ensures ∙ c.horizon_of.ensures) in
     let stop = c.requires.1.1.1.1.0 in
     let tells = root_tells R stop c.args.budget c.args.tally.now c.requires.1.0 c.requires.1.1.0 c.requires.1.1.1.0 c.requires.1.1.1.1.1 in
     let less : 0 < c.args.budget = omega (arith, c.if-budget-eq0.false) in
@@ -96,7 +96,7 @@ returns c =
     let R = recorder_of c.args.r.now in
     let f = c.root_floor-floor in
     let shows = c.root_of-v.ensures in
-    let room : load_at c.root_of-v.result ≤ R.horizon = omega (arith, c.if-wide-v.false, c.wide.ensures.0 ∙ c.horizon_of.ensures) in
+    let room : load_at c.root_of-v.result ≤ R.horizon = omega (arith, c.if-from-v.false, c.from.ensures ∙ c.horizon_of.ensures) in
     let less : 0 < c.args.budget = omega (arith, c.if-budget-eq0.false) in (
       c.choices.ensures.kept.1.0,
       λ stop q.
