@@ -101,8 +101,9 @@ pub(crate) fn devices_of(catalogue: &[u8], wanted: &[u8]) -> DeviceTable
     requires { (unfit (parts_of catalogue.now) ≡ false) × (lacking (parts_of catalogue.now) (pieces 8 wanted.now) ≡ false) }
     ensures { result ≡ devices_of (map (record_of (parts_of catalogue.now)) (pieces 8 wanted.now)) }
 {
-use crate::numbers::is_formed;
-use tables::{DeviceRecord, DeviceTable, Table, blank_device, first_at};
+    let count = wanted.len() / 8;
+    let mut devices = Table {
+        count,
         list: [blank_device(); 8],
     };
     // A table has room for eight.
