@@ -4,12 +4,13 @@
 #![tactic(auto)]
 
 ghost use Rattle.std.specs.Prelude.{◌≡◌};
+ghost use Rattle.planner.specs.Answers.{answered, plain};
 ghost use Rattle.catalogue.specs.Building.{others, Built};
 ghost use Rattle.catalogue.specs.Faults.{OrderFault, fault_at, told};
 
 use crate::look_up::{devices_of, lacking_at, unfit_at};
 use base::Reason;
-use planner::{Answer, refusal, write};
+use planner::{Figures, Refusal, write};
 use tables::{JobTable, Kind, Tables, TaskTable};
 
 mod look_up; // look_up.rt: the parts of a catalogue, by their numbers
@@ -43,6 +44,15 @@ pub fn order_fault(catalogue: &[u8], wanted: &[u8]) -> Result<(), PartFault>
     fault_at(Reason::PartLacking, lacking_at(catalogue, wanted))
 }
 
+// A refusal names no part: `order_fault` tells it.
+impl From<PartFault> for Refusal {
+    ghost from_gives = { λ f r. r ≡ plain f.reason };
+
+    fn from(fault: PartFault) -> Refusal {
+        Refusal::from(fault.reason)
+    }
+}
+
 // Writes the request file of the wanted parts. The catalogue has 15 bytes a part, 8 of part number and 7 of device record; the wanted parts are 8 bytes each.
 pub fn build(
     catalogue: &[u8],
@@ -51,12 +61,10 @@ pub fn build(
     tasks: TaskTable,
     jobs: JobTable,
     out: &mut [u8],
-) -> Answer
-    ensures { Built catalogue.now wanted.now (others horizon tasks jobs) out.old result out.new }
+) -> Result<Figures, Refusal>
+    ensures { Built catalogue.now wanted.now (others horizon tasks jobs) out.old (answered result) out.new }
 {
-    if let Err(fault) = order_fault(catalogue, wanted) {
-        return refusal(fault.reason.number());
-    }
+    order_fault(catalogue, wanted)?;
     let devices = devices_of(catalogue, wanted);
     write(
         Tables {

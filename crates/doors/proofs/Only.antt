@@ -6,7 +6,7 @@ use lib.IntN.{pos}
 use lib.ListN.{get_or}
 use Rattle.schedule.specs.Quantities.{jobs}
 use Rattle.planner.specs.declared.Answer.{Answer}
-use Rattle.planner.specs.declared.FileTables.{FileTables}
+use Rattle.planner.specs.Answers.{Listing}
 use Rattle.planner.specs.Promises.{OfFile, Judged, MarginsOf, Written}
 use Rattle.planner.proofs.Refusing.{one_unless, one_gives}
 use Rattle.planner.proofs.Only.{only_judged, only_margined, only_written, only_listed}
@@ -58,7 +58,7 @@ only_mend_door file starts lent result =
 -- What is told of a file's tables goes by its one listing.
 one_told : (file lent : List ℕ) {a a' : Answer} {l l' : List ℕ} → TablesTold file lent a l → TablesTold file lent a' l' → (a ≡ a') × (l ≡ l')
 one_told file lent (told {a = a} {after = l} p t) (told {a = a'} {after = l'} p' t') =
-    one_unless (one_unless one_gives) a a' l l' t (subst (λ (r : FileTables). ToldOf r lent a' l') (only_listed file p' p) t')
+    one_unless (one_unless one_gives) a a' l l' t (subst (λ (r : Listing). ToldOf r lent a' l') (only_listed file p' p) t')
 
 module _ {n n' : ℕ} {l l' r r' : List ℕ} where
   pub only_write_door : (tables lent result : List ℕ) → WriteDoor tables lent result n l r → WriteDoor tables lent result n' l' r' → (n ≡ n') × (r ≡ r') × (l ≡ l')

@@ -20,7 +20,7 @@ use Rattle.request.specs.Format.{read_of}
 use Rattle.request.proofs.Accepted.{refused_number}
 use Rattle.request.proofs.Limiting.{accepted_whole}
 use Rattle.planner.specs.declared.Answer.{Answer}
-use Rattle.planner.specs.declared.FileTables.{FileTables}
+use Rattle.planner.specs.Answers.{Listing}
 use Rattle.planner.specs.Promises.{Reads, OfFile, TablesOf, TablesGiven}
 use Rattle.planner.specs.Promises as P
 use Rattle.table_bytes.specs.TableBytes.{Few}
@@ -35,7 +35,7 @@ few_of : (file : List ℕ) (a : Answer) (T : Tables) → OfFile file no_tables (
 few_of file a T (P.OfFile.refused {n = n} r) z = absurd (omega (arith, z, refused_number file n r))
 few_of file a T (P.OfFile.read {R = R} r P.TablesOf.listed) z = read_few file R r
 
-pub listed_few : (file : List ℕ) (r : FileTables) → TablesGiven file r → r.answer.number ≡ 0 → Few r.tables
+pub listed_few : (file : List ℕ) (r : Listing) → TablesGiven file r → r.answer.number ≡ 0 → Few r.tables
 listed_few file r l z = few_of file r.answer r.tables l z
 
 -- What a file in its array holds.

@@ -8,7 +8,7 @@ use lib.Seq.{take_at}
 use Rattle.tables.specs.declared.Tables.{Tables}
 use Rattle.tables.specs.Layout.{counted, Bytes}
 use Rattle.planner.specs.declared.Answer.{Answer}
-use Rattle.planner.specs.declared.FileTables.{FileTables}
+use Rattle.planner.specs.Answers.{Listing}
 use Rattle.planner.specs.Promises.{success, refusal, stops, passes, Unless, Gives, gives, Written, TablesGiven}
 use Rattle.planner.proofs.Refusing.{unless_enough}
 use Rattle.planner.proofs.Writing.{written_listed, listed_written, counted_written}
@@ -47,14 +47,14 @@ settled zero h = refl
 settled (suc n) h = absurd (h (λ e. omega arith))
 
 -- The tables that are given of a file are written as it.
-given_written : (file lent : List ℕ) → Bytes file → (r : FileTables) → TablesGiven file r → r.answer.number ≡ 0 → (room result : List ℕ) → length file ≤ length room → Roomy result
+given_written : (file lent : List ℕ) → Bytes file → (r : Listing) → TablesGiven file r → r.answer.number ≡ 0 → (room result : List ℕ) → length file ≤ length room → Roomy result
     → WriteDoor (take (length (table_bytes r.tables)) (table_bytes r.tables ++ drop (length (table_bytes r.tables)) lent)) room result 0 (file ++ drop (length file) room)
     (told (success r.answer.horizon 0 (length file)) result)
 given_written file lent b r p q room result l roomy =
     bytes_written r.tables (listed_few file r p q) _ room result (take_at (table_bytes r.tables) (drop (length (table_bytes r.tables)) lent) (length (table_bytes r.tables)) refl)
     roomy (success r.answer.horizon 0 (length file)) (file ++ drop (length file) room) (listed_written file r room b p q l)
 
-told_of_written : (file lent : List ℕ) → Bytes file → (r : FileTables) → TablesGiven file r → {a : Answer} {after : List ℕ} → D.ToldOf r lent a after → a.number ≡ 0
+told_of_written : (file lent : List ℕ) → Bytes file → (r : Listing) → TablesGiven file r → {a : Answer} {after : List ℕ} → D.ToldOf r lent a after → a.number ≡ 0
     → (room result : List ℕ) → length file ≤ length room → Roomy result
     → WriteDoor (take a.count after) room result 0 (file ++ drop (length file) room) (told (success a.horizon 0 (length file)) result)
 told_of_written file lent b r p (stops h) z room result l roomy = absurd (h z)

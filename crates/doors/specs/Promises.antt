@@ -5,7 +5,7 @@ use Rattle.base.specs.Bytes.{byte_at, pair_at}
 use Rattle.schedule.specs.declared.Recorder.{Recorder}
 use Rattle.schedule.specs.Quantities.{jobs}
 use Rattle.planner.specs.declared.Answer.{Answer}
-use Rattle.planner.specs.declared.FileTables.{FileTables}
+use Rattle.planner.specs.Answers.{Listing}
 use Rattle.planner.specs.Promises.{success, refusal, Unless, Gives, OfFile, Judged, MarginsOf, Written, TablesGiven}
 use Rattle.catalogue.specs.Building.{Others, others, Built}
 use Rattle.possible.specs.Promises.{PossibleOf}
@@ -75,7 +75,7 @@ BuildDoor catalogue wanted tables lent result n lent' result' =
 
 -- ---- `door_tables`: the file's refusal; or the bytes of its tables, which the answer counts, and 15 where they have no room. What is lent beyond stays as it was
 
-abbrev pub ToldOf : (r : FileTables) (lent : List ℕ) → Answer → List ℕ → Type 0
+abbrev pub ToldOf : (r : Listing) (lent : List ℕ) → Answer → List ℕ → Type 0
 ToldOf r lent =
     let bytes = table_bytes r.tables in
     Unless (r.answer.number ≡ 0 → ⊥) r.answer lent
@@ -83,7 +83,7 @@ ToldOf r lent =
     (Gives (success r.answer.horizon 0 (length bytes)) (bytes ++ drop (length bytes) lent)))
 
 pub data TablesTold (file lent : List ℕ) : Answer → List ℕ → Type 0 where
-  told : {r : FileTables} {a : Answer} {after : List ℕ} → TablesGiven file r → ToldOf r lent a after → TablesTold file lent a after
+  told : {r : Listing} {a : Answer} {after : List ℕ} → TablesGiven file r → ToldOf r lent a after → TablesTold file lent a after
 
 abbrev pub TablesDoor : (file lent result : List ℕ) → ℕ → List ℕ → List ℕ → Type 0
 TablesDoor file lent result n lent' result' = Door (Roomy result) result lent (TablesTold file lent) n result' lent'

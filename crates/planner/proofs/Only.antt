@@ -18,11 +18,9 @@ use Rattle.schedule.proofs.Outcome.{costs_only, rows_only, one_first_least}
 use Rattle.tables.specs.declared.Tables.{Tables}
 use Rattle.tables.specs.Layout.{tables_of, no_tables}
 use Rattle.planner.specs.declared.Answer.{Answer}
-use Rattle.std.specs.Prelude.{Result}
-use Rattle.planner.specs.declared.FileTables.{FileTables}
-use Rattle.planner.specs.declared.answers.Refusal.{Refusal}
+use Rattle.planner.specs.Answers.{Listing}
 use Rattle.planner.specs.Promises.{success, OfFile, Answered}
-use Rattle.planner.specs.Promises.{CheckOf, accepted, Checked, SizesOf, Sized, MarginsOf, Margined, VerdictOf, Judged, RowsOf, Rowed, GivesLeast, found, SearchOf, Searched, KeptUnless, SearchedIn, WriteOf, Written, TablesOf, listed, listing_answer, listing_tables, TablesGiven}
+use Rattle.planner.specs.Promises.{CheckOf, accepted, Checked, SizesOf, Sized, MarginsOf, Margined, VerdictOf, Judged, RowsOf, Rowed, GivesLeast, found, SearchOf, Searched, KeptUnless, SearchedIn, WriteOf, Written, TablesOf, listed, TablesGiven}
 use Rattle.planner.specs.Promises as P
 use Rattle.planner.proofs.Reading.{two_of_file}
 use Rattle.planner.proofs.Refusing.{One, one_unless, one_unless_faulty, one_gives, one_such}
@@ -148,6 +146,9 @@ only_written T lent (P.Written.read {R = R} {a = a} {after = l} r t) (P.Written.
 one_list : (file : List ℕ) (R : Recorder) {a a' : Answer} {T T' : Tables} → TablesOf file R a T → TablesOf file R a' T' → (a ≡ a') × (T ≡ T')
 one_list file R listed listed = (refl, refl)
 
-pub only_listed : (file : List ℕ) (r r' : Result FileTables Refusal) → TablesGiven file r → TablesGiven file r'
-    → (listing_answer r ≡ listing_answer r') × (listing_tables r ≡ listing_tables r')
-only_listed file r r' p p' = only_of_file file no_tables (TablesOf file) (λ R v a a' T T'. one_list file R) p p'
+pub only_listed : (file : List ℕ) {r r' : Listing} → TablesGiven file r → TablesGiven file r' → r ≡ r'
+only_listed file p p' =
+    let e = only_of_file file no_tables (TablesOf file) (λ R v a a' T T'. one_list file R) p p' in
+    let a = e.0 in
+    let b = e.1 in
+    rw (a, b)

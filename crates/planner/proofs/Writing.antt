@@ -16,16 +16,14 @@ use Rattle.request.proofs.Accepted.{refused_number, number_as}
 use Rattle.request.proofs.Limiting.{accepted_whole}
 use Rattle.request.proofs.Marks.{first_plain, read_marked}
 use Rattle.planner.specs.declared.Answer.{Answer}
-use Rattle.std.specs.Prelude.{Result, Ok}
-use Rattle.planner.specs.declared.FileTables.{FileTables}
-use Rattle.planner.specs.declared.answers.Refusal.{Refusal}
-use Rattle.planner.specs.Promises.{success, refusal, Unless, stops, passes, Gives, gives, Reads, OfFile, Checked, Written, TablesOf, listing_answer, listing_tables, TablesGiven}
+use Rattle.planner.specs.Answers.{Listing}
+use Rattle.planner.specs.Promises.{success, refusal, Unless, stops, passes, Gives, gives, Reads, OfFile, Checked, Written, TablesOf, TablesGiven}
 use Rattle.planner.specs.Promises as P
 use Rattle.planner.proofs.Refusing.{unless_enough}
 
 -- The listing of a file that is read as R.
-abbrev listing : Recorder → Tables → Result FileTables Refusal
-listing R T = Ok (record { horizon = R.horizon; tables = T })
+abbrev listing : Recorder → Tables → Listing
+listing R T = record { answer = success R.horizon 0 0; tables = T }
 
 -- Tables that are accepted are those of a file: their own bytes;
 module _ (T : Tables) (R : Recorder) (r : read_as T.kind (layout_of T) ≡ accepted R) where
@@ -40,7 +38,7 @@ module _ (T : Tables) (R : Recorder) (r : read_as T.kind (layout_of T) ≡ accep
 
 -- Reading what was written gives the tables again.
 pub written_listed : (T : Tables) (lent : List ℕ) (a : Answer) (after : List ℕ) → Written T lent a after → a.number ≡ 0
-    → TablesGiven (take a.count after) (Ok (record { horizon = a.horizon; tables = counted T }))
+    → TablesGiven (take a.count after) (record { answer = success a.horizon 0 0; tables = counted T })
 written_listed T lent a after (P.Written.refused {n = n} r) z = absurd (omega (arith, number_as T.kind (layout_of T) n r))
 written_listed T lent a after (P.Written.read r (stops h)) z = absurd (omega arith)
 written_listed T lent a after (P.Written.read {R = R} r (passes h gives)) z =
@@ -106,6 +104,6 @@ outcome_written : (file lent : List ℕ) (a : Answer) (T : Tables) → Bytes fil
 outcome_written file lent a T b (P.OfFile.refused {n = n} r) z h = absurd (omega (arith, refused_number file n r))
 outcome_written file lent a T b (P.OfFile.read {R = R} r P.TablesOf.listed) z h = same_bytes file R lent b r h
 
-pub listed_written : (file : List ℕ) (r : Result FileTables Refusal) (lent : List ℕ) → Bytes file → TablesGiven file r → (listing_answer r).number ≡ 0
-    → length file ≤ length lent → Written (listing_tables r) lent (success (listing_answer r).horizon 0 (length file)) (file ++ drop (length file) lent)
-listed_written file r lent b l z h = outcome_written file lent (listing_answer r) (listing_tables r) b l z h
+pub listed_written : (file : List ℕ) (r : Listing) (lent : List ℕ) → Bytes file → TablesGiven file r → r.answer.number ≡ 0 → length file ≤ length lent
+    → Written r.tables lent (success r.answer.horizon 0 (length file)) (file ++ drop (length file) lent)
+listed_written file r lent b l z h = outcome_written file lent r.answer r.tables b l z h

@@ -3,8 +3,11 @@ use Rattle.std.specs.Prelude.{Result, Ok, Err}
 use Rattle.base.specs.declared.reasons.Reason.{Reason}
 use Rattle.base.specs.Reasons.{number_of}
 use Rattle.schedule.specs.declared.judging.Misplaced.{Misplaced}
+use Rattle.tables.specs.declared.Tables.{Tables}
+use Rattle.tables.specs.Layout.{no_tables}
 use Rattle.visit.specs.declared.Unfound.{Unfound}
 use Rattle.planner.specs.declared.Answer.{Answer}
+use Rattle.planner.specs.declared.FileTables.{FileTables}
 use Rattle.planner.specs.declared.answers.Figures.{Figures}
 use Rattle.planner.specs.declared.answers.Refusal.{Refusal}
 
@@ -21,3 +24,12 @@ placed m = record { reason = m.reason; job = m.job; count = 0 }
 
 abbrev pub unfound : Unfound → Refusal
 unfound u = record { reason = u.reason; job = record { 0 = 0 }; count = u.count }
+
+-- The tables of a file with their answer; none with a refusal.
+pub record Listing : Type 0 where
+  pub answer : Answer
+  pub tables : Tables
+
+abbrev pub listed_as : Result FileTables Refusal → Listing
+listed_as (Ok f) = record { answer = answered (Ok (record { horizon = f.horizon; energy = 0; count = 0 })); tables = f.tables }
+listed_as (Err e) = record { answer = answered (Err e); tables = no_tables }

@@ -1,7 +1,7 @@
 -- What the nine public operations promise: for each one relation between its inputs and its complete outcome, the answer and the lent memory after it.
 -- The file comes first, in one way for all (`OfFile`); then what each operation says of a recorder, its refusals after the file in their order (rule 16), and
 -- at last what it gives. proofs/Only: each relation has one outcome for every input, but for a memory that was used. proofs/Cases: what it says case by case.
-use Rattle.std.specs.Prelude.{◌≡◌, List, ◌∷◌, ◌++◌, ℕ, ◌*◌, ◌<◌, ℤ, length, drop, Result, Ok, Err}
+use Rattle.std.specs.Prelude.{◌≡◌, List, ◌∷◌, ◌++◌, ℕ, ◌*◌, ◌<◌, ℤ, length, drop}
 use Rattle.base.specs.Lists.{up_to}
 use Rattle.base.specs.Sums.{sum}
 use Rattle.device.specs.Row.{energy}
@@ -14,9 +14,7 @@ use Rattle.tables.specs.Layout.{layout_of, bytes_of, tables_of, no_tables}
 use Rattle.request.specs.Format.{read_as, read_of}
 use Rattle.request.specs.Format as Format
 use Rattle.planner.specs.declared.Answer.{Answer}
-use Rattle.planner.specs.declared.FileTables.{FileTables}
-use Rattle.planner.specs.declared.answers.Refusal.{Refusal}
-use Rattle.planner.specs.Answers.{answered}
+use Rattle.planner.specs.Answers.{Listing}
 
 -- ---- answers
 
@@ -171,13 +169,5 @@ pub data Written (T : Tables) (lent : List ℕ) : Answer → List ℕ → Type 0
 pub data TablesOf (file : List ℕ) (R : Recorder) : Answer → Tables → Type 0 where
   listed : TablesOf file R (success R.horizon 0 0) (tables_of file)
 
-abbrev pub listing_answer : Result FileTables Refusal → Answer
-listing_answer (Ok f) = success f.horizon 0 0
-listing_answer (Err e) = answered (Err e)
-
-abbrev pub listing_tables : Result FileTables Refusal → Tables
-listing_tables (Ok f) = f.tables
-listing_tables (Err e) = no_tables
-
-abbrev pub TablesGiven : List ℕ → Result FileTables Refusal → Type 0
-TablesGiven file r = OfFile file no_tables (TablesOf file) (listing_answer r) (listing_tables r)
+abbrev pub TablesGiven : List ℕ → Listing → Type 0
+TablesGiven file r = OfFile file no_tables (TablesOf file) r.answer r.tables

@@ -3,7 +3,7 @@
 #![tactic(auto)]
 
 ghost use Rattle.std.specs.Prelude.{◌<◌};
-ghost use Rattle.planner.specs.Answers.{answered};
+ghost use Rattle.planner.specs.Answers.{answered, listed_as};
 ghost use Rattle.planner.specs.Promises.{Checked, Sized, Margined, Judged, Rowed, Searched, KeptUnless, Written, TablesGiven};
 
 use crate::recorders::sizes_of;
@@ -119,7 +119,7 @@ pub fn write(given: Tables, out: &mut [u8]) -> Result<Figures, Refusal>
 
 // The tables of a file.
 pub fn tables_of(file: &[u8]) -> Result<FileTables, Refusal>
-    ensures { TablesGiven file.now result }
+    ensures { TablesGiven file.now (listed_as result) }
 {
     let recorder = read(file)?;
     Ok(FileTables {

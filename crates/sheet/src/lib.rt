@@ -3,10 +3,11 @@
 #![tactic(auto)]
 
 ghost use Rattle.std.specs.Prelude.{◌<◌};
+ghost use Rattle.planner.specs.Answers.{answered};
 ghost use Rattle.sheet.specs.Promises.{Filled};
 
-use base::copy;
-use planner::{Answer, refusal, success};
+use base::{Reason, copy};
+use planner::{Figures, Refusal};
 
 // What the lines of a sheet hold.
 #[derive(Clone, Copy)]
@@ -16,13 +17,17 @@ pub enum SheetKind {
 }
 
 // Gives what was made, if the lent memory has room for it.
-pub fn give(made: &[u8], horizon: u16, count: usize, out: &mut [u8]) -> Answer
+pub fn give(made: &[u8], horizon: u16, count: usize, out: &mut [u8]) -> Result<Figures, Refusal>
     requires { count < 4096 }
-    ensures { Filled 0 horizon count made.now out.old result out.new }
+    ensures { Filled 0 horizon count made.now out.old (answered result) out.new }
 {
     if out.len() < made.len() {
-        return refusal(15);
+        return Err(Refusal::from(Reason::NoRoom));
     }
     copy(made, out);
-    success(horizon, 0, count as u32)
+    Ok(Figures {
+        horizon,
+        energy: 0,
+        count: count as u32,
+    })
 }

@@ -2,11 +2,13 @@
 // for each the complete outcome.
 #![tactic(auto)]
 
+ghost use Rattle.planner.specs.Answers.{answered};
 ghost use Rattle.sheet.specs.Promises.{ExportedDevices, ExportedJobs};
 
 use crate::printing::{put_job_lines, put_part_lines};
 use catalogue::{is_repeated, is_unfit};
-use planner::{Answer, refusal};
+use base::Reason;
+use planner::{Figures, Refusal};
 use sheet::give;
 
 mod plans; // plans.rt: the sheet of a plan
@@ -15,14 +17,14 @@ mod printing; // printing.rt: tables as text
 pub use crate::plans::export_plan;
 
 // The sheet of a catalogue.
-pub fn export_devices(catalogue: &[u8], out: &mut [u8]) -> Answer
-    ensures { ExportedDevices catalogue.now out.old result out.new }
+pub fn export_devices(catalogue: &[u8], out: &mut [u8]) -> Result<Figures, Refusal>
+    ensures { ExportedDevices catalogue.now out.old (answered result) out.new }
 {
     if is_unfit(catalogue) {
-        return refusal(21);
+        return Err(Refusal::from(Reason::PartNumber));
     }
     if is_repeated(catalogue) {
-        return refusal(22);
+        return Err(Refusal::from(Reason::PartTwice));
     }
     let mut own = [0u8; 2304];
     let size = put_part_lines(&mut own, catalogue);
@@ -30,15 +32,15 @@ pub fn export_devices(catalogue: &[u8], out: &mut [u8]) -> Answer
 }
 
 // The sheet of job records, 7 bytes each.
-pub fn export_jobs(records: &[u8], out: &mut [u8]) -> Answer
-    ensures { ExportedJobs records.now out.old result out.new }
+pub fn export_jobs(records: &[u8], out: &mut [u8]) -> Result<Figures, Refusal>
+    ensures { ExportedJobs records.now out.old (answered result) out.new }
 {
     let n = records.len();
     if 112 < n {
-        return refusal(12);
+        return Err(Refusal::from(Reason::ManyJobs));
     }
     if n % 7 != 0 {
-        return refusal(1);
+        return Err(Refusal::from(Reason::CutShort));
     }
     let mut own = [0u8; 400];
     let size = put_job_lines(&mut own, records);

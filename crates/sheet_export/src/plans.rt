@@ -1,11 +1,12 @@
 // The sheet of a plan. It asks nothing of its caller: any file and start times get an answer. sheet/specs/Promises.antt says the complete outcome.
 ghost use Rattle.std.specs.Prelude.{◌≡◌, map, ℕ, ◌≤◌, pos, nat_abs, length, get_or};
 ghost use Rattle.text.specs.inside.Putting.{Put};
+ghost use Rattle.planner.specs.Answers.{answered};
 ghost use Rattle.sheet.specs.Sheets.{plan_text};
 ghost use Rattle.sheet.specs.Promises.{ExportedPlan};
 ghost use Rattle.sheet_export.specs.inside.Margins.{Spare};
 
-use planner::{Answer, margins, verdict};
+use planner::{Figures, Refusal, margins, verdict};
 use sheet::give;
 use text::put_line;
 
@@ -29,16 +30,13 @@ fn put_plan_lines(out: &mut [u8], starts: &[u16], margins: &[i32]) -> usize
     at
 }
 
-// The sheet of a plan, for start times that the planner's verdict accepts.
-pub fn export_plan(file: &[u8], starts: &[u16], out: &mut [u8]) -> Answer
-    ensures { ExportedPlan file.now starts.now out.old result out.new }
+// The sheet of a plan, for start times that the planner's verdict accepts: so their margins are given.
+pub fn export_plan(file: &[u8], starts: &[u16], out: &mut [u8]) -> Result<Figures, Refusal>
+    ensures { ExportedPlan file.now starts.now out.old (answered result) out.new }
 {
-    let judged = verdict(file, starts);
-    if judged.number != 0 {
-        return judged;
-    }
+    let judged = verdict(file, starts)?;
     let mut room = [0i32; 16];
-    margins(file, starts, &mut room);
+    let _ = margins(file, starts, &mut room);
     let mut own = [0u8; 304];
     let size = put_plan_lines(&mut own, starts, &room);
     give(&own[..size], judged.horizon, size, out)

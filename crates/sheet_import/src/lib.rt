@@ -2,12 +2,13 @@
 // asks anything of its caller: any bytes of any length get an answer. sheet/specs/Promises.antt and specs/LineFaults.antt say the complete outcome of each.
 #![tactic(auto)]
 
+ghost use Rattle.planner.specs.Answers.{answered, plain};
 ghost use Rattle.sheet.specs.Promises.{ImportedDevices, ImportedJobs};
 
 use crate::judging::put_devices;
 use crate::reading::put_rows;
 use base::Reason;
-use planner::{Answer, refusal};
+use planner::{Figures, Refusal};
 use sheet::{SheetKind, give};
 use text::count_lines;
 
@@ -25,26 +26,31 @@ pub struct LineFault {
     pub line: usize,
 }
 
+// A refusal names no line: `devices_fault` and `jobs_fault` tell it.
+impl From<LineFault> for Refusal {
+    ghost from_gives = { λ f r. r ≡ plain f.reason };
+
+    fn from(fault: LineFault) -> Refusal {
+        Refusal::from(fault.reason)
+    }
+}
+
 // The catalogue of a sheet of devices, 15 bytes a line.
-pub fn import_devices(text: &[u8], out: &mut [u8]) -> Answer
-    ensures { ImportedDevices text.now out.old result out.new }
+pub fn import_devices(text: &[u8], out: &mut [u8]) -> Result<Figures, Refusal>
+    ensures { ImportedDevices text.now out.old (answered result) out.new }
 {
     let mut own = [0u8; 960];
-    if let Err(fault) = put_devices(text, &mut own) {
-        return refusal(fault.reason.number());
-    }
+    put_devices(text, &mut own)?;
     let lines = count_lines(text);
     let size = lines * 15;
     give(&own[..size], 0, lines, out)
 }
 
 // The job records of a sheet of jobs, 7 bytes a line.
-pub fn import_jobs(text: &[u8], out: &mut [u8]) -> Answer
-    ensures { ImportedJobs text.now out.old result out.new }
+pub fn import_jobs(text: &[u8], out: &mut [u8]) -> Result<Figures, Refusal>
+    ensures { ImportedJobs text.now out.old (answered result) out.new }
 {
-    if let Err(fault) = jobs_fault(text) {
-        return refusal(fault.reason.number());
-    }
+    jobs_fault(text)?;
     let lines = count_lines(text);
     let size = lines * 7;
     let mut own = [0u8; 112];

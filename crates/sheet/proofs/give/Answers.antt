@@ -5,7 +5,7 @@ use Rattle.sheet.specs.Promises as P
 use Rattle.sheet.proofs.give.Goals as goal
 
 pub returns-then-out-made : goal.returns-then-out-made
-returns-then-out-made c = rw c.refusal.ensures (P.Filled.short refl (omega arith))
+returns-then-out-made c = rw c.from.ensures (P.Filled.short refl (omega arith))
 
 pub returns : goal.returns
-returns c = rw (c.success.ensures, c.copy.ensures) (P.Filled.given refl (omega arith))
+returns c = rw c.copy.ensures (P.Filled.given refl (omega arith))

@@ -10,7 +10,7 @@ use Rattle.sheet_export.proofs.export_devices.Goals as goal
 pub returns-then-is_unfit : goal.returns-then-is_unfit
 returns-then-is_unfit c =
     let u = sym c.is_unfit.ensures ∙ c.if-is_unfit.true in
-    rw (c.refusal.ensures, u) (P.Filled.refused (λ n. omega (arith, n)))
+    rw (c.from.ensures, u) (P.Filled.refused (λ n. omega (arith, n)))
 
 pub is_repeated-requires : goal.is_repeated-requires
 is_repeated-requires c = sym c.is_unfit.ensures ∙ c.if-is_unfit.false
@@ -19,7 +19,7 @@ pub returns-then-is_repeated : goal.returns-then-is_repeated
 returns-then-is_repeated c =
     let u = sym c.is_unfit.ensures ∙ c.if-is_unfit.false in
     let w = sym c.is_repeated.ensures ∙ c.if-is_repeated.true in
-    rw (c.refusal-then-is_repeated.ensures, u, w) (P.Filled.refused (λ n. omega (arith, n)))
+    rw (c.from-then-is_repeated.ensures, u, w) (P.Filled.refused (λ n. omega (arith, n)))
 
 pub put_part_lines-size-requires : goal.put_part_lines-size-requires
 put_part_lines-size-requires c = (sym c.is_unfit.ensures ∙ c.if-is_unfit.false, refl)

@@ -10,13 +10,13 @@ pub returns-then-n-gt112 : goal.returns-then-n-gt112
 returns-then-n-gt112 c =
     let s = c.args.records.now in
     let e = records_many s (omega arith) in
-    rw c.refusal.ensures (refused_as e (λ n. omega (arith, n)))
+    rw c.from.ensures (refused_as e (λ n. omega (arith, n)))
 
 pub returns-then-n-ne0 : goal.returns-then-n-ne0
 returns-then-n-ne0 c =
     let s = c.args.records.now in
     let e = records_cut s (omega arith) c.if-n-ne0.true in
-    rw c.refusal-then-n-ne0.ensures (refused_as e (λ n. omega (arith, n)))
+    rw c.from-then-n-ne0.ensures (refused_as e (λ n. omega (arith, n)))
 
 pub slice_bounds-own-end : goal.slice_bounds-own-end
 slice_bounds-own-end c = search rules
