@@ -122,6 +122,7 @@ fn kind_byte(kind: Kind) -> u8
 }
 
 // The bytes before the records.
+#[tactic(auto, unfolding(tables::specs::inside::Held::held, tables::specs::inside::Held::appended))]
 fn head(kind: Kind, horizon: u16, devices: u16, tasks: u16, jobs: u16) -> File
     ensures { result ≡ held (head_of kind horizon devices tasks jobs) }
 {
