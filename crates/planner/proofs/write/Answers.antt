@@ -37,11 +37,11 @@ written_as T lent R s n r e f h = rw (e, f) (P.Written.read r (unless_enough (om
 
 -- What is read of the bytes is what is read of the layout.
 module _ (T : Tables) (f : File) (e : f ≡ held (bytes_of (limited T))) where
+  fits : f.count ≤ length f.bytes
+  fits = rw e (held_long (bytes_of (limited T)) (limited_fits T))
+
   long : f.count ≡ length (take f.count f.bytes)
-  long = sym (length-take-le f.count f.bytes (fits))
-    where
-      fits : f.count ≤ length f.bytes
-      fits = rw e (held_long (bytes_of (limited T)) (limited_fits T))
+  long = sym (length-take-le f.count f.bytes fits)
 
   small : f.count ≤ 297
   unfolding held
@@ -63,6 +63,9 @@ module _ (T : Tables) (f : File) (e : f ≡ held (bytes_of (limited T))) where
     size : f.count ≡ length (bytes_of T)
     unfolding held
     size = ap (λ (f : File). f.count) e ∙ ap length (ap bytes_of (accepted_limited _ _ r))
+
+pub slice_bounds-bytes-end : goal.slice_bounds-bytes-end
+slice_bounds-bytes-end c = fits c.args.given _ c.file_of-file.ensures
 
 pub slice_bounds-read_by-end : goal.slice_bounds-read_by-end
 slice_bounds-read_by-end c = long c.args.given _ c.file_of-file.ensures
@@ -89,6 +92,9 @@ returns-then-out-n c =
     let e = c.file_of-file.ensures in
     let r = read_so T _ e _ c.in_ok-recorder.ensures in
     rw c.from.ensures (P.Written.read r (P.stops (rw (size T _ e _ r) at c.if-out-n.true)))
+
+pub slice_bounds-bytes-end-2 : goal.slice_bounds-bytes-end-2
+slice_bounds-bytes-end-2 c = fits c.args.given _ c.file_of-file.ensures
 
 pub slice_bounds-copy_from_slice-end-3 : goal.slice_bounds-copy_from_slice-end-3
 slice_bounds-copy_from_slice-end-3 c = long c.args.given _ c.file_of-file.ensures
