@@ -2,11 +2,7 @@
 // says its complete outcome, but for what the memory holds where a plan was looked for, and whether the memory was enough for one.
 #![tactic(auto)]
 
-<<<<<<< HEAD
-ghost use Rattle.std.specs.Prelude.{◌≡◌, ◌++◌, ◌-◌, ◌^◌, ◌<◌, ◌≤◌, ltb, get_or, length, drop};
-=======
-ghost use Rattle.std.specs.Prelude.{◌≡◌, ◌++◌, ◌-◌, ◌^◌, ◌<◌, ◌≤◌, Ok, ltb, get_or, length, drop, replicate};
->>>>>>> ab587b2f162e80978fc9a9b6ef638394909ba4fe
+ghost use Rattle.std.specs.Prelude.{◌≡◌, ◌++◌, ◌-◌, ◌^◌, ◌<◌, ◌≤◌, Ok, ltb, get_or, length, drop};
 ghost use Rattle.schedule.specs.Quantities.{Valid, jobs};
 ghost use Rattle.schedule.specs.Listing.{Feasible};
 ghost use Rattle.schedule.specs.Visiting.{plan_energy};
@@ -23,12 +19,8 @@ use extras::laying::lay_extras;
 use flat::{Flat, flat_of};
 use latest::{Table, lay_latest, power};
 use least::reading::least_starts;
-<<<<<<< HEAD
 use least::search::Stop;
-use planner::{Answer, refusal, search_in_of, success};
-=======
 use planner::{Figures, Refusal, search_in_of};
->>>>>>> ab587b2f162e80978fc9a9b6ef638394909ba4fe
 use request::read;
 use schedule::{Recorder, plan_energy};
 use stored::clear;

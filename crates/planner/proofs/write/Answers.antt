@@ -93,9 +93,6 @@ returns-then-out-n c =
     let r = read_so T _ e _ c.in_ok-recorder.ensures in
     rw c.from.ensures (P.Written.read r (P.stops (rw (size T _ e _ r) at c.if-out-n.true)))
 
-pub slice_bounds-bytes-end-2 : goal.slice_bounds-bytes-end-2
-slice_bounds-bytes-end-2 c = fits c.args.given _ c.file_of-file.ensures
-
 pub slice_bounds-copy_from_slice-end-3 : goal.slice_bounds-copy_from_slice-end-3
 slice_bounds-copy_from_slice-end-3 c = long c.args.given _ c.file_of-file.ensures
 
