@@ -78,7 +78,11 @@ fn counted(
     ensures sought { Sought (answered result) }
 {
     let found = search_in_of(r, budget, memory, starts)?;
-    Ok(Figures { count: 0, ..found })
+    Ok(Figures {
+        horizon: r.horizon,
+        energy: found.energy,
+        count: 0,
+    })
 }
 
 // The first of the least-energy schedules of a recorder that has one, where there is room for its starts. Where the search that remembers gives up, the one that counts
