@@ -1,5 +1,5 @@
 // From which start on the cuts drop every child that places a job: by cut A or its deadline at first (rule 43), then by cut B (rule 45).
-ghost use Rattle.std.specs.Prelude.{◌≡◌, ◌⊎◌, ℕ, suc, ◌+◌, ◌-◌, ◌<◌, ◌≤◌, min, length, is_err};
+ghost use Rattle.std.specs.Prelude.{◌≡◌, ◌⊎◌, ℕ, suc, ◌+◌, ◌-◌, ◌<◌, ◌≤◌, min, is_err};
 ghost use Rattle.schedule.specs.Quantities.{Valid, deadline, run};
 ghost use Rattle.flat.specs.inside.Flat.{recorder_of};
 ghost use Rattle.extras.specs.inside.Tabled.{Tabled};
@@ -58,7 +58,7 @@ pub fn drops(
     j: JobNumber,
     start: u32,
 ) -> Result<(), Stopped>
-    requires { (j.0 < 16) × ((start ≤ 65536) × ((length tally.old ≡ 35) × (count_at tally.old ≤ budget))) }
+    requires { (j.0 < 16) × ((start ≤ 65536) × (count_at tally.old ≤ budget)) }
     ensures { Added budget (suc (deadline (recorder_of r.now) j.0) - (start + run (recorder_of r.now) j.0)) tally.old tally.new (is_err result) }
 {
     let c = u32::from(run_of(r, j.0));

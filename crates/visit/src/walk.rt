@@ -1,6 +1,6 @@
 // The visit, depth first (rules 40 to 48): a visit calls a loop over choices, which calls the visit of each child that is not dropped at once with all later starts of
 // its job, nor counted by what is remembered. The parent is lent for reading, and a child is made only where no cut drops it and jobs are left to place.
-ghost use Rattle.std.specs.Prelude.{◌≡◌, Bool, true, false, cond, ◌^◌, ◌<◌, length, is_err};
+ghost use Rattle.std.specs.Prelude.{◌≡◌, Bool, true, false, cond, ◌^◌, ◌<◌, is_err};
 ghost use Rattle.schedule.specs.Quantities.{jobs};
 ghost use Rattle.schedule.specs.Visiting as order;
 ghost use Rattle.flat.specs.inside.Flat.{recorder_of};
@@ -9,10 +9,10 @@ ghost use Rattle.extras.specs.inside.Tabled.{cap_at};
 ghost use Rattle.vertex.specs.inside.Lasts.{TwoLeast};
 ghost use Rattle.recall.specs.inside.Asks.{Asks};
 ghost use Rattle.visit.specs.inside.Stops.{visited_by};
-ghost use Rattle.visit.specs.inside.Lent.{Leaves, StandsAt, VisitCame, EnterCame, ChoicesCame, StartsCame, count_at, energy_at, stop_at, slack_by, Lends, Came, Tries, Enters, Some};
+ghost use Rattle.visit.specs.inside.Lent.{Long, Leaves, StandsAt, VisitCame, EnterCame, ChoicesCame, StartsCame, count_at, energy_at, stop_at, slack_by, Lends, Came, Tries, Enters, Some};
 
 use crate::cuts::{cut_at, drops, first_cut};
-use crate::tally::{COUNT, ENERGY, NONE, Stopped, Tally, add_count, count_one, go_on, note, offer};
+use crate::tally::{NONE, Stopped, Tally, add_count, count_one, go_on, note, offer};
 use base::JobNumber;
 use flat::{Flat, horizon_of, job_count, release_of, run_of};
 use latest::all_jobs;
@@ -82,14 +82,14 @@ fn visit(
     ensures kept { Leaves (recorder_of search.now.r.now) search.now.extras.now memory.new tally.old tally.new }
     ensures came { VisitCame (recorder_of search.now.r.now) search.now.budget place.now.v.now tally.old tally.new (is_err result) place.now.set place.now.from cut child.floor child.j.0 child.s }
 {
-    if tally[COUNT] == search.budget {
+    if tally.count == search.budget {
         return Err(Stopped);
     }
     count_one(tally);
     if cut <= child.s {
         return Ok(());
     }
-    if tally[ENERGY] <= child.floor {
+    if tally.energy <= child.floor {
         return Ok(());
     }
     enter(search, memory, tally, place, child, place.set - child.p)
@@ -131,7 +131,12 @@ fn enter(
 
 // The children of a vertex that is not complete: what is remembered of them, or each of them examined.
 #[cycle(below_choices_enter_learn_tries_visit)]
-fn below(search: &Search, memory: &mut [u64], tally: &mut Tally, place: &Place) -> Result<(), Stopped>
+fn below(
+    search: &Search,
+    memory: &mut [u64],
+    tally: &mut Tally,
+    place: &Place,
+) -> Result<(), Stopped>
     requires { Lends (recorder_of search.now.r.now) search.now.extras.now memory.old × ((place.now.from < energy_at tally.old) × Some (recorder_of search.now.r.now) search.now.budget tally.old (StandsAt (recorder_of search.now.r.now) place.now.v.now place.now.set place.now.from place.now.time)) }
     ensures kept { Leaves (recorder_of search.now.r.now) search.now.extras.now memory.new tally.old tally.new }
     ensures came { ChoicesCame (recorder_of search.now.r.now) search.now.budget place.now.v.now tally.old tally.new (is_err result) place.now.set place.now.from place.now.time }
@@ -139,7 +144,7 @@ fn below(search: &Search, memory: &mut [u64], tally: &mut Tally, place: &Place) 
     if !is_many(place.set, memory.len()) {
         return choices(search, memory, tally, place);
     }
-    let slack = slack_of(tally[ENERGY], place.from);
+    let slack = slack_of(tally.energy, place.from);
     let asked = ask(
         search.r,
         search.extras,
@@ -168,18 +173,23 @@ fn learn(
     ensures kept { Leaves (recorder_of search.now.r.now) search.now.extras.now memory.new tally.old tally.new }
     ensures came { ChoicesCame (recorder_of search.now.r.now) search.now.budget place.now.v.now tally.old tally.new (is_err result) place.now.set place.now.from place.now.time }
 {
-    let before = tally[COUNT];
-    let best = tally[ENERGY];
+    let before = tally.count;
+    let best = tally.energy;
     let ended = choices(search, memory, tally, place);
-    if is_whole(ended, best, tally[ENERGY]) {
-        keep(memory, asked.slot, asked.key, tally[COUNT] - before);
+    if is_whole(ended, best, tally.energy) {
+        keep(memory, asked.slot, asked.key, tally.count - before);
     }
     ended
 }
 
 // Each unplaced job in turn.
 #[cycle(below_choices_enter_learn_tries_visit)]
-fn choices(search: &Search, memory: &mut [u64], tally: &mut Tally, place: &Place) -> Result<(), Stopped>
+fn choices(
+    search: &Search,
+    memory: &mut [u64],
+    tally: &mut Tally,
+    place: &Place,
+) -> Result<(), Stopped>
     requires { Lends (recorder_of search.now.r.now) search.now.extras.now memory.old × Some (recorder_of search.now.r.now) search.now.budget tally.old (StandsAt (recorder_of search.now.r.now) place.now.v.now place.now.set place.now.from place.now.time) }
     ensures kept { Leaves (recorder_of search.now.r.now) search.now.extras.now memory.new tally.old tally.new }
     ensures came { ChoicesCame (recorder_of search.now.r.now) search.now.budget place.now.v.now tally.old tally.new (is_err result) place.now.set place.now.from place.now.time }
@@ -221,7 +231,7 @@ fn tries(
             search.r,
             search.extras,
             place.v,
-            tally[ENERGY],
+            tally.energy,
             place.from,
             floor,
             cut,
@@ -243,8 +253,8 @@ pub fn root_visit(
     tally: &mut Tally,
     budget: u32,
 ) -> Result<(), Stopped>
-    requires { Lends (recorder_of r.now) extras.now memory.old × ((length tally.old ≡ 35) × ((count_at tally.old ≡ 0) × ((energy_at tally.old ≡ 4294967295) × ((stop : Bool) × (stop_at tally.old ≡ cond stop 1 0))))) }
-    ensures { (length tally.new ≡ 35) × ((stop : Bool) → stop_at tally.old ≡ cond stop 1 0 → Came (recorder_of r.now) stop budget tally.new (order.root (recorder_of r.now)) (visited_by (recorder_of r.now) stop) (is_err result)) }
+    requires { Lends (recorder_of r.now) extras.now memory.old × ((Long tally.old) × ((count_at tally.old ≡ 0) × ((energy_at tally.old ≡ 4294967295) × ((stop : Bool) × (stop_at tally.old ≡ cond stop 1 0))))) }
+    ensures { (Long tally.new) × ((stop : Bool) → stop_at tally.old ≡ cond stop 1 0 → Came (recorder_of r.now) stop budget tally.new (order.root (recorder_of r.now)) (visited_by (recorder_of r.now) stop) (is_err result)) }
 {
     if budget == 0 {
         return Err(Stopped);

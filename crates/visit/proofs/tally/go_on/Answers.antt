@@ -1,10 +1,8 @@
 -- `visit::tally::go_on` meets its contract.
-use mathlib.Core.Path.{sym}
-use borrow.Author.Tests.{eq-eqb, ne_eqb}
 use Rattle.visit.proofs.tally.go_on.Goals as goal
 
-pub returns-then-tally-eq1 : goal.returns-then-tally-eq1
-returns-then-tally-eq1 c = sym (eq-eqb _ _ c.if-tally-eq1.true)
+pub returns-then-tally : goal.returns-then-tally
+returns-then-tally c = rw c.if-tally.true
 
-pub returns-else-tally-eq1 : goal.returns-else-tally-eq1
-returns-else-tally-eq1 c = sym (ne_eqb _ _ c.if-tally-eq1.false)
+pub returns-else-tally : goal.returns-else-tally
+returns-else-tally c = rw c.if-tally.false

@@ -8,7 +8,7 @@ use Rattle.recall.specs.inside.Asks.{Asks}
 use Rattle.visit.proofs.Remembering.{added_comes, added_kept, seen_lends, asked_comes}
 use mathlib.Core.Bool.{Bool, false}
 use mathlib.Core.Logic.{inl, inr}
-use mathlib.Core.List.{List, ◌∷◌}
+use mathlib.Core.List.{◌∷◌}
 use native.Mathlib.Nat.{le_refl}
 use native.Mathlib.Numerals.{add-one}
 use lib.ListN.{length}
@@ -16,12 +16,13 @@ use Rattle.base.specs.Lists.{up_from}
 use Rattle.schedule.specs.Quantities.{jobs, release, deadline, run}
 use Rattle.schedule.specs.Visiting.{Vertex, Visited, counted, child, starts, earliest}
 use Rattle.schedule.specs.Visiting as order
+use Rattle.visit.specs.declared.tally.Tally.{Tally}
 use Rattle.visit.specs.inside.Stops.{visit_by}
 use Rattle.latest.specs.inside.Sets.{members}
 use Rattle.latest.proofs.Tabled.{power_next}
 use Rattle.vertex.proofs.Lasting.{bit_is}
 use Rattle.vertex.proofs.Showing.{jobs_shown, job_in_lem, load_shown, ticks_shown}
-use Rattle.visit.specs.inside.Lent.{count_at, energy_at, Tells, Stands, Starts, Tries}
+use Rattle.visit.specs.inside.Lent.{Long, count_at, energy_at, Tells, Stands, Starts, Tries}
 use Rattle.visit.proofs.Visits.{job_walk, choices_grow}
 use Rattle.visit.proofs.Telling.{counted_less, noted_less, offered_less}
 use Rattle.visit.proofs.Going.{came_done, start_steady, job_steady, Going, going_from, going_as, going_end, going_next, going_over, up_next, members_one, members_not, members_over, going_rest}
@@ -37,9 +38,6 @@ below-choices-requires t c =
 pub below-returns-then-not-is_many : goal.below-returns-then-not-is_many
 below-returns-then-not-is_many t c = c.choices.ensures
 
-pub below-bounds-tally-1 : goal.below-bounds-tally-1
-below-bounds-tally-1 t c = omega (arith, c.requires.1.1.tells.long)
-
 pub below-slack_of-slack-requires : goal.below-slack_of-slack-requires
 below-slack_of-slack-requires t c = c.requires.1.0
 
@@ -51,7 +49,7 @@ below-ask-asked-requires t c =
 pub below-add_count-requires : goal.below-add_count-requires
 below-add_count-requires t c =
     let w = c.requires.1.1.tells in
-    (w.long, omega (arith, w.count, w.within))
+    omega (arith, w.count, w.within)
 
 pub below-returns-in-Some : goal.below-returns-in-Some
 below-returns-in-Some t c =
@@ -127,11 +125,11 @@ choices-loop-j-preserved t c =
       | choices-then-rest-eq1+in_ok-tries w ↦ (
         rw (add-one l.j) (omega (arith, l.invariant.0)),
         rw l.invariant.1 (halved _ _),
-        ap length w.tally-is ∙ w.tries.ensures.kept.1.0,
+        ap (λ (x : Tally). length x.placed) w.tally-is ∙ w.tries.ensures.kept.1.0,
         omega (arith, ap energy_at w.tally-is, w.tries.ensures.kept.1.1, l.invariant.3),
         (λ stop m u st stands time tells.
             let g = going_as R stop c.args.search.now.budget u (job_walk R stop m u) l.tally _ _ _ (members_one l.j n l.rest test w.if-rest-eq1.true) (l.invariant.4 stop m u st stands time tells) in
-            subst (λ (x : List ℕ). Going R stop c.args.search.now.budget u (job_walk R stop m u) x (members (l.j + 1) (n - (l.j + 1)) (l.rest / 2)) (order.choices R (visit_by R stop m) u st)) (sym w.tally-is)
+            subst (λ (x : Tally). Going R stop c.args.search.now.budget u (job_walk R stop m u) x (members (l.j + 1) (n - (l.j + 1)) (l.rest / 2)) (order.choices R (visit_by R stop m) u st)) (sym w.tally-is)
             (going_next R stop c.args.search.now.budget u (job_walk R stop m u) l.tally _ _ _ g _ _ (w.tries.ensures.came stop m u g.state stands time g.tells) (ap is_err w.in_ok-tries.was))),
         rw w.memory-is w.tries.ensures.kept.0,
         omega (arith, ap length w.memory-is, l.invariant.6),
@@ -139,10 +137,10 @@ choices-loop-j-preserved t c =
       | choices-else-rest-eq1 w ↦ (
         rw (add-one l.j) (omega (arith, l.invariant.0)),
         rw l.invariant.1 (halved _ _),
-        ap length w.tally-is ∙ l.invariant.2,
+        ap (λ (x : Tally). length x.placed) w.tally-is ∙ l.invariant.2,
         omega (arith, ap energy_at w.tally-is, l.invariant.3),
         (λ stop m u st stands time tells.
-            subst (λ (x : List ℕ). Going R stop c.args.search.now.budget u (job_walk R stop m u) x (members (l.j + 1) (n - (l.j + 1)) (l.rest / 2)) (order.choices R (visit_by R stop m) u st)) (sym w.tally-is)
+            subst (λ (x : Tally). Going R stop c.args.search.now.budget u (job_walk R stop m u) x (members (l.j + 1) (n - (l.j + 1)) (l.rest / 2)) (order.choices R (visit_by R stop m) u st)) (sym w.tally-is)
             (going_as R stop c.args.search.now.budget u (job_walk R stop m u) l.tally _ _ _ (members_not l.j n l.rest test w.if-rest-eq1.false) (l.invariant.4 stop m u st stands time tells))),
         rw w.memory-is l.invariant.5,
         omega (arith, ap length w.memory-is, l.invariant.6),
@@ -162,7 +160,7 @@ pub enter-note-requires : goal.enter-note-requires
 enter-note-requires t c =
     let o = c.requires.1.1 in
     let x = c.requires.0.tabled in
-    (o.tells.long, (starts_known (recorder_of c.args.search.now.r.now) x.valid x.narrow _ _ _ _ o.holds.starts o.holds.shows.reached).1)
+    (starts_known (recorder_of c.args.search.now.r.now) x.valid x.narrow _ _ _ _ o.holds.starts o.holds.shows.reached).1
 
 pub enter-end_of-requires : goal.enter-end_of-requires
 enter-end_of-requires t c =
@@ -180,16 +178,9 @@ pub enter-offer-requires : goal.enter-offer-requires
 enter-offer-requires t c =
     (noted_less c.args.tally.now _ c.args.child.j.0 c.args.child.s c.requires.1.1.tells.long c.note.ensures).0
 
-pub enter-go_on-requires : goal.enter-go_on-requires
-enter-go_on-requires t c =
-    let enter-offered : (length c.offer.new.tally ≡ 35) × (energy_at c.offer.new.tally ≤ energy_at c.args.tally.now) = let q = noted_less c.args.tally.now _ c.args.child.j.0 c.args.child.s c.requires.1.1.tells.long c.note.ensures in
-    let k = offered_less _ _ _ q.0 c.offer.ensures in
-    (k.0, omega (arith, k.1, q.1)) in
-    enter-offered.0
-
 pub enter-returns-then-left-eq0 : goal.enter-returns-then-left-eq0
 enter-returns-then-left-eq0 t c =
-    let enter-offered : (length c.offer.new.tally ≡ 35) × (energy_at c.offer.new.tally ≤ energy_at c.args.tally.now) = let q = noted_less c.args.tally.now _ c.args.child.j.0 c.args.child.s c.requires.1.1.tells.long c.note.ensures in
+    let enter-offered : (Long c.offer.new.tally) × (energy_at c.offer.new.tally ≤ energy_at c.args.tally.now) = let q = noted_less c.args.tally.now _ c.args.child.j.0 c.args.child.s c.requires.1.1.tells.long c.note.ensures in
     let k = offered_less _ _ _ q.0 c.offer.ensures in
     (k.0, omega (arith, k.1, q.1)) in
     let R = recorder_of c.args.search.now.r.now in
@@ -260,21 +251,9 @@ enter-returns t c =
           (enters_noted R x.valid x.narrow _ _ _ _ _ _ _ _ _ enters _ st tells _ c.note.ensures));
     }
 
-pub learn-bounds-tally-0 : goal.learn-bounds-tally-0
-learn-bounds-tally-0 t c = omega (arith, c.requires.1.1.1.tells.long)
-
-pub learn-bounds-tally-1 : goal.learn-bounds-tally-1
-learn-bounds-tally-1 t c = omega (arith, c.requires.1.1.1.tells.long)
-
 pub learn-choices-ended-requires : goal.learn-choices-ended-requires
 learn-choices-ended-requires t c =
     (omega arith, (c.requires.0, c.requires.1.1.1))
-
-pub learn-bounds-tally-1-2 : goal.learn-bounds-tally-1-2
-learn-bounds-tally-1-2 t c = omega (arith, c.choices-ended.ensures.kept.1.0)
-
-pub learn-bounds-tally-0-then-is_whole : goal.learn-bounds-tally-0-then-is_whole
-learn-bounds-tally-0-then-is_whole t c = omega (arith, c.choices-ended.ensures.kept.1.0)
 
 pub learn-overflow_sub-tally : goal.learn-overflow_sub-tally
 learn-overflow_sub-tally t c =
@@ -348,9 +327,6 @@ pub tries-overflow_add-floor : goal.tries-overflow_add-floor
 tries-overflow_add-floor t c =
     let x = c.requires.0.tabled in
     omega (arith, c.lead_of.ensures.1, from_small (recorder_of c.args.search.now.r.now) x.valid x.narrow _ _ _ _ _ c.requires.1.1.1.1.1.holds.0)
-
-pub tries-bounds-tally-1 : goal.tries-bounds-tally-1
-tries-bounds-tally-1 t c = omega (arith, c.loop-s.invariant.1)
 
 pub tries-cut_at-cut-requires : goal.tries-cut_at-cut-requires
 tries-cut_at-cut-requires t c =
@@ -457,7 +433,7 @@ pub tries-drops-requires : goal.tries-drops-requires
 tries-drops-requires t c =
     let o = c.requires.1.1.1.1.1 in
     let g = c.loop-s.invariant.5 o.stop o.left o.vertex o.state o.holds.0 o.holds.1 o.tells in
-    (omega (arith, c.requires.1.0, c.requires.0.tabled.valid.few_jobs), (c.loop-s.invariant.6, (c.loop-s.invariant.1, omega (arith, g.tells.count, g.tells.within))))
+    (omega (arith, c.requires.1.0, c.requires.0.tabled.valid.few_jobs), (c.loop-s.invariant.6, omega (arith, g.tells.count, g.tells.within)))
 
 pub tries-returns : goal.tries-returns
 tries-returns t c =
@@ -478,9 +454,6 @@ tries-returns t c =
           g.tells);
     }
 
-pub visit-bounds-tally-0 : goal.visit-bounds-tally-0
-visit-bounds-tally-0 t c = omega (arith, c.requires.1.1.tells.long)
-
 pub visit-returns-then-tally-search : goal.visit-returns-then-tally-search
 visit-returns-then-tally-search t c =
     let x = c.requires.0.tabled in
@@ -492,7 +465,7 @@ visit-returns-then-tally-search t c =
 pub visit-count_one-requires : goal.visit-count_one-requires
 visit-count_one-requires t c =
     let visit-less : count_at c.args.tally.now < c.args.search.now.budget = let o = c.requires.1.1 in omega (arith, o.tells.count, o.tells.within, c.if-tally-search.false) in
-    (c.requires.1.1.tells.long, omega (arith, visit-less))
+    omega (arith, visit-less)
 
 pub visit-returns-then-cut-child : goal.visit-returns-then-cut-child
 visit-returns-then-cut-child t c =
@@ -503,10 +476,6 @@ visit-returns-then-cut-child t c =
       kept = (c.requires.0, (q.0, omega (arith, q.1)));
       came = λ stop m u st tries tells. visit_drops (recorder_of c.args.search.now.r.now) x.valid x.narrow _ _ _ _ _ _ _ _ _ _ _ _ _ tries tells visit-less _ c.count_one.ensures (tries.dropped c.if-cut-child.true);
     }
-
-pub visit-bounds-tally-1 : goal.visit-bounds-tally-1
-visit-bounds-tally-1 t c =
-    omega (arith, (counted_less c.args.tally.now _ c.requires.1.1.tells.long c.count_one.ensures).0)
 
 pub visit-returns-then-tally-child : goal.visit-returns-then-tally-child
 visit-returns-then-tally-child t c =
