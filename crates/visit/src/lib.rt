@@ -16,6 +16,7 @@ use flat::flat_of;
 use schedule::Recorder;
 
 mod cuts; // cuts.rt: from which start on all children are dropped
+mod place; // place.rt: what the search reads, a vertex, and a child of it
 mod stages; // stages.rt: the whole visit, with a table and a memory
 mod tally; // tally.rt: the count, the best so far and the starts of the placed jobs
 mod walk; // walk.rt: the visit of a vertex and of all below it

@@ -12,6 +12,7 @@ ghost use Rattle.visit.specs.inside.Stops.{visited_by};
 ghost use Rattle.visit.specs.inside.Lent.{Long, Leaves, StandsAt, VisitCame, EnterCame, ChoicesCame, StartsCame, count_at, energy_at, stop_at, slack_by, Lends, Came, Tries, Enters, Some};
 
 use crate::cuts::{cut_at, drops, first_cut};
+use crate::place::{Child, Place, Search};
 use crate::tally::{NONE, Stopped, Tally, add_count, count_one, go_on, note, offer};
 use base::JobNumber;
 use flat::{Flat, horizon_of, job_count, release_of, run_of};
@@ -40,32 +41,6 @@ fn is_whole(ended: Result<(), Stopped>, best: u32, after: u32) -> bool
     ensures { result ≡ true → (is_err ended ≡ false) × (after ≡ best) }
 {
     ended.is_ok() && best == after
-}
-
-// What the search reads: the recorder, the table of extras, and how many vertices it may count.
-#[derive(Clone, Copy)]
-struct Search<'a> {
-    r: &'a Flat,
-    extras: &'a [u32],
-    budget: u32,
-}
-
-// A vertex: what shows it, the set of its unplaced jobs, its floor and its time.
-#[derive(Clone, Copy)]
-struct Place<'a> {
-    v: &'a Cells,
-    set: usize,
-    from: u32,
-    time: u32,
-}
-
-// A child of it: the job that it places, the bit of that job in a set, its start, and the child's floor.
-#[derive(Clone, Copy)]
-struct Child {
-    j: JobNumber,
-    p: usize,
-    s: u32,
-    floor: u32,
 }
 
 // The child of a place that places job j at s, and all below it. From the start `cut` on it is dropped.
@@ -223,26 +198,16 @@ fn tries(
     ensures kept { Leaves (recorder_of search.now.r.now) search.now.extras.now memory.new tally.old tally.new }
     ensures came { StartsCame (recorder_of search.now.r.now) search.now.budget place.now.v.now tally.old tally.new (is_err result) place.now.set place.now.from place.now.time j.0 }
 {
-    let mut cut = first_cut(search.r, place.v, dues, j);
+    let mut cut = first_cut(search, place, dues, j);
     let mut s = place.time.max(u32::from(release_of(search.r, j.0)));
     while s < cut {
         let floor = place.from + lead_of(search.r, search.extras, place.v, j.0, s);
-        cut = cut_at(
-            search.r,
-            search.extras,
-            place.v,
-            tally.energy,
-            place.from,
-            floor,
-            cut,
-            j.0,
-            s,
-        );
         let child = Child { j, p, s, floor };
+        cut = cut_at(search, place, tally.energy, child, cut);
         visit(search, memory, tally, place, child, cut)?;
         s += 1;
     }
-    drops(search.r, tally, search.budget, j, s)
+    drops(search, tally, j, s)
 }
 
 // The root and all below it.
