@@ -4,7 +4,6 @@ ghost use Rattle.planner.specs.Promises.{OfFile};
 ghost use Rattle.doorway.specs.Doors.{fours};
 ghost use Rattle.doors.specs.Promises.{complement, MarginsSpelled, MarginsDoor};
 
-use base::fewer;
 use calls::{put, tell};
 use doorway::{SHUT, hand_starts, is_open};
 use planner::{Answer, margins};
@@ -37,10 +36,10 @@ fn margin_bytes(file: &[u8], starts: &[u16], out: &mut [u8]) -> Answer
     ensures { OfFile file.now out.old (MarginsSpelled starts.now out.old) result out.new }
 {
     let mut room = [0i32; 16];
-    let places = fewer(out.len() / 4, 16);
+    let places = (out.len() / 4).min(16);
     let answer = margins(file, starts, &mut room[..places]);
     if answer.number == 0 {
-        let jobs = fewer(starts.len(), places);
+        let jobs = starts.len().min(places);
         put_margins(&room[..jobs], out);
     }
     answer

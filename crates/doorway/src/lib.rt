@@ -5,7 +5,6 @@ ghost use Rattle.std.specs.Prelude.{◌≡◌, ◌%◌, ◌≤◌, length, take}
 ghost use Rattle.doorway.specs.Doors.{Decides, starts_of};
 ghost use Rattle.doorway.specs.inside.Handing.{Handed};
 
-use base::fewer;
 use calls::{RESULT, get_starts};
 
 pub const SHUT: u8 = 255;
@@ -25,7 +24,7 @@ pub fn hand_starts(bytes: &[u8], own: &mut [u16]) -> usize
     requires { length own.old ≡ 17 }
     ensures { (result ≤ 17) × Handed (starts_of bytes.now) (take result own.new) }
 {
-    let n = fewer(bytes.len() / 2, 17);
+    let n = (bytes.len() / 2).min(17);
     get_starts(bytes, &mut own[..n]);
     n
 }
