@@ -25,6 +25,7 @@ fn count_at(s: &[u8], at: usize) -> usize
 
 // ---- from bytes
 
+// No `TryFrom`: whoever asks has tested the byte already (`is_tables`), and would test a `Result` a second time.
 fn kind_named(byte: u8) -> Kind
     ensures { result ≡ kind_named byte }
 {
