@@ -6,7 +6,7 @@
 ghost use Rattle.std.specs.Prelude.{◌*◌, ◌≤◌, length, IfOk};
 ghost use Rattle.schedule.specs.Quantities.{Valid};
 
-use base::JobNumber;
+use base::{JobNumber, Reason};
 use schedule::Recorder;
 use std::io::{self, Read, Stdin, Stdout, Write};
 
@@ -15,6 +15,10 @@ const BUDGET: u32 = 1000000;
 // One line: a word and a number.
 fn figure_line(out: &mut Stdout, word: &str, figure: u32) -> io::Result<()> {
     writeln!(out, "{word} {figure}")
+}
+
+fn refused_line(out: &mut Stdout, reason: Reason) -> io::Result<()> {
+    figure_line(out, "refused", u32::from(reason.number()))
 }
 
 fn job_line(out: &mut Stdout, job: JobNumber, start: u16, margin: i32) -> io::Result<()> {
@@ -51,14 +55,14 @@ fn device_lines(out: &mut Stdout, rows: &[u8], h: usize, count: usize) -> io::Re
     Ok(())
 }
 
-// The lines of the jobs and of the devices, for the starts that were found.
+// The lines of the jobs and of the devices, for the starts that were found: neither is refused.
 fn plan_lines(out: &mut Stdout, r: Recorder, starts: &[u16]) -> io::Result<()>
     requires { Valid r × (length starts.now ≤ 16) }
 {
     let mut margins = [0i32; 16];
-    planner::margins_of(r, starts, &mut margins);
+    let _ = planner::margins_of(r, starts, &mut margins);
     let mut rows = [0u8; 32768];
-    planner::rows_of(r, starts, &mut rows);
+    let _ = planner::rows_of(r, starts, &mut rows);
     job_lines(out, starts, &margins)?;
     device_lines(out, &rows, r.horizon as usize, r.devices.count)
 }
@@ -68,23 +72,22 @@ fn print_plan(out: &mut Stdout, r: Recorder) -> io::Result<()>
     requires { Valid r }
 {
     let mut starts = [0u16; 16];
-    let found = planner::search_of(r, BUDGET, &mut starts);
-    if found.number != 0 {
-        return figure_line(out, "refused", found.number as u32);
+    match planner::search_of(r, BUDGET, &mut starts) {
+        Ok(found) => {
+            figure_line(out, "energy", found.energy)?;
+            figure_line(out, "vertices", found.count)?;
+            plan_lines(out, r, &starts[..r.jobs.count])
+        }
+        Err(refusal) => refused_line(out, refusal.reason),
     }
-    let jobs = r.jobs.count;
-    figure_line(out, "energy", found.energy)?;
-    figure_line(out, "vertices", found.count)?;
-    plan_lines(out, r, &starts[..jobs])
 }
 
 // The same of a file, which is read once.
 fn print_answer(out: &mut Stdout, file: &[u8]) -> io::Result<()> {
-    let request = request::read(file);
-    if request.number != 0 {
-        return figure_line(out, "refused", request.number as u32);
+    match request::read(file) {
+        Ok(recorder) => print_plan(out, recorder),
+        Err(reason) => refused_line(out, reason),
     }
-    print_plan(out, request.recorder)
 }
 
 // Reads until the buffer is full, the input ends or a read fails, and gives how many bytes have come. A read may bring less than there is room for, and more may
