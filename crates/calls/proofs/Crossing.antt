@@ -83,7 +83,7 @@ module _
     places : jobs R ≤ length (blank lent)
     places = rw length-replicate (omega arith)
 
-    pub starts_kept : (own : List ℕ) {a : Answer} {after : List ℕ} → jobs R ≤ length own → (a.number ≡ 0 → ⊥) → Plans own R a after → StartsOf Plans lent R a lent
+    starts_kept : (own : List ℕ) {a : Answer} {after : List ℕ} → jobs R ≤ length own → (a.number ≡ 0 → ⊥) → Plans own R a after → StartsOf Plans lent R a lent
     unfolding StartsOf
     starts_kept own h n p = kept n (alike own (blank lent) _ _ h places p).1
 

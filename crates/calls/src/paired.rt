@@ -26,7 +26,8 @@ pub fn read_roomed(file: &[u8], room: usize) -> Result<Recorder, Refusal>
     Ok(recorder)
 }
 
-// The start times of a plan go to the first bytes; a refusal writes nothing.
+// The start times of a plan go to the first bytes; a refusal writes nothing. calls_first and calls_least have the same lines for their operations: of a closure's
+// captures a proof knows nothing after the call, and what becomes of the memory is promised.
 pub fn search_bytes(
     file: &[u8],
     budget: u32,
@@ -55,12 +56,7 @@ fn rows_bytes(r: Recorder, bytes: &[u8], out: &mut [u8]) -> Result<Figures, Refu
 }
 
 // The rows of a file; that the result buffer has no room is told after a wrong number of start times.
-pub fn rows_call(
-    file: &[u8],
-    bytes: &[u8],
-    res: &[u8],
-    out: &mut [u8],
-) -> Result<Figures, Refusal>
+pub fn rows_call(file: &[u8], bytes: &[u8], res: &[u8], out: &mut [u8]) -> Result<Figures, Refusal>
     ensures { OfFile file.now out.old (RowsCallOf bytes.now out.old res.now) (answered result) out.new }
 {
     let recorder = read(file)?;

@@ -13,7 +13,12 @@ use cheapest::least_of;
 use planner::{Figures, Refusal, told};
 
 // The start times of a plan go to the first bytes; a refusal writes nothing.
-fn least_bytes(file: &[u8], budget: u32, memory: &mut [u64], bytes: &mut [u8]) -> Result<Figures, Refusal>
+fn least_bytes(
+    file: &[u8],
+    budget: u32,
+    memory: &mut [u64],
+    bytes: &mut [u8],
+) -> Result<Figures, Refusal>
     ensures planned { OfFile file.now bytes.old (StartsOf (CountedLeastOf budget) bytes.old) (answered result) bytes.new }
     ensures lent { KeptUnless (Sought (answered result)) memory.old memory.new }
 {

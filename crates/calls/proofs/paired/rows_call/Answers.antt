@@ -7,6 +7,9 @@ use Rattle.planner.specs.Promises as P
 use Rattle.planner.proofs.Refusing.{unless_equal, unless_enough}
 use Rattle.calls.proofs.paired.rows_call.Goals as goal
 
+pub rows_bytes-requires : goal.rows_bytes-requires
+rows_bytes-requires c = (accepted_valid _ _ (sym c.in_ok-recorder.ensures), c.if-bytes-recorder.false)
+
 pub returns-in_err-recorder : goal.returns-in_err-recorder
 returns-in_err-recorder c =
     let p = err_from_is_err_and c.from_residual.result c.from_residual.ensures.1 in
@@ -21,9 +24,6 @@ returns-then-bytes-recorder c = rw c.from.ensures (P.OfFile.read (sym c.in_ok-re
 pub returns-then-res-lt-RESULT : goal.returns-then-res-lt-RESULT
 returns-then-res-lt-RESULT c =
     rw c.from-then-res-lt-RESULT.ensures (P.OfFile.read (sym c.in_ok-recorder.ensures) (unless_equal c.if-bytes-recorder.false (P.stops c.if-res-lt-RESULT.true)))
-
-pub rows_bytes-requires : goal.rows_bytes-requires
-rows_bytes-requires c = (accepted_valid _ _ (sym c.in_ok-recorder.ensures), c.if-bytes-recorder.false)
 
 pub returns : goal.returns
 returns c = P.OfFile.read (sym c.in_ok-recorder.ensures) (unless_equal c.if-bytes-recorder.false (unless_enough c.if-res-lt-RESULT.false c.rows_bytes.ensures))
