@@ -16,6 +16,6 @@ returns c =
     let s = c.args in
     let told = c.tell.ensures in
     let w = c.build in
-    rw (told.0, told.1)
+    rw (told.0, told.1, c.told.ensures)
     (answered (c.opens_to.ensures.0 c.if-not-opens_to.false)
     (subst (λ (T : Tables). Built s.parts.now s.wanted.now (others T.horizon T.tasks T.jobs) s.out.now w.result w.new.out) c.tables_from-t.ensures w.ensures))

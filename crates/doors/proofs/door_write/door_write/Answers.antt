@@ -19,6 +19,6 @@ pub returns : goal.returns
 returns c =
     let told = c.tell.ensures in
     let w = c.write in
-    rw (told.0, told.1)
+    rw (told.0, told.1, c.told.ensures)
     (answered (c.is_tables.ensures.0 c.if-not-is_tables.false, c.if-res-lt-RESULT.false)
     (subst (λ (T : Tables). Written T c.args.out.now w.result w.new.out) c.tables_from.ensures w.ensures))
