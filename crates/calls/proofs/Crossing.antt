@@ -3,18 +3,24 @@ use mathlib.Core.Path.{◌≡◌, refl, sym, ap, subst, ◌∙◌}
 use mathlib.Core.List.{List, ◌++◌}
 use Prim.Native.Nat.{ℕ, ◌*◌, ◌≤◌, ◌<◌}
 use native.Mathlib.Omega.{arith}
-use lib.ListN.{length, take, drop, length-append, length-replicate}
+use lib.ListN.{length, take, drop, replicate, length-append, length-replicate}
 use lib.Seq.{take_at, length-take-le}
 use Rattle.base.specs.Bytes.{pair_at}
 use Rattle.base.proofs.Arrays.{length_up_to}
 use Rattle.schedule.specs.declared.Recorder.{Recorder}
 use Rattle.schedule.specs.Quantities.{jobs}
+use Rattle.std.specs.Prelude.{Err}
+use Rattle.base.proofs.Numbered.{not_0}
 use Rattle.planner.specs.declared.Answer.{Answer}
+use Rattle.planner.specs.declared.answers.Refusal.{Refusal}
+use Rattle.planner.specs.Answers.{answered}
 use Rattle.planner.specs.Promises.{refusal, stops, passes, Reads, OfFile, refused, read, found, SearchOf, KeptUnless}
-use Rattle.planner.proofs.Refusing.{unless_equal, unless_enough}
+use Rattle.request.proofs.Accepted.{accepted_valid}
+use Rattle.planner.proofs.Refusing.{unless_enough}
 use Rattle.calls.specs.Bytes.{spread, starts_in}
-use Rattle.calls.specs.Calls.{told, Roomed, Called, called, CalledIn, called_in, blank, StartsOf, kept, given, RowsCalled}
+use Rattle.calls.specs.Calls.{told, Roomed, Called, called, CalledIn, called_in, blank, StartsOf, kept, given}
 use Rattle.calls.specs.inside.Cramped.{Cramped}
+use Rattle.calls.specs.inside.Roomed.{Unroomed}
 use Rattle.calls.proofs.Digits.{told_none}
 
 -- A call on a result buffer without room, and one with it.
@@ -46,12 +52,6 @@ module _ {L : Type 0} (Used : Answer → Type 0) (file result memory : List ℕ)
   roomy_call_in h (refused r) k = called_in (refused r) k
   roomy_call_in h (read r t) k = called_in (read r (unless_enough h t)) k
 
--- Rows that find no room for their answer.
-pub rows_cramped : (file starts lent result : List ℕ) {R : Recorder} → Reads file R → length starts ≡ jobs R * 2 → length result < 11
-    → RowsCalled file starts lent result 15 lent result
-rows_cramped file starts lent result r e h =
-    subst (λ (m : List ℕ). RowsCalled file starts lent result 15 lent m) (told_none (refusal 15) result h) (called (read r (unless_equal e (stops h))))
-
 -- The first n places of a list z come back written: there are still as many.
 pub front_room : {A : Type 0} (z front : List A) (n k : ℕ) → n ≤ length z → k ≤ n → length front ≡ length (take n z) → k ≤ length (front ++ drop n z)
 front_room z front n k h l e = omega (arith, length-append front (drop n z), e, length-take-le n z h)
@@ -64,6 +64,13 @@ pub own_starts : (bytes z own : List ℕ) (n : ℕ) → n ≤ length z → own �
 own_starts bytes z own n h e =
     let whole : own ≡ starts_in bytes n = e ∙ ap (starts_in bytes) (length-take-le n z h) in
     take_at own (drop n z) n (ap length whole ∙ length_up_to (λ j. pair_at bytes (j * 2)) n) ∙ whole
+
+-- A list of sixteen places, which has room for the starts of every file.
+abbrev pub own : List ℕ
+own = replicate 16 0
+
+pub few_sixteen : (file : List ℕ) (R : Recorder) → Reads file R → jobs R ≤ 16
+few_sixteen file R r = (accepted_valid file R r).few_jobs
 
 -- What is planned is written to a list of its own, which has room for every job: what it leaves there goes to the bytes that are lent, if they have room too.
 -- `alike`: any list with room gets the same answer and the same starts.
@@ -80,6 +87,9 @@ module _
     unfolding StartsOf
     starts_kept own h n p = kept n (alike own (blank lent) _ _ h places p).1
 
+    pub starts_refused : (own : List ℕ) {after : List ℕ} → jobs R ≤ length own → (e : Refusal) → Plans own R (answered (Err e)) after → StartsOf Plans lent R (answered (Err e)) lent
+    starts_refused own h e p = starts_kept own h (not_0 e.reason) p
+
     pub starts_given : (own : List ℕ) {a : Answer} {after : List ℕ} → jobs R ≤ length own → a.number ≡ 0 → Plans own R a after
         → StartsOf Plans lent R a (spread (take (jobs R) after) ++ drop (jobs R * 2) lent)
     unfolding StartsOf
@@ -92,6 +102,13 @@ pub starts_short : (Plans : List ℕ → Recorder → Answer → List ℕ → Ty
     → (length (blank lent) < jobs R → Plans (blank lent) R (refusal 15) (blank lent)) → StartsOf Plans lent R (refusal 15) lent
 unfolding StartsOf
 starts_short Plans lent R h short = kept (λ (z : ◌≡◌ {A = ℕ} 15 0). omega arith) (short (rw length-replicate (omega arith)))
+
+-- A file that is not planned into the lent bytes.
+pub starts_unroomed : (Plans : List ℕ → Recorder → Answer → List ℕ → Type 0) {file lent : List ℕ} {a : Answer}
+    → ((R : Recorder) (own : List ℕ) → length own < jobs R → Plans own R (refusal 15) own)
+    → Unroomed file (length lent) a → OfFile file lent (StartsOf Plans lent) a lent
+starts_unroomed Plans short (Unroomed.refused r) = refused r
+starts_unroomed Plans {lent = lent} short (Unroomed.short {R = R} r h) = read r (starts_short Plans lent R h (short R (blank lent)))
 
 -- A schedule at the front of a list.
 pub front_same : (R : Recorder) (s l l' : List ℕ) → length s ≡ jobs R → take (jobs R) (s ++ l') ≡ take (jobs R) (s ++ l)

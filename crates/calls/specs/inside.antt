@@ -1,1 +1,2 @@
 pub mod Cramped
+pub mod Roomed

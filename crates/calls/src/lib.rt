@@ -5,15 +5,15 @@
 
 ghost use Rattle.calls.specs.Calls.{CheckCalled, SizesCalled, SearchCalled, SearchInCalled, RowsCalled};
 
-use crate::paired::{rows_bytes, search_bytes};
-use planner::{check, refusal};
-use request::read;
+use crate::paired::{rows_call, search_bytes};
+use planner::{check, told};
 
 mod bytes; // bytes.rt: numbers as bytes, the high byte first
 mod paired; // paired.rt: start times as pairs of bytes
 mod results; // results.rt: the result buffer
 
 pub use crate::bytes::{get_starts, put, put_starts};
+pub use crate::paired::read_roomed;
 pub use crate::results::{RESULT, cramped, tell};
 
 // Whether the file is accepted, and its horizon.
@@ -23,7 +23,7 @@ pub fn floe_check(file: &[u8], res: &mut [u8]) -> u8
     if res.len() < RESULT {
         return cramped(file);
     }
-    tell(check(file), res)
+    tell(told(check(file)), res)
 }
 
 // How many devices, tasks and jobs the request has, a byte each: of jobs all that are planned, those that tasks release too.
@@ -33,7 +33,7 @@ pub fn floe_sizes(file: &[u8], sizes: &mut [u8], res: &mut [u8]) -> u8
     if res.len() < RESULT {
         return cramped(file);
     }
-    tell(planner::sizes(file, sizes), res)
+    tell(told(planner::sizes(file, sizes)), res)
 }
 
 // The start times of the first of the least-energy schedules that meet all deadlines, if the budget covers the vertices of the search.
@@ -44,7 +44,7 @@ pub fn floe_search(file: &[u8], budget: u32, starts: &mut [u8], res: &mut [u8]) 
         return cramped(file);
     }
     let mut memory = [0u64; 12288];
-    tell(search_bytes(file, budget, &mut memory, starts), res)
+    tell(told(search_bytes(file, budget, &mut memory, starts)), res)
 }
 
 // The same with a memory that the caller lends, of any length and whatever it holds. It is written to only where more than 256 vertices are counted.
@@ -61,23 +61,13 @@ pub fn floe_search_in(
     if res.len() < RESULT {
         return cramped(file);
     }
-    tell(search_bytes(file, budget, memory, starts), res)
+    tell(told(search_bytes(file, budget, memory, starts)), res)
 }
 
 // The row of every device, the legal row of least energy, for feasible start times.
 pub fn floe_rows(file: &[u8], starts: &[u8], out: &mut [u8], res: &mut [u8]) -> u8
     ensures { RowsCalled file.now starts.now out.old res.old result out.new res.new }
 {
-    let request = read(file);
-    if request.number != 0 {
-        return tell(refusal(request.number), res);
-    }
-    let jobs = request.recorder.jobs.count;
-    if starts.len() != jobs * 2 {
-        return tell(refusal(14), res);
-    }
-    if res.len() < RESULT {
-        return 15;
-    }
-    tell(rows_bytes(request.recorder, starts, out), res)
+    let rows = rows_call(file, starts, res, out);
+    tell(told(rows), res)
 }

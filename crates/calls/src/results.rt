@@ -4,6 +4,7 @@ ghost use Rattle.calls.specs.Calls.{told};
 ghost use Rattle.calls.specs.inside.Cramped.{Cramped};
 
 use crate::bytes::put;
+use base::Reason;
 use planner::Answer;
 use request::read;
 
@@ -26,9 +27,8 @@ pub fn tell(answer: Answer, res: &mut [u8]) -> u8
 pub fn cramped(file: &[u8]) -> u8
     ensures { Cramped file.now result }
 {
-    let request = read(file);
-    if request.number != 0 {
-        return request.number;
+    match read(file) {
+        Err(reason) => reason.number(),
+        Ok(_) => Reason::NoRoom.number(),
     }
-    15
 }

@@ -6,7 +6,7 @@ use native.Mathlib.Omega.{arith}
 use lib.ListN.{drop}
 use Rattle.planner.specs.Promises.{Refused}
 use Rattle.planner.proofs.Reading.{not_both}
-use Rattle.faults.specs.declared.PlaceFault.{PlaceFault}
+use Rattle.faults.specs.Places.{Judged}
 use Rattle.faults.proofs.Only.{only_fault, only_tables_fault, fault_refused}
 use Rattle.table_bytes.specs.TableBytes.{tables_from}
 use Rattle.catalogue.specs.Faults.{PartTold, part_fault, OrderFault}
@@ -23,7 +23,7 @@ only_fault_called file result (short h e) (cramped h' e') = absurd (not_both fil
 only_fault_called file result (short h e) (short h' e') = (refl, refl)
 only_fault_called file result (told h p) (told h' p') =
     let e = only_fault file p p' in
-    (ap (λ (f : PlaceFault). f.number) e, ap (λ (f : PlaceFault). eighteen f ++ drop 18 result) e)
+    (ap (λ (f : Judged). f.number) e, ap (λ (f : Judged). eighteen f ++ drop 18 result) e)
 only_fault_called file result (cramped h e) (told h' p') = absurd (omega arith)
 only_fault_called file result (short h e) (told h' p') = absurd (omega arith)
 only_fault_called file result (told h p) (cramped h' e') = absurd (omega arith)
@@ -35,7 +35,7 @@ only_fault_door tables result (shut c) (answered t h p) = absurd (c (t, h))
 only_fault_door tables result (answered t h p) (shut c) = absurd (c (t, h))
 only_fault_door tables result (answered t h p) (answered t' h' p') =
     let e = only_tables_fault (tables_from tables) p p' in
-    (ap (λ (f : PlaceFault). f.number) e, ap (λ (f : PlaceFault). eighteen f ++ drop 18 result) e)
+    (ap (λ (f : Judged). f.number) e, ap (λ (f : Judged). eighteen f ++ drop 18 result) e)
 
 -- A file that is refused is refused by that number here too, whatever is lent.
 pub called_refused : (file result : List ℕ) {n m : ℕ} {r : List ℕ} → FaultCalled file result n r → Refused file m → n ≡ m

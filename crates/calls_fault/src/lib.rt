@@ -3,14 +3,15 @@
 #![tactic(auto)]
 
 ghost use Rattle.std.specs.Prelude.{◌≡◌, ◌++◌, ◌≤◌, length, drop};
-ghost use Rattle.calls_fault.specs.FaultCall.{code_of, record_of, eighteen, FaultCalled, FaultDoor, OrderFaultDoor, DevicesFaultDoor, JobsFaultDoor};
+ghost use Rattle.calls_fault.specs.FaultCall.{parts_of, eighteen, FaultCalled, FaultDoor, OrderFaultDoor, DevicesFaultDoor, JobsFaultDoor};
 ghost use Rattle.calls.specs.Bytes.{big};
 ghost use Rattle.catalogue.specs.Faults.{told as part_told};
+ghost use Rattle.faults.specs.Places.{judged};
 ghost use Rattle.sheet_import.specs.LineFaults.{told as line_told};
 
 use calls::{cramped, put};
 use catalogue::{PartFault, order_fault};
-use faults::{Place, PlaceFault, fault_of, fault_of_tables};
+use faults::{PlaceFault, fault_of, fault_of_tables};
 use sheet_import::{LineFault, devices_fault, jobs_fault};
 use table_bytes::{is_tables, tables_from};
 
@@ -19,44 +20,42 @@ pub const PLACE: usize = 18;
 // What a place takes that is counted: a part of a catalogue, or a line of a sheet.
 pub const COUNTED: usize = 8;
 
-fn code_of(place: Place) -> u8
-    ensures { result ≡ code_of place }
+// What is told of a place: what it is, the number of its record, and its bytes; zeros where nothing is at fault.
+fn parts_of(fault: Result<(), PlaceFault>) -> [u64; 4]
+    ensures { result ≡ parts_of (judged fault) }
 {
-    match place {
-        Place::Nowhere => 0,
-        Place::Horizon => 1,
-        Place::DeviceCount => 2,
-        Place::Device(_) => 3,
-        Place::TaskCount => 4,
-        Place::Task(_) => 5,
-        Place::JobCount => 6,
-        Place::Job(_) => 7,
-        Place::End => 8,
+    match fault {
+        Ok(()) => [0; 4],
+        Err(f) => [
+            f.place.code() as u64,
+            f.place.record() as u64,
+            f.from as u64,
+            f.to as u64,
+        ],
     }
 }
 
-fn record_of(place: Place) -> usize
-    ensures { result ≡ record_of place }
+// The number that it is refused for, 0 for none.
+fn number_of(fault: Result<(), PlaceFault>) -> u8
+    ensures { result ≡ (judged fault).number }
 {
-    match place {
-        Place::Device(i) | Place::Task(i) | Place::Job(i) => i,
-        _ => 0,
+    match fault {
+        Ok(()) => 0,
+        Err(f) => f.reason.number(),
     }
 }
 
 // Puts a place into the buffer, and returns its number.
-pub fn tell_place(fault: PlaceFault, res: &mut [u8]) -> u8
+pub fn tell_place(fault: Result<(), PlaceFault>, res: &mut [u8]) -> u8
     requires { 18 ≤ length res.old }
-    ensures { (result ≡ fault.number) × (res.new ≡ eighteen fault ++ drop 18 res.old) }
+    ensures { (result ≡ (judged fault).number) × (res.new ≡ eighteen (judged fault) ++ drop 18 res.old) }
 {
-    let place = fault.place;
-    let code = code_of(place);
-    let record = record_of(place);
-    put(&mut res[..1], code as u64);
-    put(&mut res[1..2], record as u64);
-    put(&mut res[2..10], fault.from as u64);
-    put(&mut res[10..18], fault.to as u64);
-    fault.number
+    let [code, record, from, to] = parts_of(fault);
+    put(&mut res[..1], code);
+    put(&mut res[1..2], record);
+    put(&mut res[2..10], from);
+    put(&mut res[10..18], to);
+    number_of(fault)
 }
 
 // Where a file is refused: its first place at fault.

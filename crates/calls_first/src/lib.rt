@@ -3,33 +3,24 @@
 #![tactic(auto)]
 
 ghost use Rattle.first.specs.Promises.{FirstOf};
+ghost use Rattle.planner.specs.Answers.{answered};
 ghost use Rattle.planner.specs.Promises.{OfFile};
 ghost use Rattle.calls.specs.Calls.{StartsOf};
 ghost use Rattle.calls_first.specs.FirstCall.{FirstCalled};
 
-use calls::{RESULT, cramped, put_starts, tell};
+use calls::{RESULT, cramped, put_starts, read_roomed, tell};
 use first::first_of;
-use planner::{Answer, refusal};
-use request::read;
+use planner::{Figures, Refusal, told};
 
 // The start times of a plan go to the first bytes; a refusal writes nothing.
-fn first_bytes(file: &[u8], bytes: &mut [u8]) -> Answer
-    ensures { OfFile file.now bytes.old (StartsOf FirstOf bytes.old) result bytes.new }
+fn first_bytes(file: &[u8], bytes: &mut [u8]) -> Result<Figures, Refusal>
+    ensures { OfFile file.now bytes.old (StartsOf FirstOf bytes.old) (answered result) bytes.new }
 {
-    let request = read(file);
-    if request.number != 0 {
-        return refusal(request.number);
-    }
-    let jobs = request.recorder.jobs.count;
-    if bytes.len() < jobs * 2 {
-        return refusal(15);
-    }
+    let recorder = read_roomed(file, bytes.len())?;
     let mut own = [0u16; 16];
-    let found = first_of(request.recorder, &mut own);
-    if found.number == 0 {
-        put_starts(&own[..jobs], bytes);
-    }
-    found
+    let found = first_of(recorder, &mut own)?;
+    put_starts(&own[..recorder.jobs.count], bytes);
+    Ok(found)
 }
 
 // The start times of the first of all schedules that meet all deadlines, if there is one.
@@ -39,5 +30,5 @@ pub fn floe_first(file: &[u8], starts: &mut [u8], res: &mut [u8]) -> u8
     if res.len() < RESULT {
         return cramped(file);
     }
-    tell(first_bytes(file, starts), res)
+    tell(told(first_bytes(file, starts)), res)
 }

@@ -2,35 +2,26 @@
 // include/floebucket.h declares it; specs/LeastCall.antt says its outcome, which is complete but for what the memory holds where a plan was looked for, and for 20.
 #![tactic(auto)]
 
+ghost use Rattle.planner.specs.Answers.{answered};
 ghost use Rattle.planner.specs.Promises.{OfFile, KeptUnless};
 ghost use Rattle.calls.specs.Calls.{StartsOf};
 ghost use Rattle.cheapest.specs.Promises.{CountedLeastOf, Sought};
 ghost use Rattle.calls_least.specs.LeastCall.{LeastCalled, LeastInCalled};
 
-use calls::{RESULT, cramped, put_starts, tell};
+use calls::{RESULT, cramped, put_starts, read_roomed, tell};
 use cheapest::least_of;
-use planner::{Answer, refusal};
-use request::read;
+use planner::{Figures, Refusal, told};
 
 // The start times of a plan go to the first bytes; a refusal writes nothing.
-fn least_bytes(file: &[u8], budget: u32, memory: &mut [u64], bytes: &mut [u8]) -> Answer
-    ensures planned { OfFile file.now bytes.old (StartsOf (CountedLeastOf budget) bytes.old) result bytes.new }
-    ensures lent { KeptUnless (Sought result) memory.old memory.new }
+fn least_bytes(file: &[u8], budget: u32, memory: &mut [u64], bytes: &mut [u8]) -> Result<Figures, Refusal>
+    ensures planned { OfFile file.now bytes.old (StartsOf (CountedLeastOf budget) bytes.old) (answered result) bytes.new }
+    ensures lent { KeptUnless (Sought (answered result)) memory.old memory.new }
 {
-    let request = read(file);
-    if request.number != 0 {
-        return refusal(request.number);
-    }
-    let jobs = request.recorder.jobs.count;
-    if bytes.len() < jobs * 2 {
-        return refusal(15);
-    }
+    let recorder = read_roomed(file, bytes.len())?;
     let mut own = [0u16; 16];
-    let found = least_of(request.recorder, budget, memory, &mut own);
-    if found.number == 0 {
-        put_starts(&own[..jobs], bytes);
-    }
-    found
+    let found = least_of(recorder, budget, memory, &mut own)?;
+    put_starts(&own[..recorder.jobs.count], bytes);
+    Ok(found)
 }
 
 // The start times of the first of the least-energy schedules that meet all deadlines, worked out with the lent memory.
@@ -47,5 +38,5 @@ pub fn floe_least(
     if res.len() < RESULT {
         return cramped(file);
     }
-    tell(least_bytes(file, budget, memory, starts), res)
+    tell(told(least_bytes(file, budget, memory, starts)), res)
 }

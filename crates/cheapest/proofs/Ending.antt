@@ -89,7 +89,7 @@ module _ (R : Recorder) (valid : Valid R) where
     counts_over (passes h (passes o (stops f))) n = let s = latest_feasible R valid possible in absurd (f s.0 s.1)
     counts_over (passes h (passes o (passes f (found g)))) n = absurd (n refl)
 
-    pub counts_found : {a : Answer} {after : List ℕ} → SearchOf budget lent R a after → a.number ≡ 0 → CountedLeastOf budget lent R (success R.horizon a.energy 0) after
+    pub counts_found : {a : Answer} {after : List ℕ} → SearchOf budget lent R a after → a.number ≡ 0 → CountedLeastOf budget lent R (success a.horizon a.energy 0) after
     counts_found (stops h) z = absurd (omega arith)
     counts_found (passes h (stops o)) z = absurd (omega arith)
     counts_found (passes h (passes o (stops f))) z = absurd (omega arith)

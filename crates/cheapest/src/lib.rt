@@ -2,23 +2,25 @@
 // says its complete outcome, but for what the memory holds where a plan was looked for, and whether the memory was enough for one.
 #![tactic(auto)]
 
-ghost use Rattle.std.specs.Prelude.{◌≡◌, ◌++◌, ◌-◌, ◌^◌, ◌<◌, ◌≤◌, ltb, get_or, length, drop};
+ghost use Rattle.std.specs.Prelude.{◌≡◌, ◌++◌, ◌-◌, ◌^◌, ◌<◌, ◌≤◌, Ok, ltb, get_or, length, drop};
 ghost use Rattle.schedule.specs.Quantities.{Valid, jobs};
 ghost use Rattle.schedule.specs.Listing.{Feasible};
 ghost use Rattle.schedule.specs.Visiting.{plan_energy};
 ghost use Rattle.flat.specs.inside.Flat.{recorder_of};
 ghost use Rattle.latest.specs.inside.Latest.{latest_of, Laid};
+ghost use Rattle.planner.specs.Answers.{answered};
 ghost use Rattle.planner.specs.Promises as Promises;
 ghost use Rattle.planner.specs.Promises.{KeptUnless};
 ghost use Rattle.least.specs.inside.Outcome.{ReadOff};
 ghost use Rattle.cheapest.specs.Promises.{LeastOf, LeastPlanned, CountedLeastOf, Sought, LeastPlannedIn};
 
+use base::Reason;
 use extras::laying::lay_extras;
 use flat::{Flat, flat_of};
 use latest::{Table, lay_latest, power};
 use least::reading::least_starts;
 use least::search::Stop;
-use planner::{Answer, refusal, search_in_of, success};
+use planner::{Figures, Refusal, search_in_of};
 use request::read;
 use schedule::{Recorder, plan_energy};
 use stored::clear;
@@ -51,27 +53,36 @@ fn copy(s: &[u16], out: &mut [u16])
     out[..s.len()].copy_from_slice(s);
 }
 
-// The schedule that is found, written into the lent list, and the answer with its energy.
-fn give(r: Recorder, s: &[u16], starts: &mut [u16]) -> Answer
+// The schedule that is found, written into the lent list, and its energy.
+fn give(r: Recorder, s: &[u16], starts: &mut [u16]) -> Figures
     requires { Valid r × (Feasible r s.now × (length s.now ≤ length starts.old)) }
-    ensures { (result ≡ Promises.success r.horizon (plan_energy r s.now) 0) × (starts.new ≡ s.now ++ drop (length s.now) starts.old) }
+    ensures { (answered (Ok result) ≡ Promises.success r.horizon (plan_energy r s.now) 0) × (starts.new ≡ s.now ++ drop (length s.now) starts.old) }
 {
     copy(s, starts);
-    let energy = plan_energy(r, s);
-    success(r.horizon, energy, 0)
+    Figures {
+        horizon: r.horizon,
+        energy: plan_energy(r, s),
+        count: 0,
+    }
 }
 
 // What the search that counts finds, without its count: it gives up only where the budget is below the vertices of the visiting order.
-fn counted(r: Recorder, budget: u32, memory: &mut [u64], starts: &mut [u16]) -> Answer
+fn counted(
+    r: Recorder,
+    budget: u32,
+    memory: &mut [u64],
+    starts: &mut [u16],
+) -> Result<Figures, Refusal>
     requires { Valid r × ((0 < jobs r) × ((jobs r ≤ length starts.old) × (0 < latest_of r (2 ^ jobs r - 1)))) }
-    ensures counted { CountedLeastOf budget starts.old r result starts.new }
-    ensures sought { Sought result }
+    ensures counted { CountedLeastOf budget starts.old r (answered result) starts.new }
+    ensures sought { Sought (answered result) }
 {
-    let found = search_in_of(r, budget, memory, starts);
-    if found.number != 0 {
-        return found;
-    }
-    success(r.horizon, found.energy, 0)
+    let found = search_in_of(r, budget, memory, starts)?;
+    Ok(Figures {
+        horizon: r.horizon,
+        energy: found.energy,
+        count: 0,
+    })
 }
 
 // The first of the least-energy schedules of a recorder that has one, where there is room for its starts. Where the search that remembers gives up, the one that counts
@@ -83,47 +94,53 @@ fn least_with(
     budget: u32,
     memory: &mut [u64],
     starts: &mut [u16],
-) -> Answer
+) -> Result<Figures, Refusal>
     requires { Valid r × ((recorder_of flat.now ≡ r) × (Laid r latest.now × ((jobs r ≤ length starts.old) × (0 < latest_of r (2 ^ jobs r - 1))))) }
-    ensures counted { CountedLeastOf budget starts.old r result starts.new }
-    ensures sought { Sought result }
+    ensures counted { CountedLeastOf budget starts.old r (answered result) starts.new }
+    ensures sought { Sought (answered result) }
 {
     let n = r.jobs.count;
     let Ok(found) = find(flat, latest, budget, memory) else {
         return counted(r, budget, memory, starts);
     };
-    give(r, &found[..n], starts)
+    Ok(give(r, &found[..n], starts))
 }
 
 // The same of any recorder.
-pub fn least_of(r: Recorder, budget: u32, memory: &mut [u64], starts: &mut [u16]) -> Answer
+pub fn least_of(
+    r: Recorder,
+    budget: u32,
+    memory: &mut [u64],
+    starts: &mut [u16],
+) -> Result<Figures, Refusal>
     requires { Valid r }
-    ensures planned { LeastOf budget starts.old r result starts.new }
-    ensures counted { CountedLeastOf budget starts.old r result starts.new }
-    ensures lent { KeptUnless (Sought result) memory.old memory.new }
+    ensures planned { LeastOf budget starts.old r (answered result) starts.new }
+    ensures counted { CountedLeastOf budget starts.old r (answered result) starts.new }
+    ensures lent { KeptUnless (Sought (answered result)) memory.old memory.new }
 {
     let n = r.jobs.count;
     if starts.len() < n {
-        return refusal(15);
+        return Err(Refusal::from(Reason::NoRoom));
     }
     let flat = flat_of(r);
     let mut latest = [0u16; 65536];
     lay_latest(&flat, &mut latest);
     if !is_possible(&latest, n) {
-        return refusal(19);
+        return Err(Refusal::from(Reason::NoSchedule));
     }
     least_with(r, &flat, &latest, budget, memory, starts)
 }
 
 // Writes the start times of the first of the least-energy schedules that meet all deadlines. The memory may hold anything and be of any length: the more, the
 // faster. It is written to only where a plan is looked for.
-pub fn least_plan(file: &[u8], budget: u32, memory: &mut [u64], starts: &mut [u16]) -> Answer
-    ensures planned { LeastPlanned file.now budget starts.old result starts.new }
-    ensures lent { LeastPlannedIn file.now budget memory.old starts.old result memory.new starts.new }
+pub fn least_plan(
+    file: &[u8],
+    budget: u32,
+    memory: &mut [u64],
+    starts: &mut [u16],
+) -> Result<Figures, Refusal>
+    ensures planned { LeastPlanned file.now budget starts.old (answered result) starts.new }
+    ensures lent { LeastPlannedIn file.now budget memory.old starts.old (answered result) memory.new starts.new }
 {
-    let request = read(file);
-    if request.number != 0 {
-        return refusal(request.number);
-    }
-    least_of(request.recorder, budget, memory, starts)
+    least_of(read(file)?, budget, memory, starts)
 }

@@ -13,6 +13,8 @@ pub struct Trip {
     pub cost: u32,
 }
 
+// Widths grow by `as` here, and not by `u32::from`: the sums below are proved over the numbers themselves, and not over what a call gives.
+
 // The better of the best trip to the first n levels and of that to the next one, which counts where both ways have room and it costs less.
 fn better_trip(d: Device, g: u16, n: usize, best: Trip) -> Trip
     requires { Sound d × ((n < d.levels) × Chosen d n g best) }

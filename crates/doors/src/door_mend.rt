@@ -3,7 +3,6 @@ ghost use Rattle.planner.specs.Promises.{OfFile};
 ghost use Rattle.mend.specs.Promises.{lending};
 ghost use Rattle.doors.specs.Promises.{MendSpelled, MendDoor};
 
-use base::fewer;
 use calls::{put_starts, tell};
 use doorway::{SHUT, hand_starts, is_open};
 use mend::mend;
@@ -15,13 +14,13 @@ fn mend_bytes(file: &[u8], given: &[u16], out: &mut [u8], moved: &mut [u8]) -> A
 {
     let mut starts = [0u16; 16];
     let mut moves = [0u16; 48];
-    let places = fewer(out.len() / 2, 16);
-    let numbers = fewer(moved.len() / 2, 48);
+    let places = (out.len() / 2).min(16);
+    let numbers = (moved.len() / 2).min(48);
     let answer = mend(file, given, &mut starts[..places], &mut moves[..numbers]);
     if answer.number == 0 {
-        let jobs = fewer(given.len(), places);
+        let jobs = given.len().min(places);
         put_starts(&starts[..jobs], out);
-        let listed = fewer(answer.count as usize * 3, numbers);
+        let listed = (answer.count as usize * 3).min(numbers);
         put_starts(&moves[..listed], moved);
     }
     answer

@@ -2,7 +2,6 @@
 ghost use Rattle.planner.specs.Promises.{OfFile};
 ghost use Rattle.doors.specs.Promises.{PossibleSpelled, PossibleDoor};
 
-use base::fewer;
 use calls::{RESULT, put_starts, tell};
 use doorway::SHUT;
 use planner::{Answer, refusal};
@@ -18,10 +17,10 @@ fn possible_bytes(file: &[u8], budget: u32, starts: &mut [u8]) -> Answer
         return refusal(request.number);
     }
     let mut own = [0u16; 16];
-    let places = fewer(starts.len() / 2, 16);
+    let places = (starts.len() / 2).min(16);
     let answer = first_schedule(request.recorder, budget, &mut own[..places]);
     if answer.number == 0 {
-        let jobs = fewer(request.recorder.jobs.count, places);
+        let jobs = request.recorder.jobs.count.min(places);
         put_starts(&own[..jobs], starts);
     }
     answer

@@ -4,7 +4,6 @@ ghost use Rattle.planner.specs.Promises.{OfFile};
 ghost use Rattle.doorway.specs.Doors.{fours};
 ghost use Rattle.doors.specs.Promises.{StepsSpelled, StepDoor};
 
-use base::fewer;
 use calls::{put, tell};
 use doorway::{SHUT, hand_starts, is_open};
 use planner::{Answer, refusal};
@@ -34,10 +33,10 @@ fn step_bytes(file: &[u8], starts: &[u16], out: &mut [u8]) -> Answer
     }
     let recorder = request.recorder;
     let mut room = [0u32; 8];
-    let places = fewer(out.len() / 4, 8);
+    let places = (out.len() / 4).min(8);
     let answer = steps_of(file, recorder, starts, &mut room[..places]);
     if answer.number == 0 {
-        let devices = fewer(recorder.devices.count, places);
+        let devices = recorder.devices.count.min(places);
         put_energies(&room[..devices], out);
     }
     answer

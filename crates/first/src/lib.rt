@@ -3,41 +3,43 @@
 #![tactic(auto)]
 
 ghost use Rattle.schedule.specs.Quantities.{Valid};
+ghost use Rattle.planner.specs.Answers.{answered};
 ghost use Rattle.first.specs.Promises.{FirstOf, FirstPlan};
 
+use base::Reason;
 use flat::flat_of;
 use latest::leading::lay_starts;
 use latest::{all_jobs, lay_latest};
-use planner::{Answer, refusal, success};
+use planner::{Figures, Refusal};
 use request::read;
 use schedule::Recorder;
 
 // The first schedule of a recorder.
-pub fn first_of(r: Recorder, starts: &mut [u16]) -> Answer
+pub fn first_of(r: Recorder, starts: &mut [u16]) -> Result<Figures, Refusal>
     requires { Valid r }
-    ensures { FirstOf starts.old r result starts.new }
+    ensures { FirstOf starts.old r (answered result) starts.new }
 {
     let n = r.jobs.count;
     if starts.len() < n {
-        return refusal(15);
+        return Err(Refusal::from(Reason::NoRoom));
     }
     let flat = flat_of(r);
     let mut table = [0u16; 65536];
     lay_latest(&flat, &mut table);
     if table[all_jobs(&flat)] == 0 {
-        return refusal(19);
+        return Err(Refusal::from(Reason::NoSchedule));
     }
     lay_starts(&flat, &table, starts);
-    success(r.horizon, 0, 0)
+    Ok(Figures {
+        horizon: r.horizon,
+        energy: 0,
+        count: 0,
+    })
 }
 
 // Writes the start times of the first of all schedules that meet all deadlines.
-pub fn first_plan(file: &[u8], starts: &mut [u16]) -> Answer
-    ensures { FirstPlan file.now starts.old result starts.new }
+pub fn first_plan(file: &[u8], starts: &mut [u16]) -> Result<Figures, Refusal>
+    ensures { FirstPlan file.now starts.old (answered result) starts.new }
 {
-    let request = read(file);
-    if request.number != 0 {
-        return refusal(request.number);
-    }
-    first_of(request.recorder, starts)
+    first_of(read(file)?, starts)
 }

@@ -11,6 +11,7 @@ const TWO29: u64 = 536870912;
 const TWO32: u64 = 4294967296;
 
 // A place for a key, and what is known of it: twice a bound of the least, and one more where it is the least itself; 0 where nothing is known.
+// No enum: it is the number that stands in the entry's word, of which the definitions speak.
 #[derive(Clone, Copy)]
 pub struct Spot {
     pub slot: usize,

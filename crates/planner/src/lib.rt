@@ -38,9 +38,9 @@ pub struct FileTables {
 pub fn check(file: &[u8]) -> Result<Figures, Refusal>
     ensures { Checked file.now (answered result) }
 {
-    let recorder = read(file)?;
+    let accepted = read(file)?;
     Ok(Figures {
-        horizon: recorder.horizon,
+        horizon: accepted.horizon,
         energy: 0,
         count: 0,
     })
@@ -50,9 +50,7 @@ pub fn check(file: &[u8]) -> Result<Figures, Refusal>
 pub fn sizes(file: &[u8], out: &mut [u8]) -> Result<Figures, Refusal>
     ensures { Sized file.now out.old (answered result) out.new }
 {
-    let recorder = read(file)?;
-    let tables = tables_in(file);
-    sizes_of(recorder, tables.tasks.count, out)
+    sizes_of(read(file)?, tables_in(file).tasks.count, out)
 }
 
 // Writes the margin of each job, for any start times.

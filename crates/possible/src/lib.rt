@@ -4,10 +4,11 @@
 
 ghost use Rattle.std.specs.Prelude.{◌≡◌};
 ghost use Rattle.schedule.specs.Quantities.{Valid};
+ghost use Rattle.planner.specs.Answers.{answered};
 ghost use Rattle.possible.specs.inside.Bare.{idle_job, Bare};
 ghost use Rattle.possible.specs.Promises.{PossibleOf, Possible};
 
-use planner::{Answer, answer_of, refusal};
+use planner::{Figures, Refusal};
 use request::read;
 use schedule::{Job, Recorder};
 
@@ -36,20 +37,21 @@ fn without_devices(r: Recorder) -> Recorder
 }
 
 // The first schedule of a recorder.
-pub fn first_schedule(r: Recorder, budget: u32, starts: &mut [u16]) -> Answer
+pub fn first_schedule(r: Recorder, budget: u32, starts: &mut [u16]) -> Result<Figures, Refusal>
     requires { Valid r }
-    ensures { PossibleOf budget starts.old r result starts.new }
+    ensures { PossibleOf budget starts.old r (answered result) starts.new }
 {
-    answer_of(r.horizon, visit::first(without_devices(r), budget, starts))
+    let found = visit::first(without_devices(r), budget, starts)?;
+    Ok(Figures {
+        horizon: r.horizon,
+        energy: found.energy,
+        count: found.count,
+    })
 }
 
 // Writes the start times of the first of all schedules that meet all deadlines, if the budget covers the vertices that it takes to find it.
-pub fn any_plan(file: &[u8], budget: u32, starts: &mut [u16]) -> Answer
-    ensures { Possible file.now budget starts.old result starts.new }
+pub fn any_plan(file: &[u8], budget: u32, starts: &mut [u16]) -> Result<Figures, Refusal>
+    ensures { Possible file.now budget starts.old (answered result) starts.new }
 {
-    let request = read(file);
-    if request.number != 0 {
-        return refusal(request.number);
-    }
-    first_schedule(request.recorder, budget, starts)
+    first_schedule(read(file)?, budget, starts)
 }

@@ -11,6 +11,7 @@ use crate::Recorder;
 fn margin_of(deadline: u16, start: u16, run: u16) -> i32
     ensures { result ≡ sub_ℕ deadline (start + run) }
 {
+    // `as`, since over what `u32::from` gives the difference below was not proved.
     let end = start as u32 + run as u32;
     deadline as i32 - end as i32
 }

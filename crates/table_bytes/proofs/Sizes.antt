@@ -1,5 +1,4 @@
 -- How many bytes records and what is laid out have.
-use mathlib.Core.Path.{◌≡◌, ap, ◌∙◌}
 use mathlib.Core.List.{List}
 use Prim.Native.Nat.{ℕ, ◌+◌, ◌*◌, ◌≤◌, min}
 use native.Mathlib.Omega.{arith}
@@ -9,10 +8,7 @@ use Rattle.base.specs.Refusals.{after}
 use Rattle.base.proofs.Records.{after_from_lem, after_most}
 use Rattle.tables.specs.declared.Kind.{Kind}
 use Rattle.tables.specs.declared.Kind.TheVariants.{First, Second, Third}
-use Rattle.tables.specs.declared.File.{File}
 use Rattle.tables.specs.Records.{device_size}
-use Rattle.tables.specs.inside.Held.{appended}
-use Rattle.tables.proofs.Appending.{appended_count}
 use Rattle.table_bytes.specs.TableBytes.{kind_named, tasks_from, AreTables}
 
 size_most : (k : Kind) (s : List ℕ) (at : ℕ) → device_size k s at ≤ 14
@@ -32,6 +28,3 @@ pub tables_long : (s : List ℕ) → AreTables s → (9 ≤ length s) × (tasks_
 tables_long s t =
     let from = after_from_lem (device_size (kind_named (byte_at s 0)) s) (min (pair_at s 3) 8) 9 in
     (omega (arith, t.ends, from), omega (arith, t.ends))
-
-pub counted : (f g : File) (l : List ℕ) → g ≡ appended f l → g.count ≡ f.count + length l
-counted f g l e = ap (λ (x : File). x.count) e ∙ appended_count f l

@@ -25,6 +25,7 @@ fn count_at(s: &[u8], at: usize) -> usize
 
 // ---- from bytes
 
+// No `TryFrom`: whoever asks has tested the byte already (`is_tables`), and would test a `Result` a second time.
 fn kind_named(byte: u8) -> Kind
     ensures { result ≡ kind_named byte }
 {
@@ -122,6 +123,7 @@ fn kind_byte(kind: Kind) -> u8
 }
 
 // The bytes before the records.
+#[tactic(auto, unfolding(tables::specs::inside::Held::held, tables::specs::inside::Held::appended))]
 fn head(kind: Kind, horizon: u16, devices: u16, tasks: u16, jobs: u16) -> File
     ensures { result ≡ held (head_of kind horizon devices tasks jobs) }
 {

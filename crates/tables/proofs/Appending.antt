@@ -15,6 +15,9 @@ unfolding appended
 appended_count f [] = omega arith
 appended_count f (b ∷ l) = omega (arith, appended_count (record { count = f.count + 1; bytes = set f.bytes f.count b }) l)
 
+pub counted : (f g : File) (l : List ℕ) → g ≡ appended f l → g.count ≡ f.count + length l
+counted f g l e = ap (λ (x : File). x.count) e ∙ appended_count f l
+
 pub appended_more : (f : File) (l m : List ℕ) → appended (appended f l) m ≡ appended f (l ++ m)
 unfolding appended
 appended_more f [] m = refl

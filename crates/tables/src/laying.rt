@@ -8,6 +8,7 @@ ghost use Rattle.tables.specs.inside.Held.{limited, held, appended};
 use crate::records::{Record, blank_device};
 use crate::{DeviceRecord, File, JobRecord, Kind, TableName, Tables, TaskRecord};
 
+#[tactic(auto, unfolding(crate::specs::inside::Held::held, base::specs::Lists::padded))]
 pub fn empty() -> File
     ensures { result ≡ held [] }
 {
@@ -17,6 +18,7 @@ pub fn empty() -> File
     }
 }
 
+#[tactic(auto, unfolding(crate::specs::inside::Held::appended))]
 pub fn push(f: File, byte: u8) -> File
     requires { f.count < 297 }
     ensures { result ≡ appended f (byte ∷ []) }
@@ -28,6 +30,7 @@ pub fn push(f: File, byte: u8) -> File
     out
 }
 
+#[tactic(auto, unfolding(crate::specs::inside::Held::appended))]
 pub fn push_pair(f: File, number: u16) -> File
     requires { f.count + 2 ≤ 297 }
     ensures { result ≡ appended f (pair_bytes number) }
@@ -36,6 +39,7 @@ pub fn push_pair(f: File, number: u16) -> File
     push(high, (number % 256) as u8)
 }
 
+#[tactic(auto, unfolding(crate::specs::inside::Held::appended))]
 fn push_marker(f: File, kind: Kind) -> File
     requires { f.count + 2 ≤ 297 }
     ensures { result ≡ appended f (marker kind) }
@@ -47,6 +51,7 @@ fn push_marker(f: File, kind: Kind) -> File
     }
 }
 
+#[tactic(auto, unfolding(crate::specs::inside::Held::appended))]
 fn push_first(f: File, d: DeviceRecord) -> File
     requires { f.count + 7 ≤ 297 }
     ensures { result ≡ appended f (first_bytes d) }
@@ -57,6 +62,7 @@ fn push_first(f: File, d: DeviceRecord) -> File
     push_pair(c, d.pwake)
 }
 
+#[tactic(auto, unfolding(crate::specs::inside::Held::appended))]
 fn push_second(f: File, d: DeviceRecord) -> File
     requires { f.count + 10 ≤ 297 }
     ensures { result ≡ appended f (second_bytes d) }
@@ -70,6 +76,7 @@ fn push_second(f: File, d: DeviceRecord) -> File
 }
 
 // The power of level i + 1, if n levels have it.
+#[tactic(auto, unfolding(crate::specs::inside::Held::appended))]
 fn push_power(f: File, n: u8, i: u8, power: u16) -> File
     requires { f.count + length (power_bytes n i power) ≤ 297 }
     ensures { result ≡ appended f (power_bytes n i power) }
@@ -88,6 +95,7 @@ fn push_powers(f: File, d: DeviceRecord) -> File
     push_power(c, n, 3, d.ps4)
 }
 
+#[tactic(auto, unfolding(crate::specs::inside::Held::appended))]
 fn push_third(f: File, d: DeviceRecord) -> File
     requires { f.count + length (third_bytes d) ≤ 297 }
     ensures { result ≡ appended f (third_bytes d) }
@@ -110,6 +118,7 @@ fn push_device(f: File, kind: Kind, d: DeviceRecord) -> File
     }
 }
 
+#[tactic(auto, unfolding(crate::specs::inside::Held::appended))]
 fn push_task(f: File, k: TaskRecord) -> File
     requires { f.count + 5 ≤ 297 }
     ensures { result ≡ appended f (task_bytes k) }
@@ -119,6 +128,7 @@ fn push_task(f: File, k: TaskRecord) -> File
     push(b, k.set)
 }
 
+#[tactic(auto, unfolding(crate::specs::inside::Held::appended))]
 fn push_job(f: File, j: JobRecord) -> File
     requires { f.count + 7 ≤ 297 }
     ensures { result ≡ appended f (job_bytes j) }

@@ -141,6 +141,7 @@ pub fn blank_device() -> DeviceRecord
     averaged(0, 0, 0, 0)
 }
 
+// Not read as the other tables are: its records have no one size.
 // The n devices from a place on: each record stands after the one before it.
 pub fn devices_at(s: &[u8], kind: Kind, n: usize, from: usize) -> DeviceTable
     requires { (n ≤ 8) × (after (device_size kind s.now) n from ≤ length s.now) }

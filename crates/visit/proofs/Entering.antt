@@ -6,7 +6,7 @@ use mathlib.Core.Logic.{◌⊎◌, inl, inr, ⊎_elim}
 use Prim.Native.Nat.{ℕ, suc, ◌+◌, ◌-◌, ◌^◌, ◌≤◌, ◌<◌, max, min}
 use native.Mathlib.Omega.{arith}
 use lib.Dec.{eqb, ltb}
-use lib.ListN.{set, length}
+use lib.ListN.{length}
 use lib.Pow.{pow_pos}
 use borrow.Author.Tests.{lt-ltb, le-ltb}
 use Rattle.base.specs.Lists.{In, remove, up_from}
@@ -31,11 +31,12 @@ use Rattle.vertex.proofs.Lasting.{cut_limit}
 use Rattle.vertex.proofs.Most.{floor_most, uncut_room}
 use Rattle.vertex.proofs.Showing.{some_suc, ordered_later, shown_ordered, leads_shown, ends_shown, child_shown, job_in_lem, in_job}
 use Rattle.recall.specs.inside.Slack.{more}
-use Rattle.visit.specs.inside.Lent.{count_at, energy_at, stop_at, Bests, Tells, Came, done, over, Stands, Starts, Tries, Enters}
+use Rattle.visit.specs.declared.tally.Tally.{Tally}
+use Rattle.visit.specs.inside.Lent.{more_counted, noted, count_at, energy_at, stop_at, Bests, Tells, Came, done, over, Stands, Starts, Tries, Enters}
 use Rattle.visit.specs.inside.Stops.{visit_by, entered}
 use Rattle.visit.specs.inside.Offers.{Offered}
 use Rattle.visit.proofs.Visits.{through_counts, visit_one, visit_dropped, visit_entered, cut_b_spared}
-use Rattle.visit.proofs.Telling.{tells_none, tells_counted, tells_noted, came_back, came_offered}
+use Rattle.visit.proofs.Telling.{tells_none, tells_one, tells_noted, came_back, came_offered}
 
 -- From the start `cut` on every child is dropped: from x on by cut A, and before it by cut B.
 abbrev pub Cuts : Recorder → List ℕ → ℕ → ℕ → ℕ → ℕ → ℕ → Type 0
@@ -134,7 +135,7 @@ module _ (R : Recorder) (valid : Valid R) (narrow : (k : ℕ) → k < R.devices.
 
       -- Where all from the start s on are dropped, they are merely counted.
       pub starts_dropped :
-          (stop : Bool) (budget cut s : ℕ) (tally : List ℕ) (st : Visited) → Cuts R l (energy_at tally) from j x cut → cut ≤ s → earliest R v.time j ≤ s
+          (stop : Bool) (budget cut s : ℕ) (tally : Tally) (st : Visited) → Cuts R l (energy_at tally) from j x cut → cut ≤ s → earliest R v.time j ≤ s
           → Tells R stop budget tally v st
           → through (λ (y : ℕ). visit_by R stop m (child R v j y)) (up_from s (suc (deadline R j) - (s + run R j))) st ≡ more (suc (deadline R j) - (s + run R j)) st
       starts_dropped stop budget cut s tally st cuts q early tells =
@@ -146,7 +147,7 @@ module _ (R : Recorder) (valid : Valid R) (narrow : (k : ℕ) → k < R.devices.
 
   -- ---- the visit of it
 
-  module _ (stop : Bool) (budget : ℕ) (l : List ℕ) (a from cut f j s m : ℕ) (v : Vertex) (st : Visited) (tally : List ℕ) (t : Tries R l (energy_at tally) a from cut f j s m v) (tells : Tells R stop budget tally v st) where
+  module _ (stop : Bool) (budget : ℕ) (l : List ℕ) (a from cut f j s m : ℕ) (v : Vertex) (st : Visited) (tally : Tally) (t : Tries R l (energy_at tally) a from cut f j s m v) (tells : Tells R stop budget tally v st) where
     w : Vertex
     w = child R v j s
 
@@ -157,15 +158,15 @@ module _ (R : Recorder) (valid : Valid R) (narrow : (k : ℕ) → k < R.devices.
     pub visit_over : count_at tally ≡ budget → Came R stop budget tally v (visit_by R stop m (child R v j s) st) true
     visit_over e = over tells.stops (omega (arith, e, tells.count, visit_one R stop m (child R v j s) st tells.going)) (tells_none R stop budget tally v st tells)
 
-    module _ (less : count_at tally < budget) (x : List ℕ) (x-is : x ≡ set tally 0 (count_at tally + 1)) where
+    module _ (less : count_at tally < budget) (x : Tally) (x-is : x ≡ more_counted 1 tally) where
       pub tells_more : Tells R stop budget x v (counted st)
-      tells_more = rw x-is (tells_counted R stop budget tally v st tells less)
+      tells_more = rw x-is (tells_one R stop budget tally v st tells less)
 
       pub visit_drops : (cut_a R (child R v j s) ≡ true) ⊎ (energy_at tally ≤ floor R (child R v j s)) → Came R stop budget x v (visit_by R stop m (child R v j s) st) false
       unfolding w
       visit_drops q = done (subst (Tells R stop budget x v) (sym (visit_dropped R stop valid narrow m (child R v j s) reached tally st tells.going tells.best q)) tells_more)
 
-    pub visit_enters : s < cut → f < energy_at tally → (x : List ℕ) (b : Bool) → Came R stop budget x v (entered R stop m (child R v j s) (counted st)) b → Came R stop budget x v (visit_by R stop m (child R v j s) st) b
+    pub visit_enters : s < cut → f < energy_at tally → (x : Tally) (b : Bool) → Came R stop budget x v (entered R stop m (child R v j s) (counted st)) b → Came R stop budget x v (visit_by R stop m (child R v j s) st) b
     visit_enters early low x b c =
         let q = t.spared early in
         subst (λ (z : Visited). Came R stop budget x v z b)
@@ -215,12 +216,12 @@ module _ (R : Recorder) (valid : Valid R) (narrow : (k : ℕ) → k < R.devices.
     pub enters_small : f ≤ 2147450880
     enters_small = omega (arith, t.floor_is, floor_most R valid narrow m (child R v j s) reached_child t.spared)
 
-    module _ (tally : List ℕ) (st : Visited) (tells : Tells R stop budget tally v st) where
-      pub enters_noted : (x : List ℕ) → x ≡ set tally (2 + j) s → Tells R stop budget x (child R v j s) st
-      enters_noted x e = rw e (tells_noted R stop budget v j s t.starts.job tally st (starts_known m v j s t.starts t.shows.reached).1 valid.few_jobs tells)
+    module _ (tally : Tally) (st : Visited) (tells : Tells R stop budget tally v st) where
+      pub enters_noted : (x : Tally) → x ≡ noted j s tally → Tells R stop budget x (child R v j s) st
+      enters_noted x e = rw e (tells_noted R stop budget v j s t.starts.job tally st (starts_known m v j s t.starts t.shows.reached).1 tells)
 
     pub enters_complete :
-        left ≡ 0 → (x y : List ℕ) (e : ℕ) (st : Visited) → Tells R stop budget x (child R v j s) st → e ≡ f + ends_by R l j s → e < 4294967295 → Offered e x y
+        left ≡ 0 → (x y : Tally) (e : ℕ) (st : Visited) → Tells R stop budget x (child R v j s) st → e ≡ f + ends_by R l j s → e < 4294967295 → Offered e x y
         → (b : Bool) → b ≡ eqb (stop_at y) 1 → Came R stop budget y v (entered R stop m (child R v j s) st) b
     enters_complete z x y e st tells e-is small o b b-is =
         let n = left_none z in
@@ -242,7 +243,7 @@ module _ (R : Recorder) (valid : Valid R) (narrow : (k : ℕ) → k < R.devices.
             spared = t.spared;
           }
 
-    pub enters_came : (n : ℕ) → m ≡ suc n → (x : List ℕ) (st : Visited) (b : Bool) → Came R stop budget x (child R v j s) (choices R (visit_by R stop n) (child R v j s) st) b
+    pub enters_came : (n : ℕ) → m ≡ suc n → (x : Tally) (st : Visited) (b : Bool) → Came R stop budget x (child R v j s) (choices R (visit_by R stop n) (child R v j s) st) b
         → Came R stop budget x v (entered R stop m (child R v j s) st) b
     unfolding entered
     enters_came n e x st b c =

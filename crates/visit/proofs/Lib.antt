@@ -1,6 +1,5 @@
 pub mod Stopping
 pub mod Visits
-pub mod Offering
 pub mod Telling
 pub mod Going
 pub mod Entering

@@ -4,9 +4,8 @@ use mathlib.Core.Bool.{Bool, true, false}
 use mathlib.Core.List.{List}
 use mathlib.Core.Option.{Option, none, some}
 use Prim.Native.Nat.{ℕ, ◌+◌, ◌-◌, ◌≤◌, ◌<◌}
+use native.Mathlib.Nat.{le_refl}
 use native.Mathlib.Omega.{arith}
-use lib.ListN.{get_or, set, length, length-set}
-use lib.Seq.{get_or-set_same, get_or-set_other}
 use borrow.Author.Tests.{eq-eqb, ne_eqb}
 use Rattle.std.specs.Prelude.{Some}
 use Rattle.std.proofs.lemmas.Option.{MatchOption-at_some}
@@ -18,21 +17,22 @@ use Rattle.recall.specs.inside.Slack.{more, Slack}
 use Rattle.recall.specs.inside.Entries.{kept}
 use Rattle.recall.specs.inside.Asks.{Asks}
 use Rattle.recall.proofs.Answered.{seen_kept, Costs, choices_stay}
-use Rattle.visit.specs.inside.Lent.{count_at, energy_at, Bests, slack_by, Lends, Tells, Came, done, over, Added, fits, beyond, Stands}
+use Rattle.visit.specs.declared.tally.Tally.{Tally}
+use Rattle.visit.specs.inside.Lent.{Long, count_at, energy_at, Bests, slack_by, Lends, Tells, Came, done, over, Added, fits, beyond, Stands}
 use Rattle.visit.specs.inside.Stops.{visit_by}
 use Rattle.visit.proofs.Stopping.{choices_left, choices_open}
 use Rattle.visit.proofs.Visits.{choices_grow}
-use Rattle.visit.proofs.Telling.{best_same, tells_none}
+use Rattle.visit.proofs.Telling.{tells_none, tells_counted}
 
 module _ (R : Recorder) where
   -- The slack of the best that the tally holds.
-  pub slack_told : (l : List ℕ) (f : ℕ) (o : Option (List ℕ)) → Bests R l o → f < energy_at l → Slack R f o (slack_by (energy_at l) f)
+  pub slack_told : (l : Tally) (f : ℕ) (o : Option (List ℕ)) → Bests R l o → f < energy_at l → Slack R f o (slack_by (energy_at l) f)
   unfolding Bests Slack slack_by
   slack_told l f none b h = rw (eq-eqb (energy_at l) 4294967295 b)
   slack_told l f (some s) b h = rw (ne_eqb (energy_at l) 4294967295 (λ e. omega (arith, b.1))) (omega (arith, h), omega (arith, h, b.0))
 
   -- Two tallies with the same energy hold bests of the same cost.
-  same_costs : (l l' : List ℕ) → energy_at l' ≡ energy_at l → (o o' : Option (List ℕ)) → Bests R l o → Bests R l' o' → Costs R o o'
+  same_costs : (l l' : Tally) → energy_at l' ≡ energy_at l → (o o' : Option (List ℕ)) → Bests R l o → Bests R l' o' → Costs R o o'
   unfolding Bests Costs
   same_costs l l' e none none b b' = tt
   same_costs l l' e none (some t) b b' = omega (arith, e, b, b'.1)
@@ -42,39 +42,21 @@ module _ (R : Recorder) where
   module _ (stop : Bool) (budget : ℕ) where
     -- ---- n vertices more
 
-    tells_more : (n : ℕ) (l : List ℕ) (v : Vertex) (st : Visited) → Tells R stop budget l v st → count_at l + n ≤ budget → Tells R stop budget (set l 0 (count_at l + n)) v (more n st)
-    tells_more n l v st t less =
-        record {
-          long = rw length-set t.long;
-          stops = beside 34 (λ (e : 34 ≡ 0). omega (arith, e)) ∙ t.stops;
-          count = get_or-set_same l 0 (count_at l + n) 0 (omega (arith, t.long)) ∙ ap (λ (c : ℕ). c + n) t.count;
-          best = best_same R l (set l 0 (count_at l + n)) (beside 1 (λ (e : 1 ≡ 0). omega (arith, e))) (λ j b. beside (18 + j) (λ (e : 18 + j ≡ 0). omega (arith, e))) st.best
-              t.best;
-          path = λ j b ne. beside (2 + j) (λ (e : 2 + j ≡ 0). omega (arith, e)) ∙ t.path j b ne;
-          within = omega (arith, t.count, less);
-          going = t.going;
-        }
-      where
-        beside : (i : ℕ) → (i ≡ 0 → ⊥) → get_or (set l 0 (count_at l + n)) i 0 ≡ get_or l i 0
-        beside i ne = get_or-set_other l 0 i (count_at l + n) 0 ne
-
     pub added_comes :
-        (n : ℕ) (l l' : List ℕ) (x : Bool) → Added budget n l l' x → (v : Vertex) (st st' : Visited) → st' ≡ more n st → Tells R stop budget l v st
+        (n : ℕ) (l l' : Tally) (x : Bool) → Added budget n l l' x → (v : Vertex) (st st' : Visited) → st' ≡ more n st → Tells R stop budget l v st
         → Came R stop budget l' v st' x
-    added_comes n l l' false (fits h e) v st st' q t = rw (e, q) (done (tells_more n l v st t h))
+    added_comes n l l' false (fits h e) v st st' q t = rw (e, q) (done (tells_counted R stop budget n l v st t h))
     added_comes n l l' true (beyond h e) v st st' q t =
         rw e (over t.stops (omega (arith, h, t.count, ap (λ (u : Visited). u.count) q)) (tells_none R stop budget l v st t))
 
-    pub added_kept : (n : ℕ) (l l' : List ℕ) (x : Bool) → length l ≡ 35 → Added budget n l l' x → (length l' ≡ 35) × (energy_at l' ≤ energy_at l)
-    added_kept n l l' false h (fits q e) =
-        let same : energy_at l' ≡ energy_at l = ap energy_at e ∙ get_or-set_other l 0 1 (count_at l + n) 0 (λ (z : 1 ≡ 0). omega (arith, z)) in
-        (ap length e ∙ rw length-set h, omega (arith, same))
-    added_kept n l l' true h (beyond q e) = (ap length e ∙ h, omega (arith, ap energy_at e))
+    pub added_kept : (n : ℕ) (l l' : Tally) (x : Bool) → Long l → Added budget n l l' x → Long l' × (energy_at l' ≤ energy_at l)
+    added_kept n l l' false h (fits q e) = rw e (h, le_refl _)
+    added_kept n l l' true h (beyond q e) = rw e (h, le_refl _)
 
     -- ---- what was seen
 
     pub seen_lends :
-        (ex memory l : List ℕ) → Lends R ex memory → (a from time : ℕ) (asked : Asked) (tally tally' : List ℕ)
+        (ex memory l : List ℕ) → Lends R ex memory → (a from time : ℕ) (asked : Asked) (tally tally' : Tally)
         → Asks R (cap_at ex) l a time (slack_by (energy_at tally) from) asked → from < energy_at tally → (m : ℕ) (u : Vertex) → Stands R l a from m u → u.time ≡ time
         → (st : Visited) → Tells R stop budget tally u st → Tells R stop budget tally' u (choices R (visit_by R stop m) u st) → energy_at tally' ≡ energy_at tally
         → (n : ℕ) → n ≡ count_at tally' - count_at tally → n < 4294967296 → (after : List ℕ) → after ≡ kept memory asked.slot asked.key n → Lends R ex after
@@ -93,7 +75,7 @@ module _ (R : Recorder) where
 
     -- What is remembered comes.
     pub asked_comes :
-        (ex l : List ℕ) (a from time : ℕ) (asked : Asked) (tally : List ℕ) → Asks R (cap_at ex) l a time (slack_by (energy_at tally) from) asked → from < energy_at tally
+        (ex l : List ℕ) (a from time : ℕ) (asked : Asked) (tally : Tally) → Asks R (cap_at ex) l a time (slack_by (energy_at tally) from) asked → from < energy_at tally
         → (n : ℕ) → asked.count ≡ Some n → (m : ℕ) (u : Vertex) → Stands R l a from m u → u.time ≡ time → (st : Visited) → Tells R stop budget tally u st
         → choices R (visit_by R stop m) u st ≡ more n st
     asked_comes ex l a from time asked tally asks spare n is m u stands t st tells =

@@ -1,12 +1,12 @@
 -- The root: what the tally tells before it, and what its visit comes to.
 use mathlib.Core.Path.{◌≡◌, refl, sym, ap, ◌∙◌, subst}
-use mathlib.Core.Bool.{Bool, true, false, cond, ◌||◌}
+use mathlib.Core.Bool.{Bool, true, false, cond, true≢false, ◌||◌}
 use mathlib.Core.List.{List}
 use mathlib.Core.Option.{Option, none, some}
 use Prim.Native.Nat.{ℕ, suc, ◌+◌, ◌-◌, ◌^◌, ◌≤◌, ◌<◌}
 use native.Mathlib.Omega.{arith}
 use lib.Dec.{eqb}
-use lib.ListN.{get_or, set, length}
+use lib.ListN.{get_or, length}
 use borrow.Author.Tests.{lt-ltb, le-ltb, eq-eqb, ne_eqb}
 use Rattle.base.specs.Lists.{up_from, up_to}
 use Rattle.base.specs.Sums.{total, sum}
@@ -24,10 +24,11 @@ use Rattle.vertex.proofs.Ending.{floor_idle}
 use Rattle.vertex.proofs.Lasting.{none_late}
 use Rattle.vertex.proofs.Roots.{set_all}
 use Rattle.vertex.proofs.Showing.{some_suc, closes_shown}
-use Rattle.visit.specs.inside.Lent.{count_at, energy_at, best_at, stop_at, Bests, Holds, Tells, Came, done, over, ended, Over, goes, alone, told, Ran, whole, spent, Stands}
+use Rattle.visit.specs.declared.tally.Tally.{Tally}
+use Rattle.visit.specs.inside.Lent.{Long, more_counted, count_at, energy_at, best_at, stop_at, Bests, Holds, Tells, Came, done, over, ended, Over, goes, alone, told, Stands}
 use Rattle.visit.specs.inside.Stops.{visit_by, visited_by, entered}
 use Rattle.visit.specs.inside.Offers.{Offered}
-use Rattle.visit.proofs.Telling.{tells_counted, came_offered}
+use Rattle.visit.proofs.Telling.{tells_one, came_offered}
 use Rattle.visit.proofs.Visits.{visit_one, visit_cut, visit_entered}
 
 -- Nothing is counted yet.
@@ -35,7 +36,7 @@ abbrev pub bare : Visited
 bare = record { count = 0; best = none }
 
 module _ (R : Recorder) (stop : Bool) (budget : ℕ) where
-  pub root_tells : (l : List ℕ) → length l ≡ 35 → count_at l ≡ 0 → energy_at l ≡ 4294967295 → stop_at l ≡ cond stop 1 0 → Tells R stop budget l (root R) bare
+  pub root_tells : (l : Tally) → Long l → count_at l ≡ 0 → energy_at l ≡ 4294967295 → stop_at l ≡ cond stop 1 0 → Tells R stop budget l (root R) bare
   unfolding Bests
   root_tells l long count energy stops =
       record {
@@ -48,7 +49,7 @@ module _ (R : Recorder) (stop : Bool) (budget : ℕ) where
         going = λ e. refl;
       }
 
-  pub root_over : budget ≡ 0 → (l : List ℕ) → energy_at l ≡ 4294967295 → stop_at l ≡ cond stop 1 0 → Came R stop budget l (root R) (visited_by R stop) true
+  pub root_over : budget ≡ 0 → (l : Tally) → energy_at l ≡ 4294967295 → stop_at l ≡ cond stop 1 0 → Came R stop budget l (root R) (visited_by R stop) true
   unfolding visited_by
   root_over e l energy stops = over stops (omega (arith, e, visit_one R stop (jobs R) (root R) bare (λ q. refl))) (λ q. energy)
 
@@ -75,23 +76,23 @@ module _ (R : Recorder) (stop : Bool) (budget : ℕ) where
       pub root_aheads : (k : ℕ) → k < R.devices.count → ahead_at l k ≤ R.horizon
       root_aheads k b = omega (arith, shows.aheads k b, ticks_by R k (up_from 0 (jobs R)), room, shows.load)
 
-      module _ (tally x : List ℕ) (tells : Tells R stop budget tally (root R) bare) (less : 0 < budget) (x-is : x ≡ set tally 0 (count_at tally + 1)) where
-        tells_one : Tells R stop budget x (root R) (counted bare)
-        tells_one = rw x-is (tells_counted R stop budget tally (root R) bare tells (omega (arith, less, tells.count)))
+      module _ (tally x : Tally) (tells : Tells R stop budget tally (root R) bare) (less : 0 < budget) (x-is : x ≡ more_counted 1 tally) where
+        told_one : Tells R stop budget x (root R) (counted bare)
+        told_one = rw x-is (tells_one R stop budget tally (root R) bare tells (omega (arith, less, tells.count)))
 
         visited_is : visited_by R stop ≡ entered R stop (jobs R) (root R) (counted bare)
         unfolding visited_by cut_b
         visited_is = visit_entered R stop (jobs R) (root R) bare (λ e. refl) uncut_root refl
 
         pub root_complete :
-            jobs R ≡ 0 → (f e : ℕ) → f ≡ sum R.devices.count (idle_floor R l) → e ≡ f + closes_by R l → e < 4294967295 → (y : List ℕ) → Offered e x y
+            jobs R ≡ 0 → (f e : ℕ) → f ≡ sum R.devices.count (idle_floor R l) → e ≡ f + closes_by R l → e < 4294967295 → (y : Tally) → Offered e x y
             → (b : Bool) → b ≡ eqb (stop_at y) 1 → Came R stop budget y (root R) (visited_by R stop) b
         root_complete none_left f e f-is e-is small y o b b-is =
             let r : Reached R 0 (root R) = subst (λ (n : ℕ). Reached R n (root R)) none_left (root_reached R valid) in
             let is : e ≡ plan_energy R (starts_of R (root R)) = omega (arith, e-is, f-is, floor_idle R l valid shows, closes_shown R valid l _ _ (root R) shows, energy_complete R valid (root R) r) in
             subst (λ (z : Visited). Came R stop budget y (root R) z b) (sym visited_is)
             (subst (λ (n : ℕ). Came R stop budget y (root R) (entered R stop n (root R) (counted bare)) b) (sym none_left)
-            (came_offered R stop budget (root R) r valid x y e (counted bare) is small o b b-is tells_one))
+            (came_offered R stop budget (root R) r valid x y e (counted bare) is small o b b-is told_one))
 
         -- With jobs to place its children are examined.
         pub root_some : (jobs R ≡ 0 → ⊥) → (n : ℕ) × (jobs R ≡ suc n)
@@ -106,37 +107,45 @@ module _ (R : Recorder) (stop : Bool) (budget : ℕ) where
             }
 
         pub root_one : Tells R stop budget x (root R) (counted bare)
-        root_one = tells_one
+        root_one = told_one
 
-        pub root_came : (n : ℕ) → jobs R ≡ suc n → (y : List ℕ) (b : Bool) → Came R stop budget y (root R) (choices R (visit_by R stop n) (root R) (counted bare)) b → Came R stop budget y (root R) (visited_by R stop) b
+        pub root_came : (n : ℕ) → jobs R ≡ suc n → (y : Tally) (b : Bool) → Came R stop budget y (root R) (choices R (visit_by R stop n) (root R) (counted bare)) b → Came R stop budget y (root R) (visited_by R stop) b
         unfolding entered
         root_came n e y b c =
             subst (λ (z : Visited). Came R stop budget y (root R) z b) (sym visited_is)
             (subst (λ (k : ℕ). Came R stop budget y (root R) (entered R stop k (root R) (counted bare)) b) (sym e) c)
 
     pub root_cut :
-        R.horizon < load_at l → (tally x : List ℕ) → Tells R stop budget tally (root R) bare → 0 < budget → x ≡ set tally 0 (count_at tally + 1) → Came R stop budget x (root R) (visited_by R stop) false
+        R.horizon < load_at l → (tally x : Tally) → Tells R stop budget tally (root R) bare → 0 < budget → x ≡ more_counted 1 tally → Came R stop budget x (root R) (visited_by R stop) false
     unfolding visited_by
     root_cut h tally x tells less x-is =
-        done (subst (Tells R stop budget x (root R)) (sym (visit_cut R stop (jobs R) (root R) bare (λ e. refl) (cut_root h))) (rw x-is (tells_counted R stop budget tally (root R) bare tells (omega (arith, less, tells.count)))))
+        done (subst (Tells R stop budget x (root R)) (sym (visit_cut R stop (jobs R) (root R) bare (λ e. refl) (cut_root h))) (rw x-is (tells_one R stop budget tally (root R) bare tells (omega (arith, less, tells.count)))))
 
   -- ---- whether it was for the budget
 
-  stop_one : (b : Bool) → stop ≡ b → (l : List ℕ) → stop_at l ≡ cond stop 1 0 → stop_at l ≡ 1 → stop ≡ true
+  stop_one : (b : Bool) → stop ≡ b → (l : Tally) → stop_at l ≡ cond stop 1 0 → stop_at l ≡ 1 → stop ≡ true
   stop_one true e l m q = e
   stop_one false e l m q = absurd (omega (arith, m ∙ ap (λ (x : Bool). cond x 1 0) e, q))
 
-  pub came_ran : (l : List ℕ) (b x : Bool) → Came R stop budget l (root R) (visited_by R stop) b → Over l b x → Ran R stop budget l x
-  came_ran l false false (done t) goes = whole (record { count = t.count; best = t.best; within = t.within })
-  came_ran l true true (over m q n) (alone a) = spent q
-  came_ran l true x (over m q n) (told a y e) = rw (e ∙ eq-eqb (energy_at l) 4294967295 (n (stop_one stop refl l m a))) (spent q)
-  came_ran l true true (ended m e q h) (alone a) = absurd (a (m ∙ ap (λ (b : Bool). cond b 1 0) e))
-  came_ran l true x (ended m e q h) (told a y is) = rw (is ∙ ne_eqb (energy_at l) 4294967295 (λ z. omega (arith, z, q))) (whole h)
-  came_ran l false true _ x7 = elim x7 [ ]
+  pub came_whole : (l : Tally) (b x : Bool) → Came R stop budget l (root R) (visited_by R stop) b → Over l b x → x ≡ false → Holds R budget l (visited_by R stop)
+  came_whole l false false (done t) goes z = record { count = t.count; best = t.best; within = t.within }
+  came_whole l true true (over m q n) (alone a) z = absurd (true≢false z)
+  came_whole l true x (over m q n) (told a y e) z = absurd (true≢false (sym (e ∙ eq-eqb (energy_at l) 4294967295 (n (stop_one stop refl l m a))) ∙ z))
+  came_whole l true true (ended m e q h) (alone a) z = absurd (true≢false z)
+  came_whole l true x (ended m e q h) (told a y is) z = h
+  came_whole l false true _ x7 z = elim x7 [ ]
+
+  pub came_spent : (l : Tally) (b x : Bool) → Came R stop budget l (root R) (visited_by R stop) b → Over l b x → x ≡ true → budget < (visited_by R stop).count
+  came_spent l false false (done t) goes z = absurd (true≢false (sym z))
+  came_spent l true true (over m q n) (alone a) z = q
+  came_spent l true x (over m q n) (told a y e) z = q
+  came_spent l true true (ended m e q h) (alone a) z = absurd (a (m ∙ ap (λ (b : Bool). cond b 1 0) e))
+  came_spent l true x (ended m e q h) (told a y is) z = absurd (true≢false (sym z ∙ is ∙ ne_eqb (energy_at l) 4294967295 (λ k. omega (arith, k, q))))
+  came_spent l false true _ x7 z = elim x7 [ ]
 
 -- ---- what is read off the tally in the end
 
-module _ (R : Recorder) (budget : ℕ) (l : List ℕ) (st : Visited) (holds : Holds R budget l st) where
+module _ (R : Recorder) (budget : ℕ) (l : Tally) (st : Visited) (holds : Holds R budget l st) where
   none_or : (o : Option (List ℕ)) → Bests R l o → energy_at l ≡ 4294967295 → o ≡ none
   unfolding Bests
   none_or none b e = refl

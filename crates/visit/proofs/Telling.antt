@@ -7,7 +7,7 @@ use Prim.Native.Nat.{ℕ, ◌+◌, ◌≤◌, ◌<◌}
 use native.Mathlib.Decide.{ℕ_discrete}
 use native.Mathlib.Omega.{arith}
 use lib.Dec.{eqb}
-use lib.ListN.{get_or, set, length, length-set}
+use lib.ListN.{get_or, length, length-set}
 use lib.Seq.{get_or-set_same, get_or-set_other}
 use borrow.Author.Tests.{lt-ltb, le-ltb}
 use Rattle.base.specs.Lists.{In, remove}
@@ -17,76 +17,75 @@ use Rattle.schedule.specs.Quantities.{jobs, Valid}
 use Rattle.schedule.specs.Visiting.{Vertex, Visited, child, starts_of, counted, plan_energy, better}
 use Rattle.schedule.proofs.Runs.{length_starts, run_feasible}
 use Rattle.schedule.proofs.Tree.{Reached, starts_child, full_run}
-use Rattle.visit.specs.inside.Lent.{count_at, energy_at, start_at, best_at, stop_at, Bests, Holds, Tells, Came, done, over, ended}
+use Rattle.recall.specs.inside.Slack.{more}
+use Rattle.visit.specs.declared.tally.Tally.{Tally}
+use Rattle.visit.specs.inside.Lent.{Long, more_counted, noted, count_at, energy_at, start_at, best_at, stop_at, Bests, Holds, Tells, Came, done, over, ended}
 use Rattle.visit.specs.inside.Stops.{entered}
 use Rattle.visit.specs.inside.Offers.{Bettered, Offered, kept, taken}
 
 module _ (R : Recorder) where
   -- The best is the same in two tallies.
-  pub best_same : (l w : List ℕ) → energy_at w ≡ energy_at l → ((j : ℕ) → j < jobs R → best_at w j ≡ best_at l j) → (o : Option (List ℕ)) → Bests R l o → Bests R w o
+  pub best_same : (l w : Tally) → energy_at w ≡ energy_at l → ((j : ℕ) → j < jobs R → best_at w j ≡ best_at l j) → (o : Option (List ℕ)) → Bests R l o → Bests R w o
   unfolding Bests
   best_same l w e h none b = e ∙ b
   best_same l w e h (some s) b = (e ∙ b.0, omega (arith, e, b.1), b.2, (λ j m. h j m ∙ b.3 j m), b.4)
 
   -- Where the visit would have ended, there is no best yet.
-  none_told : (l : List ℕ) (o : Option (List ℕ)) → o ≡ none → Bests R l o → energy_at l ≡ 4294967295
+  none_told : (l : Tally) (o : Option (List ℕ)) → o ≡ none → Bests R l o → energy_at l ≡ 4294967295
   unfolding Bests
   none_told l none e b = b
   none_told l (some s) e b = let z : ◌≡◌ {A = ℕ} 0 1 = cc in absurd (omega arith)
 
-  pub tells_none : (stop : Bool) (budget : ℕ) (l : List ℕ) (v : Vertex) (st : Visited) → Tells R stop budget l v st → stop ≡ true → energy_at l ≡ 4294967295
+  pub tells_none : (stop : Bool) (budget : ℕ) (l : Tally) (v : Vertex) (st : Visited) → Tells R stop budget l v st → stop ≡ true → energy_at l ≡ 4294967295
   tells_none stop budget l v st t e = none_told l st.best (t.going e) t.best
 
   module _ (stop : Bool) (budget : ℕ) where
     -- ---- one vertex more
 
-    pub tells_counted : (l : List ℕ) (v : Vertex) (st : Visited) → Tells R stop budget l v st → count_at l < budget → Tells R stop budget (set l 0 (count_at l + 1)) v (counted st)
-    tells_counted l v st t less =
+    pub tells_counted : (n : ℕ) (l : Tally) (v : Vertex) (st : Visited) → Tells R stop budget l v st → count_at l + n ≤ budget → Tells R stop budget (more_counted n l) v (more n st)
+    tells_counted n l v st t less =
         record {
-          long = rw length-set t.long;
-          stops = beside 34 (λ (e : 34 ≡ 0). omega (arith, e)) ∙ t.stops;
-          count = get_or-set_same l 0 (count_at l + 1) 0 (omega (arith, t.long)) ∙ omega (arith, t.count);
-          best = best_same l (set l 0 (count_at l + 1)) (beside 1 (λ (e : 1 ≡ 0). omega (arith, e))) (λ j b. beside (18 + j) (λ (e : 18 + j ≡ 0). omega (arith, e))) st.best t.best;
-          path = λ j b ne. beside (2 + j) (λ (e : 2 + j ≡ 0). omega (arith, e)) ∙ t.path j b ne;
+          long = t.long;
+          stops = t.stops;
+          count = ap (λ (c : ℕ). c + n) t.count;
+          best = best_same l (more_counted n l) refl (λ j b. refl) st.best t.best;
+          path = t.path;
           within = omega (arith, t.count, less);
           going = t.going;
         }
-      where
-        beside : (i : ℕ) → (i ≡ 0 → ⊥) → get_or (set l 0 (count_at l + 1)) i 0 ≡ get_or l i 0
-        beside i ne = get_or-set_other l 0 i (count_at l + 1) 0 ne
+
+    pub tells_one : (l : Tally) (v : Vertex) (st : Visited) → Tells R stop budget l v st → count_at l < budget → Tells R stop budget (more_counted 1 l) v (counted st)
+    tells_one l v st t less = subst (Tells R stop budget (more_counted 1 l) v) (ap (λ (c : ℕ). record { count = c; best = st.best }) (omega arith)) (tells_counted 1 l v st t (omega (arith, less)))
 
     -- ---- a job placed, and taken back
 
     module _ (v : Vertex) (j s : ℕ) (i : In j v.unplaced) where
-      pub tells_noted : (l : List ℕ) (st : Visited) → j < 16 → jobs R ≤ 16 → Tells R stop budget l v st → Tells R stop budget (set l (2 + j) s) (child R v j s) st
-      tells_noted l st few all t =
+      pub tells_noted : (l : Tally) (st : Visited) → j < 16 → Tells R stop budget l v st → Tells R stop budget (noted j s l) (child R v j s) st
+      tells_noted l st few t =
           record {
             long = rw length-set t.long;
-            stops = beside 34 (λ (e : 34 ≡ 2 + j). omega (arith, few, e)) ∙ t.stops;
-            count = beside 0 (λ (e : 0 ≡ 2 + j). omega (arith, e)) ∙ t.count;
-            best = best_same l (set l (2 + j) s) (beside 1 (λ (e : 1 ≡ 2 + j). omega (arith, e))) (λ k b. beside (18 + k) (λ (e : 18 + k ≡ 2 + j). omega (arith, few, e))) st.best t.best;
+            stops = t.stops;
+            count = t.count;
+            best = best_same l (noted j s l) refl (λ k b. refl) st.best t.best;
             path = path;
             within = t.within;
             going = t.going;
           }
         where
-          beside : (k : ℕ) → (k ≡ 2 + j → ⊥) → get_or (set l (2 + j) s) k 0 ≡ get_or l k 0
-          beside k ne = get_or-set_other l (2 + j) k s 0 ne
-
-          path : (k : ℕ) → k < jobs R → (In k (remove j v.unplaced) → ⊥) → start_at (set l (2 + j) s) k ≡ get_or (starts_of R (child R v j s)) k 0
+          path : (k : ℕ) → k < jobs R → (In k (remove j v.unplaced) → ⊥) → start_at (noted j s l) k ≡ get_or (starts_of R (child R v j s)) k 0
           path k b ne =
               elim (ℕ_discrete k j) [
                 | yes e ↦
                     rw (e, starts_child R v j s)
-                    (get_or-set_same l (2 + j) s 0 (omega (arith, few, t.long))
+                    (get_or-set_same l.placed j s 0 (omega (arith, few, t.long))
                     ∙ sym (get_or-set_same (starts_of R v) j s 0 (omega (arith, b, e, length_starts R v.placed))))
                 | no o ↦
                     rw (starts_child R v j s)
-                    (beside (2 + k) (λ (e : 2 + k ≡ 2 + j). o (omega (arith, e))) ∙ t.path k b (λ w. ne (remove_in j k v.unplaced w o))
+                    (get_or-set_other l.placed j k s 0 o ∙ t.path k b (λ w. ne (remove_in j k v.unplaced w o))
                     ∙ sym (get_or-set_other (starts_of R v) j k s 0 o))
               ]
 
-      tells_back : (l : List ℕ) (st : Visited) → Tells R stop budget l (child R v j s) st → Tells R stop budget l v st
+      tells_back : (l : Tally) (st : Visited) → Tells R stop budget l (child R v j s) st → Tells R stop budget l v st
       tells_back l st t =
           record {
             long = t.long;
@@ -100,14 +99,14 @@ module _ (R : Recorder) where
             going = t.going;
           }
 
-      pub came_back : (l : List ℕ) (st : Visited) (b : Bool) → Came R stop budget l (child R v j s) st b → Came R stop budget l v st b
+      pub came_back : (l : Tally) (st : Visited) (b : Bool) → Came R stop budget l (child R v j s) st b → Came R stop budget l v st b
       came_back l st false (done t) = done (tells_back l st t)
       came_back l st true (over m q n) = over m q n
       came_back l st true (ended m e q h) = ended m e q h
 
     -- ---- a complete vertex offered
 
-    module _ (v : Vertex) (h : Reached R 0 v) (valid : Valid R) (l w : List ℕ) (e : ℕ) (st : Visited) (e-is : e ≡ plan_energy R (starts_of R v)) (small : e < 4294967295) where
+    module _ (v : Vertex) (h : Reached R 0 v) (valid : Valid R) (l w : Tally) (e : ℕ) (st : Visited) (e-is : e ≡ plan_energy R (starts_of R v)) (small : e < 4294967295) where
       none_left : (k : ℕ) → In k v.unplaced → ⊥
       none_left k i = subst (In k) (length_nil v.unplaced h.size) i
 
@@ -141,11 +140,11 @@ module _ (R : Recorder) where
 
       -- All else is as it was.
       offered_path : Offered e l w → (j : ℕ) → j < 16 → start_at w j ≡ start_at l j
-      offered_path (kept more same) j b = ap (λ (x : List ℕ). start_at x j) same
+      offered_path (kept more same) j b = ap (λ (x : Tally). start_at x j) same
       offered_path (taken less c) j b = c.starts j b
 
-      offered_stops : Offered e l w → (length l ≡ 35 → length w ≡ 35) × (stop_at w ≡ stop_at l)
-      offered_stops (kept more same) = ((λ q. ap length same ∙ q), ap stop_at same)
+      offered_stops : Offered e l w → (Long l → Long w) × (stop_at w ≡ stop_at l)
+      offered_stops (kept more same) = ((λ q. ap (λ (x : Tally). length x.placed) same ∙ q), ap stop_at same)
       offered_stops (taken less c) = ((λ q. c.long), c.stops)
 
       tells_offered : Offered e l w → stop ≡ false → Tells R stop budget l v st → Tells R stop budget w v (entered R stop 0 v st)
@@ -178,31 +177,12 @@ module _ (R : Recorder) where
       pub came_offered : Offered e l w → (b : Bool) → b ≡ eqb (stop_at w) 1 → Tells R stop budget l v st → Came R stop budget w v (entered R stop 0 v st) b
       came_offered o b is t = came_cases b (sym (is ∙ stop_is stop refl ((offered_stops o).1 ∙ t.stops))) o t
 
-pub counted_less : (l x : List ℕ) → length l ≡ 35 → x ≡ set l 0 (count_at l + 1) → (length x ≡ 35) × (energy_at x ≡ energy_at l)
-counted_less l x h e = rw e (rw length-set h, get_or-set_other l 0 1 (count_at l + 1) 0 (λ (q : 1 ≡ 0). omega (arith, q)))
+pub counted_less : (l x : Tally) → Long l → x ≡ more_counted 1 l → Long x × (energy_at x ≡ energy_at l)
+counted_less l x h e = rw e (h, refl)
 
-pub noted_less : (l x : List ℕ) (j y : ℕ) → length l ≡ 35 → x ≡ set l (2 + j) y → (length x ≡ 35) × (energy_at x ≡ energy_at l)
-noted_less l x j y h e = rw e (rw length-set h, get_or-set_other l (2 + j) 1 y 0 (λ (q : 1 ≡ 2 + j). omega (arith, q)))
+pub noted_less : (l x : Tally) (j y : ℕ) → Long l → x ≡ noted j y l → Long x × (energy_at x ≡ energy_at l)
+noted_less l x j y h e = rw e (rw length-set h, refl)
 
-pub offered_less : (e : ℕ) (l w : List ℕ) → length l ≡ 35 → Offered e l w → (length w ≡ 35) × (energy_at w ≤ energy_at l)
-offered_less e l w h (kept more same) = (ap length same ∙ h, omega (arith, ap energy_at same))
+pub offered_less : (e : ℕ) (l w : Tally) → Long l → Offered e l w → Long w × (energy_at w ≤ energy_at l)
+offered_less e l w h (kept more same) = (ap (λ (x : Tally). length x.placed) same ∙ h, omega (arith, ap energy_at same))
 offered_less e l w h (taken less c) = (c.long, omega (arith, c.energy, less))
-
--- Nothing counted, and no best.
-pub begun :
-    (l : List ℕ) (x : ℕ) → length l ≡ 35 → let w = set (set (set l 0 0) 1 4294967295) 34 x in
-    (length w ≡ 35) × ((count_at w ≡ 0) × ((energy_at w ≡ 4294967295) × (stop_at w ≡ x)))
-begun l x h =
-    let a = set l 0 0 in
-    let b = set a 1 4294967295 in
-    let long-a : length a ≡ 35 = rw length-set h in
-    let long-b : length b ≡ 35 = rw length-set long-a in (
-      rw length-set long-b,
-      (
-        get_or-set_other b 34 0 x 0 (λ (q : 0 ≡ 34). omega (arith, q)) ∙ get_or-set_other a 1 0 4294967295 0 (λ (q : 0 ≡ 1). omega (arith, q)) ∙ get_or-set_same l 0 0 0 (omega (arith, h)),
-        (
-          get_or-set_other b 34 1 x 0 (λ (q : 1 ≡ 34). omega (arith, q)) ∙ get_or-set_same a 1 4294967295 0 (omega (arith, long-a)),
-          get_or-set_same b 34 x 0 (omega (arith, long-b)),
-        ),
-      ),
-    )

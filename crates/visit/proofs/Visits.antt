@@ -18,6 +18,7 @@ use Rattle.schedule.proofs.Tree.{Reached}
 use Rattle.keys.proofs.Rises.{energy_complete}
 use Rattle.vertex.proofs.Most.{floor_most}
 use Rattle.recall.specs.inside.Slack.{more}
+use Rattle.visit.specs.declared.tally.Tally.{Tally}
 use Rattle.visit.specs.inside.Lent.{energy_at, Bests}
 use Rattle.visit.specs.inside.Stops.{Open, visit_by, entered}
 use Rattle.visit.proofs.Stopping.{unless_going, visit_ended}
@@ -151,7 +152,7 @@ module _ (R : Recorder) (stop : Bool) where
     visit_beaten zero v st s o h e low = visit_complete v st o ∙ complete_beaten v st s h e low
     visit_beaten (suc m) v st s o h e low = visit_examine m v st o ∙ examine_beaten v _ st s e low
 
-    module _ (narrow : (k : ℕ) → k < R.devices.count → (device R k).pw ≤ 65535) (m : ℕ) (v : Vertex) (h : Reached R m v) (l : List ℕ) where
+    module _ (narrow : (k : ℕ) → k < R.devices.count → (device R k).pw ≤ 65535) (m : ℕ) (v : Vertex) (h : Reached R m v) (l : Tally) where
       -- Its floor is no less than the energy of the best, so that there is one.
       low_beaten :
           (st : Visited) (o : Option (List ℕ)) → Open stop st → st.best ≡ o → Bests R l o → floor R v ≤ 2147450880 → energy_at l ≤ floor R v
@@ -182,7 +183,7 @@ module _ (R : Recorder) (stop : Bool) where
   visit_entered zero v st o q b = visit_complete v st o ∙ complete_entered v st q
   visit_entered (suc m) v st o q b = visit_examine m v st o ∙ examine_entered m v st q b
 
-  pub cut_b_spared : (v : Vertex) (o : Option (List ℕ)) (l : List ℕ) → Bests R l o → floor R v < energy_at l → cut_b R v o ≡ false
+  pub cut_b_spared : (v : Vertex) (o : Option (List ℕ)) (l : Tally) → Bests R l o → floor R v < energy_at l → cut_b R v o ≡ false
   unfolding cut_b Bests
   cut_b_spared v none l b h = refl
   cut_b_spared v (some s) l b h = lt-leb (plan_energy R s) (floor R v) (omega (arith, b.0))

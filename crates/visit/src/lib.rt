@@ -10,12 +10,13 @@ ghost use Rattle.visit.specs.inside.Stops.{visited_by};
 ghost use Rattle.visit.specs.inside.Lent.{best_at, count_in, Finds, KeptWithin};
 
 use crate::stages::laid_visit;
-use crate::tally::{BEST, COUNT, ENERGY, NONE, Tally};
+use crate::tally::{NONE, Tally};
 use base::Reason;
 use flat::flat_of;
 use schedule::Recorder;
 
 mod cuts; // cuts.rt: from which start on all children are dropped
+mod place; // place.rt: what the search reads, a vertex, and a child of it
 mod stages; // stages.rt: the whole visit, with a table and a memory
 mod tally; // tally.rt: the count, the best so far and the starts of the placed jobs
 mod walk; // walk.rt: the visit of a vertex and of all below it
@@ -39,10 +40,8 @@ fn write_starts(tally: &Tally, n: usize, out: &mut [u16])
     requires { (n ≤ 16) × ((n ≤ length out.old) × ((j : ℕ) → j < n → best_at tally.now j < 65536)) }
     ensures { out.new ≡ up_to (best_at tally.now) n ++ drop n out.old }
 {
-    let mut j = 0;
-    while j < n {
-        out[j] = (tally[BEST + j] % 65536) as u16;
-        j += 1;
+    for j in 0..n {
+        out[j] = (tally.best[j] % 65536) as u16;
     }
 }
 
@@ -70,23 +69,22 @@ fn found_by(
         });
     }
     let flat = flat_of(r);
-    let mut tally = [0u32; 35];
-    if laid_visit(&flat, extras, memory, own, &mut tally, stop, budget) {
+    let Ok(tally) = laid_visit(&flat, extras, memory, own, stop, budget) else {
         return Err(Unfound {
             reason: Reason::Budget,
             count: budget,
         });
-    }
-    if tally[ENERGY] == NONE {
+    };
+    if tally.energy == NONE {
         return Err(Unfound {
             reason: Reason::NoSchedule,
-            count: tally[COUNT],
+            count: tally.count,
         });
     }
     write_starts(&tally, n, out);
     Ok(Found {
-        energy: tally[ENERGY],
-        count: tally[COUNT],
+        energy: tally.energy,
+        count: tally.count,
     })
 }
 

@@ -1,98 +1,98 @@
-// The lent tally: the vertices counted, the best so far, the starts of the jobs that are placed, and where the visit stops.
-ghost use Rattle.std.specs.Prelude.{◌≡◌, true, cond, ◌+◌, ◌<◌, ◌≤◌, eqb, set, length};
-ghost use Rattle.visit.specs.inside.Lent.{count_at, energy_at, stop_at, Added, Over};
+// What a visit has come to, and the starts on its way.
+ghost use Rattle.std.specs.Prelude.{◌≡◌, true, cond, ◌+◌, ◌<◌, ◌≤◌, eqb, is_err};
+ghost use Rattle.visit.specs.inside.Lent.{begun, Long, more_counted, noted, stop_at, Added, Over};
 ghost use Rattle.visit.specs.inside.Offers.{Offered};
 
-pub type Tally = [u32; 35];
+// That a visit goes no further: the budget is used up, or what it stops at is found.
+#[derive(Clone, Copy, PartialEq, Eq)]
+pub struct Stopped;
 
-// The vertices counted, and the energy of the best.
-pub const COUNT: usize = 0;
+// The vertices counted, the energy of the best so far, the starts of the jobs that are placed and those of the best, by job number, and whether the visit ends at the
+// first complete vertex.
+#[derive(Drop)]
+pub struct Tally {
+    pub count: u32,
+    pub energy: u32,
+    pub placed: [u32; 16],
+    pub best: [u32; 16],
+    pub stop: bool,
+}
 
-pub const ENERGY: usize = 1;
-
-// From here on the starts of the placed jobs, and those of the best, by job number.
-const PLACED: usize = 2;
-
-pub const BEST: usize = 18;
-
-// Whether the visit ends at the first complete vertex: 1 where it does.
-const STOP: usize = 34;
-
-// The energy where there is no best: more than any.
+// The energy where there is no best: more than any, so that one comparison tells whether another is below it. (An option would have to become this number at each.)
 pub const NONE: u32 = 4294967295;
 
 // Nothing is counted, and there is no best.
-pub fn begin(tally: &mut Tally, stop: bool)
-    requires { length tally.old ≡ 35 }
-    ensures { (length tally.new ≡ 35) × ((count_at tally.new ≡ 0) × ((energy_at tally.new ≡ 4294967295) × (stop_at tally.new ≡ cond stop 1 0))) }
+pub fn begin(stop: bool) -> Tally
+    ensures { result ≡ begun stop }
 {
-    tally[COUNT] = 0;
-    tally[ENERGY] = NONE;
-    tally[STOP] = if stop { 1 } else { 0 };
+    Tally {
+        count: 0,
+        energy: NONE,
+        placed: [0; 16],
+        best: [0; 16],
+        stop,
+    }
 }
 
 // One vertex more.
 pub fn count_one(tally: &mut Tally)
-    requires { (length tally.old ≡ 35) × (count_at tally.old < 4294967295) }
-    ensures { tally.new ≡ set tally.old 0 (count_at tally.old + 1) }
+    requires { tally.old.count < 4294967295 }
+    ensures { tally.new ≡ more_counted 1 tally.old }
 {
-    tally[COUNT] += 1;
+    tally.count += 1;
 }
 
-// So many vertices more, if the budget has them. Answers whether it has not.
-pub fn add_count(tally: &mut Tally, budget: u32, n: u32) -> bool
-    requires { (length tally.old ≡ 35) × (count_at tally.old ≤ budget) }
-    ensures { Added budget n tally.old tally.new result }
+// So many vertices more, if the budget has them.
+pub fn add_count(tally: &mut Tally, budget: u32, n: u32) -> Result<(), Stopped>
+    requires { tally.old.count ≤ budget }
+    ensures { Added budget n tally.old tally.new (is_err result) }
 {
-    if budget - tally[COUNT] < n {
-        return true;
+    if budget - tally.count < n {
+        return Err(Stopped);
     }
-    tally[COUNT] += n;
-    false
+    tally.count += n;
+    Ok(())
 }
 
 // Job j starts at s.
 pub fn note(tally: &mut Tally, j: usize, s: u32)
-    requires { (length tally.old ≡ 35) × (j < 16) }
-    ensures { tally.new ≡ set tally.old (2 + j) s }
+    requires { j < 16 }
+    ensures { tally.new ≡ noted j s tally.old }
 {
-    tally[PLACED + j] = s;
+    tally.placed[j] = s;
 }
 
 // A complete vertex of energy e, whose starts stand in the tally, takes the place of the best, unless that has no more energy (rules 44 and 47).
 pub fn offer(tally: &mut Tally, e: u32)
-    requires { length tally.old ≡ 35 }
+    requires { Long tally.old }
     ensures { Offered e tally.old tally.new }
 {
-    if tally[ENERGY] <= e {
+    if tally.energy <= e {
         return;
     }
-    let mut j: usize = 0;
-    while j < 16 {
-        tally[BEST + j] = tally[PLACED + j];
-        j += 1;
-    }
-    tally[ENERGY] = e;
+    tally.best = tally.placed;
+    tally.energy = e;
 }
 
-// Whether the visit ends at a complete vertex.
-pub fn stops(tally: &Tally) -> bool
-    requires { length tally.now ≡ 35 }
-    ensures { result ≡ eqb (stop_at tally.now) 1 }
+// Goes on after a complete vertex, unless the visit ends at one.
+pub fn go_on(tally: &Tally) -> Result<(), Stopped>
+    ensures { is_err result ≡ eqb (stop_at tally.now) 1 }
 {
-    tally[STOP] == 1
+    if tally.stop { Err(Stopped) } else { Ok(()) }
 }
 
 // Whether it is for the budget that a visit went no further, and not for what it found.
-pub fn is_over(tally: &Tally, ended: bool) -> bool
-    requires { length tally.now ≡ 35 }
-    ensures { Over tally.now ended result }
+pub fn is_over(tally: &Tally, ended: Result<(), Stopped>) -> bool
+    ensures { Over tally.now (is_err ended) result }
 {
-    if !ended {
-        return false;
+    match ended {
+        Ok(()) => false,
+        Err(Stopped) => {
+            if tally.stop {
+                tally.energy == NONE
+            } else {
+                true
+            }
+        }
     }
-    if tally[STOP] == 1 {
-        return tally[ENERGY] == NONE;
-    }
-    true
 }

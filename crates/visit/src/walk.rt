@@ -1,6 +1,6 @@
 // The visit, depth first (rules 40 to 48): a visit calls a loop over choices, which calls the visit of each child that is not dropped at once with all later starts of
 // its job, nor counted by what is remembered. The parent is lent for reading, and a child is made only where no cut drops it and jobs are left to place.
-ghost use Rattle.std.specs.Prelude.{◌≡◌, Bool, true, false, cond, ◌^◌, ◌<◌, length};
+ghost use Rattle.std.specs.Prelude.{◌≡◌, Bool, true, false, cond, ◌^◌, ◌<◌, is_err};
 ghost use Rattle.schedule.specs.Quantities.{jobs};
 ghost use Rattle.schedule.specs.Visiting as order;
 ghost use Rattle.flat.specs.inside.Flat.{recorder_of};
@@ -9,10 +9,11 @@ ghost use Rattle.extras.specs.inside.Tabled.{cap_at};
 ghost use Rattle.vertex.specs.inside.Lasts.{TwoLeast};
 ghost use Rattle.recall.specs.inside.Asks.{Asks};
 ghost use Rattle.visit.specs.inside.Stops.{visited_by};
-ghost use Rattle.visit.specs.inside.Lent.{Leaves, StandsAt, VisitCame, EnterCame, ChoicesCame, StartsCame, count_at, energy_at, stop_at, slack_by, Lends, Came, Tries, Enters, Some};
+ghost use Rattle.visit.specs.inside.Lent.{Long, Leaves, StandsAt, VisitCame, EnterCame, ChoicesCame, StartsCame, count_at, energy_at, stop_at, slack_by, Lends, Came, Tries, Enters, Some};
 
 use crate::cuts::{cut_at, drops, first_cut};
-use crate::tally::{COUNT, ENERGY, NONE, Tally, add_count, count_one, note, offer, stops};
+use crate::place::{Child, Place, Search};
+use crate::tally::{NONE, Stopped, Tally, add_count, count_one, go_on, note, offer};
 use base::JobNumber;
 use flat::{Flat, horizon_of, job_count, release_of, run_of};
 use latest::all_jobs;
@@ -36,40 +37,13 @@ fn slack_of(best: u32, floor: u32) -> u32
 }
 
 // Whether a count may be remembered: it was not cut short, and the best is as it was.
-fn is_whole(short: bool, best: u32, after: u32) -> bool
-    ensures { result ≡ true → (short ≡ false) × (after ≡ best) }
+fn is_whole(ended: Result<(), Stopped>, best: u32, after: u32) -> bool
+    ensures { result ≡ true → (is_err ended ≡ false) × (after ≡ best) }
 {
-    !short && best == after
+    ended.is_ok() && best == after
 }
 
-// What the search reads: the recorder, the table of extras, and how many vertices it may count.
-#[derive(Clone, Copy)]
-struct Search<'a> {
-    r: &'a Flat,
-    extras: &'a [u32],
-    budget: u32,
-}
-
-// A vertex: what shows it, the set of its unplaced jobs, its floor and its time.
-#[derive(Clone, Copy)]
-struct Place<'a> {
-    v: &'a Cells,
-    set: usize,
-    from: u32,
-    time: u32,
-}
-
-// A child of it: the job that it places, the bit of that job in a set, its start, and the child's floor.
-#[derive(Clone, Copy)]
-struct Child {
-    j: JobNumber,
-    p: usize,
-    s: u32,
-    floor: u32,
-}
-
-// The child of a place that places job j at s, and all below it. From the start `cut` on it is dropped. Answers whether the visit goes no further: the budget is used up,
-// or what it stops at is found.
+// The child of a place that places job j at s, and all below it. From the start `cut` on it is dropped.
 #[cycle(below_choices_enter_learn_tries_visit)]
 fn visit(
     search: &Search,
@@ -78,20 +52,20 @@ fn visit(
     place: &Place,
     child: Child,
     cut: u32,
-) -> bool
+) -> Result<(), Stopped>
     requires { Lends (recorder_of search.now.r.now) search.now.extras.now memory.old × ((child.p ≡ 2 ^ child.j.0) × Some (recorder_of search.now.r.now) search.now.budget tally.old (Tries (recorder_of search.now.r.now) place.now.v.now (energy_at tally.old) place.now.set place.now.from cut child.floor child.j.0 child.s)) }
     ensures kept { Leaves (recorder_of search.now.r.now) search.now.extras.now memory.new tally.old tally.new }
-    ensures came { VisitCame (recorder_of search.now.r.now) search.now.budget place.now.v.now tally.old tally.new result place.now.set place.now.from cut child.floor child.j.0 child.s }
+    ensures came { VisitCame (recorder_of search.now.r.now) search.now.budget place.now.v.now tally.old tally.new (is_err result) place.now.set place.now.from cut child.floor child.j.0 child.s }
 {
-    if tally[COUNT] == search.budget {
-        return true;
+    if tally.count == search.budget {
+        return Err(Stopped);
     }
     count_one(tally);
     if cut <= child.s {
-        return false;
+        return Ok(());
     }
-    if tally[ENERGY] <= child.floor {
-        return false;
+    if tally.energy <= child.floor {
+        return Ok(());
     }
     enter(search, memory, tally, place, child, place.set - child.p)
 }
@@ -105,10 +79,10 @@ fn enter(
     place: &Place,
     child: Child,
     left: usize,
-) -> bool
+) -> Result<(), Stopped>
     requires { Lends (recorder_of search.now.r.now) search.now.extras.now memory.old × ((child.floor < energy_at tally.old) × Some (recorder_of search.now.r.now) search.now.budget tally.old (Enters (recorder_of search.now.r.now) place.now.v.now left child.floor child.j.0 child.s)) }
     ensures kept { Leaves (recorder_of search.now.r.now) search.now.extras.now memory.new tally.old tally.new }
-    ensures came { EnterCame (recorder_of search.now.r.now) search.now.budget place.now.v.now tally.old tally.new result left child.floor child.j.0 child.s }
+    ensures came { EnterCame (recorder_of search.now.r.now) search.now.budget place.now.v.now tally.old tally.new (is_err result) left child.floor child.j.0 child.s }
 {
     let j = child.j.0;
     let s = child.s;
@@ -116,7 +90,7 @@ fn enter(
     if left == 0 {
         let e = child.floor + end_of(search.r, search.extras, place.v, j, s);
         offer(tally, e);
-        return stops(tally);
+        return go_on(tally);
     }
     let mut w = *place.v;
     place_job(search.r, &mut w, j, s);
@@ -132,15 +106,20 @@ fn enter(
 
 // The children of a vertex that is not complete: what is remembered of them, or each of them examined.
 #[cycle(below_choices_enter_learn_tries_visit)]
-fn below(search: &Search, memory: &mut [u64], tally: &mut Tally, place: &Place) -> bool
+fn below(
+    search: &Search,
+    memory: &mut [u64],
+    tally: &mut Tally,
+    place: &Place,
+) -> Result<(), Stopped>
     requires { Lends (recorder_of search.now.r.now) search.now.extras.now memory.old × ((place.now.from < energy_at tally.old) × Some (recorder_of search.now.r.now) search.now.budget tally.old (StandsAt (recorder_of search.now.r.now) place.now.v.now place.now.set place.now.from place.now.time)) }
     ensures kept { Leaves (recorder_of search.now.r.now) search.now.extras.now memory.new tally.old tally.new }
-    ensures came { ChoicesCame (recorder_of search.now.r.now) search.now.budget place.now.v.now tally.old tally.new result place.now.set place.now.from place.now.time }
+    ensures came { ChoicesCame (recorder_of search.now.r.now) search.now.budget place.now.v.now tally.old tally.new (is_err result) place.now.set place.now.from place.now.time }
 {
     if !is_many(place.set, memory.len()) {
         return choices(search, memory, tally, place);
     }
-    let slack = slack_of(tally[ENERGY], place.from);
+    let slack = slack_of(tally.energy, place.from);
     let asked = ask(
         search.r,
         search.extras,
@@ -164,26 +143,31 @@ fn learn(
     tally: &mut Tally,
     place: &Place,
     asked: Asked,
-) -> bool
+) -> Result<(), Stopped>
     requires { Lends (recorder_of search.now.r.now) search.now.extras.now memory.old × ((place.now.from < energy_at tally.old) × (Asks (recorder_of search.now.r.now) (cap_at search.now.extras.now) place.now.v.now place.now.set place.now.time (slack_by (energy_at tally.old) place.now.from) asked × Some (recorder_of search.now.r.now) search.now.budget tally.old (StandsAt (recorder_of search.now.r.now) place.now.v.now place.now.set place.now.from place.now.time))) }
     ensures kept { Leaves (recorder_of search.now.r.now) search.now.extras.now memory.new tally.old tally.new }
-    ensures came { ChoicesCame (recorder_of search.now.r.now) search.now.budget place.now.v.now tally.old tally.new result place.now.set place.now.from place.now.time }
+    ensures came { ChoicesCame (recorder_of search.now.r.now) search.now.budget place.now.v.now tally.old tally.new (is_err result) place.now.set place.now.from place.now.time }
 {
-    let before = tally[COUNT];
-    let best = tally[ENERGY];
-    let short = choices(search, memory, tally, place);
-    if is_whole(short, best, tally[ENERGY]) {
-        keep(memory, asked.slot, asked.key, tally[COUNT] - before);
+    let before = tally.count;
+    let best = tally.energy;
+    let ended = choices(search, memory, tally, place);
+    if is_whole(ended, best, tally.energy) {
+        keep(memory, asked.slot, asked.key, tally.count - before);
     }
-    short
+    ended
 }
 
 // Each unplaced job in turn.
 #[cycle(below_choices_enter_learn_tries_visit)]
-fn choices(search: &Search, memory: &mut [u64], tally: &mut Tally, place: &Place) -> bool
+fn choices(
+    search: &Search,
+    memory: &mut [u64],
+    tally: &mut Tally,
+    place: &Place,
+) -> Result<(), Stopped>
     requires { Lends (recorder_of search.now.r.now) search.now.extras.now memory.old × Some (recorder_of search.now.r.now) search.now.budget tally.old (StandsAt (recorder_of search.now.r.now) place.now.v.now place.now.set place.now.from place.now.time) }
     ensures kept { Leaves (recorder_of search.now.r.now) search.now.extras.now memory.new tally.old tally.new }
-    ensures came { ChoicesCame (recorder_of search.now.r.now) search.now.budget place.now.v.now tally.old tally.new result place.now.set place.now.from place.now.time }
+    ensures came { ChoicesCame (recorder_of search.now.r.now) search.now.budget place.now.v.now tally.old tally.new (is_err result) place.now.set place.now.from place.now.time }
 {
     let n = job_count(search.r);
     let dues = dues_in(search.r, search.extras, place.set);
@@ -191,14 +175,12 @@ fn choices(search: &Search, memory: &mut [u64], tally: &mut Tally, place: &Place
     let mut p: usize = 1;
     for j in 0..n {
         if rest % 2 == 1 {
-            if tries(search, memory, tally, place, dues, JobNumber(j), p) {
-                return true;
-            }
+            tries(search, memory, tally, place, dues, JobNumber(j), p)?;
         }
         rest = rest / 2;
         p = p * 2;
     }
-    false
+    Ok(())
 }
 
 // Each start of the unplaced job j in turn.
@@ -211,33 +193,21 @@ fn tries(
     dues: Dues,
     j: JobNumber,
     p: usize,
-) -> bool
+) -> Result<(), Stopped>
     requires { Lends (recorder_of search.now.r.now) search.now.extras.now memory.old × ((j.0 < jobs (recorder_of search.now.r.now)) × ((has place.now.set j.0 ≡ true) × ((p ≡ 2 ^ j.0) × (TwoLeast (recorder_of search.now.r.now) place.now.set (jobs (recorder_of search.now.r.now)) dues × Some (recorder_of search.now.r.now) search.now.budget tally.old (StandsAt (recorder_of search.now.r.now) place.now.v.now place.now.set place.now.from place.now.time))))) }
     ensures kept { Leaves (recorder_of search.now.r.now) search.now.extras.now memory.new tally.old tally.new }
-    ensures came { StartsCame (recorder_of search.now.r.now) search.now.budget place.now.v.now tally.old tally.new result place.now.set place.now.from place.now.time j.0 }
+    ensures came { StartsCame (recorder_of search.now.r.now) search.now.budget place.now.v.now tally.old tally.new (is_err result) place.now.set place.now.from place.now.time j.0 }
 {
-    let mut cut = first_cut(search.r, place.v, dues, j);
+    let mut cut = first_cut(search, place, dues, j);
     let mut s = place.time.max(u32::from(release_of(search.r, j.0)));
     while s < cut {
         let floor = place.from + lead_of(search.r, search.extras, place.v, j.0, s);
-        cut = cut_at(
-            search.r,
-            search.extras,
-            place.v,
-            tally[ENERGY],
-            place.from,
-            floor,
-            cut,
-            j.0,
-            s,
-        );
         let child = Child { j, p, s, floor };
-        if visit(search, memory, tally, place, child, cut) {
-            return true;
-        }
+        cut = cut_at(search, place, tally.energy, child, cut);
+        visit(search, memory, tally, place, child, cut)?;
         s += 1;
     }
-    drops(search.r, tally, search.budget, j, s)
+    drops(search, tally, j, s)
 }
 
 // The root and all below it.
@@ -247,24 +217,24 @@ pub fn root_visit(
     memory: &mut [u64],
     tally: &mut Tally,
     budget: u32,
-) -> bool
-    requires { Lends (recorder_of r.now) extras.now memory.old × ((length tally.old ≡ 35) × ((count_at tally.old ≡ 0) × ((energy_at tally.old ≡ 4294967295) × ((stop : Bool) × (stop_at tally.old ≡ cond stop 1 0))))) }
-    ensures { (length tally.new ≡ 35) × ((stop : Bool) → stop_at tally.old ≡ cond stop 1 0 → Came (recorder_of r.now) stop budget tally.new (order.root (recorder_of r.now)) (visited_by (recorder_of r.now) stop) result) }
+) -> Result<(), Stopped>
+    requires { Lends (recorder_of r.now) extras.now memory.old × ((Long tally.old) × ((count_at tally.old ≡ 0) × ((energy_at tally.old ≡ 4294967295) × ((stop : Bool) × (stop_at tally.old ≡ cond stop 1 0))))) }
+    ensures { (Long tally.new) × ((stop : Bool) → stop_at tally.old ≡ cond stop 1 0 → Came (recorder_of r.now) stop budget tally.new (order.root (recorder_of r.now)) (visited_by (recorder_of r.now) stop) (is_err result)) }
 {
     if budget == 0 {
-        return true;
+        return Err(Stopped);
     }
     count_one(tally);
     let v = root_of(r);
     if u32::from(horizon_of(r)) < v[LOAD] {
-        return false;
+        return Ok(());
     }
     let floor = root_floor(r, extras, &v);
     let n = job_count(r);
     if n == 0 {
         let e = floor + close_of(r, extras, &v);
         offer(tally, e);
-        return stops(tally);
+        return go_on(tally);
     }
     let search = Search { r, extras, budget };
     let root = Place {

@@ -7,4 +7,4 @@ pub returns-then-res-lt-RESULT : goal.returns-then-res-lt-RESULT
 returns-then-res-lt-RESULT c = cramped_call _ _ tt (λ R a u. CheckOf R a) c.if-res-lt-RESULT.true c.cramped.ensures
 
 pub returns : goal.returns
-returns c = let told = c.tell.ensures in rw (told.0, told.1) (roomy_call _ _ tt (λ R a u. CheckOf R a) c.if-res-lt-RESULT.false c.check.ensures)
+returns c = let told = c.tell.ensures in rw (told.0, told.1, c.told.ensures) (roomy_call _ _ tt (λ R a u. CheckOf R a) c.if-res-lt-RESULT.false c.check.ensures)

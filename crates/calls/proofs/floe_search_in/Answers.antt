@@ -21,4 +21,4 @@ returns c =
     let s = c.args in
     let told = c.tell.ensures in
     let w = roomy_call_in Many _ _ _ s.starts.now (StartsOf (SearchOf s.budget) s.starts.now) c.if-res-lt-RESULT.false c.search_bytes.ensures.planned c.search_bytes.ensures.lent in
-    rw (told.0, told.1) (record { called = called_of w; lent = w })
+    rw (told.0, told.1, c.told.ensures) (record { called = called_of w; lent = w })

@@ -2,7 +2,7 @@
 use mathlib.Core.Path.{subst}
 use native.Mathlib.Omega.{arith}
 use Rattle.tables.specs.declared.Tables.{Tables}
-use Rattle.faults.specs.Places.{TablesFault}
+use Rattle.faults.specs.Places.{judged, TablesFault}
 use Rattle.calls_fault.specs.FaultCall.{shut, answered}
 use Rattle.calls_fault.proofs.door_fault.Goals as goal
 use Rattle.calls_fault.proofs.door_fault.Goals.{then-res-lt-PLACE-via-then-res-lt-PLACE, then-res-lt-PLACE-via-else-res-lt-PLACE+then-not-is_tables}
@@ -22,4 +22,4 @@ returns c =
     let found = c.fault_of_tables in
     rw (it.0, it.1)
     (answered (c.is_tables.ensures.0 c.if-not-is_tables.false) c.if-res-lt-PLACE.false
-    (subst (λ (T : Tables). TablesFault T found.result) c.tables_from.ensures found.ensures))
+    (subst (λ (T : Tables). TablesFault T (judged found.result)) c.tables_from.ensures found.ensures))

@@ -2,6 +2,7 @@
 use mathlib.Core.Path.{refl, sym}
 use native.Mathlib.Omega.{arith}
 use lib.Seq.{length-take-le}
+use Rattle.faults.specs.Places.{judged}
 use Rattle.calls_fault.proofs.Telling.{place_told}
 use Rattle.calls_fault.proofs.tell_place.Goals as goal
 
@@ -10,7 +11,6 @@ slice_bounds-put-end-2 c = sym (length-take-le 1 c.args.res.now (omega arith))
 
 pub returns : goal.returns
 returns c = (
-  refl,
-  place_told c.args.fault c.args.res.now _ _ _ _ _ _ c.requires c.code_of-code.ensures c.record_of-record.ensures
-      c.put.ensures c.put-2.ensures c.put-3.ensures c.put-4.ensures,
+  c.number_of.ensures,
+  place_told (judged c.args.fault) c.args.res.now _ _ _ _ _ c.requires c.parts_of.ensures c.put.ensures c.put-2.ensures c.put-3.ensures c.put-4.ensures,
 )

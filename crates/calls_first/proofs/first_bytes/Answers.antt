@@ -1,64 +1,42 @@
 -- `calls_first::first_bytes` meets its contract.
-use mathlib.Core.Path.{sym}
+use mathlib.Core.Path.{refl, sym}
 use native.Mathlib.Omega.{arith}
-use Prim.Native.Nat.{◌≤◌}
-use lib.ListN.{length}
 use lib.Seq.{length-take-le}
 use Rattle.schedule.specs.Quantities.{jobs}
-use Rattle.request.proofs.Accepted.{read_accepted, read_refused, accepted_valid}
+use Rattle.std.proofs.lemmas.Result.{err_from_is_err_and}
+use Rattle.request.proofs.Accepted.{accepted_valid}
 use Rattle.planner.specs.Promises as P
-use Rattle.planner.specs.Promises.{Reads}
-use Rattle.calls.proofs.Crossing.{starts_short, starts_kept, starts_given}
+use Rattle.calls.proofs.Crossing.{own, few_sixteen, starts_unroomed, starts_refused, starts_given}
+use Rattle.first.specs.Promises.{FirstOf}
 use Rattle.calls_first.proofs.Crossing.{first_alike}
 use Rattle.calls_first.proofs.first_bytes.Goals as goal
 
-pub returns-then-request-ne0 : goal.returns-then-request-ne0
-returns-then-request-ne0 c = rw c.refusal.ensures (P.OfFile.refused (read_refused _ _ c.read-request.ensures c.if-request-ne0.true))
+pub returns-in_err-recorder : goal.returns-in_err-recorder
+returns-in_err-recorder c =
+    let p = err_from_is_err_and c.from_residual.result c.from_residual.ensures.1 in
+    rw (p.1, p.2) (starts_unroomed (FirstOf) (λ R own h. P.stops h) c.in_err-recorder.ensures)
 
-pub overflow_mul-jobs : goal.overflow_mul-jobs
-overflow_mul-jobs c =
-    let recorded : Reads c.args.file.now c.read-request.result.recorder = read_accepted _ _ c.read-request.ensures c.if-request-ne0.false in
-    let few : jobs c.read-request.result.recorder ≤ 16 = (accepted_valid _ _ recorded).few_jobs in
-    omega (arith, few)
+pub first_of-requires : goal.first_of-requires
+first_of-requires c = accepted_valid _ _ c.in_ok-recorder.ensures.0
 
-pub returns-then-bytes-jobs : goal.returns-then-bytes-jobs
-returns-then-bytes-jobs c =
-    let recorded : Reads c.args.file.now c.read-request.result.recorder = read_accepted _ _ c.read-request.ensures c.if-request-ne0.false in
-    rw c.refusal-then-bytes-jobs.ensures (P.OfFile.read recorded (starts_short _ _ _ c.if-bytes-jobs.true (λ h. P.stops h)))
-
-pub first_of-found-requires : goal.first_of-found-requires
-first_of-found-requires c =
-    let recorded : Reads c.args.file.now c.read-request.result.recorder = read_accepted _ _ c.read-request.ensures c.if-request-ne0.false in
-    accepted_valid _ _ recorded
+pub returns-in_err-found : goal.returns-in_err-found
+returns-in_err-found c =
+    let p = err_from_is_err_and c.from_residual-in_err-found.result c.from_residual-in_err-found.ensures.1 in
+    let r = c.in_ok-recorder.ensures in
+    rw (p.1, p.2) (P.OfFile.read r.0 (starts_refused _ _ _ (first_alike _) r.1 own (few_sixteen _ _ r.0) c.in_err-found.field-0.0 c.in_err-found.ensures))
 
 pub slice_bounds-own-end : goal.slice_bounds-own-end
-slice_bounds-own-end c =
-    let recorded : Reads c.args.file.now c.read-request.result.recorder = read_accepted _ _ c.read-request.ensures c.if-request-ne0.false in
-    let few : jobs c.read-request.result.recorder ≤ 16 = (accepted_valid _ _ recorded).few_jobs in
-    omega (arith, few, c.first_of-found.auto)
+slice_bounds-own-end c = omega (arith, few_sixteen _ _ c.in_ok-recorder.ensures.0, c.first_of.auto)
 
 pub slice_bounds-put_starts-end : goal.slice_bounds-put_starts-end
-slice_bounds-put_starts-end c =
-    let recorded : Reads c.args.file.now c.read-request.result.recorder = read_accepted _ _ c.read-request.ensures c.if-request-ne0.false in
-    let few : jobs c.read-request.result.recorder ≤ 16 = (accepted_valid _ _ recorded).few_jobs in
-    sym (length-take-le _ _ (omega (arith, few, c.first_of-found.auto)))
+slice_bounds-put_starts-end c = sym (length-take-le _ _ (omega (arith, few_sixteen _ _ c.in_ok-recorder.ensures.0, c.first_of.auto)))
 
 pub put_starts-requires : goal.put_starts-requires
 put_starts-requires c =
-    let recorded : Reads c.args.file.now c.read-request.result.recorder = read_accepted _ _ c.read-request.ensures c.if-request-ne0.false in
-    let few : jobs c.read-request.result.recorder ≤ 16 = (accepted_valid _ _ recorded).few_jobs in
-    rw (length-take-le (jobs c.read-request.result.recorder) c.first_of-found.new.starts (omega (arith, few, c.first_of-found.auto))) c.if-bytes-jobs.false
+    let r = c.in_ok-recorder.ensures in
+    rw (length-take-le (jobs c.in_ok-recorder.recorder) c.first_of.new.starts (omega (arith, few_sixteen _ _ r.0, c.first_of.auto))) r.1
 
-pub returns-then-found-eq0 : goal.returns-then-found-eq0
-returns-then-found-eq0 c =
-    let recorded : Reads c.args.file.now c.read-request.result.recorder = read_accepted _ _ c.read-request.ensures c.if-request-ne0.false in
-    let few : jobs c.read-request.result.recorder ≤ 16 = (accepted_valid _ _ recorded).few_jobs in
-    let room : jobs c.read-request.result.recorder ≤ length c.first_of-found.new.starts = omega (arith, few, c.first_of-found.auto) in
-    rw (c.put_starts.ensures, length-take-le _ _ room)
-    (P.OfFile.read recorded (starts_given _ _ _ (first_alike _) c.if-bytes-jobs.false _ (omega (arith, few)) c.if-found-eq0.true c.first_of-found.ensures))
-
-pub returns-else-found-eq0 : goal.returns-else-found-eq0
-returns-else-found-eq0 c =
-    let recorded : Reads c.args.file.now c.read-request.result.recorder = read_accepted _ _ c.read-request.ensures c.if-request-ne0.false in
-    let few : jobs c.read-request.result.recorder ≤ 16 = (accepted_valid _ _ recorded).few_jobs in
-    P.OfFile.read recorded (starts_kept _ _ _ (first_alike _) c.if-bytes-jobs.false _ (omega (arith, few)) c.if-found-eq0.false c.first_of-found.ensures)
+pub returns : goal.returns
+returns c =
+    let r = c.in_ok-recorder.ensures in
+    rw (c.put_starts.ensures, length-take-le (jobs c.in_ok-recorder.recorder) c.first_of.new.starts (omega (arith, few_sixteen _ _ r.0, c.first_of.auto))) (P.OfFile.read r.0 (starts_given _ _ _ (first_alike _) r.1 own (few_sixteen _ _ r.0) refl c.in_ok-found.ensures))

@@ -16,4 +16,4 @@ returns c =
     let s = c.args in
     let told = c.tell.ensures in
     let w = roomy_call_in Sought _ _ _ s.starts.now (StartsOf (CountedLeastOf s.budget) s.starts.now) c.if-res-lt-RESULT.false c.least_bytes.ensures.planned c.least_bytes.ensures.lent in
-    rw (told.0, told.1) (record { called = less_called _ _ _ _ w; lent = w })
+    rw (told.0, told.1, c.told.ensures) (record { called = less_called _ _ _ _ w; lent = w })

@@ -2,4 +2,4 @@
 use Rattle.cheapest.proofs.give.Goals as goal
 
 pub returns : goal.returns
-returns c = (rw c.plan_energy-energy.ensures at c.success.ensures, c.copy.ensures)
+returns c = (rw c.plan_energy.ensures, c.copy.ensures)

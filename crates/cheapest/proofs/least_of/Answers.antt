@@ -10,7 +10,7 @@ use Rattle.cheapest.proofs.Weaker.{weakened}
 use Rattle.cheapest.proofs.least_of.Goals as goal
 
 pub returns-then-starts-n : goal.returns-then-starts-n
-returns-then-starts-n c = rw c.refusal.ensures (record { planned = stops c.if-starts-n.true; counted = stops c.if-starts-n.true; lent = λ unsought. refl })
+returns-then-starts-n c = rw c.from.ensures (record { planned = stops c.if-starts-n.true; counted = stops c.if-starts-n.true; lent = λ unsought. refl })
 
 pub lay_latest-requires : goal.lay_latest-requires
 lay_latest-requires c = (subst Valid (sym c.flat_of-flat.ensures) c.requires, search rules)
@@ -19,7 +19,7 @@ pub returns-then-not-is_possible : goal.returns-then-not-is_possible
 returns-then-not-is_possible c =
     let tabled : Laid c.args.r c.lay_latest.new.table = subst (λ (X : Recorder). Laid X c.lay_latest.new.table) c.flat_of-flat.ensures c.lay_latest.ensures in
     let p = c.is_possible in
-    rw c.refusal-then-not-is_possible.ensures (record {
+    rw c.from-then-not-is_possible.ensures (record {
       planned = is_none c.args.r c.requires c.lay_latest.new.table tabled c.args.budget c.args.starts.now c.if-starts-n.false
           (sym p.ensures ∙ c.if-not-is_possible.true);
       counted = counted_is_none c.args.r c.requires c.lay_latest.new.table tabled c.args.budget c.args.starts.now c.if-starts-n.false

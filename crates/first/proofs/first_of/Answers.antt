@@ -10,7 +10,7 @@ use Rattle.first.proofs.Found.{whole_known, is_none, is_ready, is_found}
 use Rattle.first.proofs.first_of.Goals as goal
 
 pub returns-then-starts-n : goal.returns-then-starts-n
-returns-then-starts-n c = rw c.refusal.ensures (stops c.if-starts-n.true)
+returns-then-starts-n c = rw c.from.ensures (stops c.if-starts-n.true)
 
 pub lay_latest-requires : goal.lay_latest-requires
 lay_latest-requires c = (subst Valid (sym c.flat_of-flat.ensures) c.requires, length-replicate {A = ℕ} 65536 0)
@@ -30,7 +30,7 @@ bounds-table-all_jobs c =
 
 pub returns-then-table-all_jobs-eq0 : goal.returns-then-table-all_jobs-eq0
 returns-then-table-all_jobs-eq0 c =
-    rw c.refusal-then-table-all_jobs-eq0.ensures
+    rw c.from-then-table-all_jobs-eq0.ensures
     (is_none _ c.requires _ c.flat_of-flat.ensures _ c.lay_latest.ensures c.all_jobs.result c.all_jobs.ensures c.args.starts.now (omega arith) c.if-table-all_jobs-eq0.true)
 
 pub lay_starts-requires : goal.lay_starts-requires
@@ -39,5 +39,4 @@ lay_starts-requires c =
 
 pub returns : goal.returns
 returns c =
-    rw c.success.ensures
     (is_found _ c.requires _ c.flat_of-flat.ensures _ c.lay_latest.ensures c.all_jobs.result c.all_jobs.ensures c.args.starts.now (omega arith) _ c.lay_starts.ensures)

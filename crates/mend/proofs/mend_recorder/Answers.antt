@@ -10,11 +10,11 @@ use Rattle.mend.proofs.mend_recorder.Goals as goal
 use Rattle.mend.proofs.mend_recorder.Goals.{After-settle}
 
 pub returns-then-given-n : goal.returns-then-given-n
-returns-then-given-n c = rw c.refusal.ensures (P.MendOf.unequal c.if-given-n.true)
+returns-then-given-n c = rw c.from.ensures (P.MendOf.unequal c.if-given-n.true)
 
 pub returns-then-lacks_room : goal.returns-then-lacks_room
 returns-then-lacks_room c =
-    rw c.refusal-then-lacks_room.ensures (P.MendOf.short c.if-given-n.false
+    rw c.from-then-lacks_room.ensures (P.MendOf.short c.if-given-n.false
     (λ h. lacks_none _ _ _ (sym c.lacks_room.ensures ∙ c.if-lacks_room.true) h.starts h.moved))
 
 -- What is lent has room.
@@ -24,7 +24,7 @@ room c = let h = lacks_not _ _ _ (sym c.lacks_room.ensures ∙ c.if-lacks_room.f
 pub returns-in-Err : goal.returns-in-Err
 returns-in-Err c =
     let w = c.in-Err.ensures in
-    rw c.refusal_at.ensures (settled_late _ _ _ c.if-given-n.false (room (goal.at.returns-in-Err c).After-settle) w.1 w.2)
+    rw c.from-in-Err.ensures (settled_late _ _ _ c.if-given-n.false (room (goal.at.returns-in-Err c).After-settle) w.1 w.2)
 
 pub write_starts-requires : goal.write_starts-requires
 write_starts-requires c = let r = room (goal.at.write_starts-requires c).After-settle in omega (arith, c.requires)
@@ -42,5 +42,5 @@ pub returns : goal.returns
 returns c =
     let w = c.list_moves-count.ensures in
     let m = c.in-Ok.ensures in
-    rw (c.success.ensures, w.number, w.list, c.write_starts.ensures, c.if-given-n.false)
+    rw (w.number, w.list, c.write_starts.ensures, c.if-given-n.false)
     (settled_given _ _ _ c.if-given-n.false (room (goal.at.returns c).After-settle) _ m.0 m.1 m.2)

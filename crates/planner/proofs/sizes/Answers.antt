@@ -16,18 +16,18 @@ few_tasks : (s : List ℕ) (R : Recorder) → Reads s R → (tables_of s).tasks.
 unfolding tables_as
 few_tasks s R r = (listed_whole s R r).few_tasks
 
-pub returns-in_err-recorder : goal.returns-in_err-recorder
-returns-in_err-recorder c =
+pub returns-in_err-read : goal.returns-in_err-read
+returns-in_err-read c =
     let p = err_from_is_err_and c.from_residual.result c.from_residual.ensures.1 in
-    rw (p.1, p.2) (P.OfFile.refused (sym c.in_err-recorder.ensures))
+    rw (p.1, p.2) (P.OfFile.refused (sym c.in_err-read.ensures))
 
-pub tables_in-tables-requires : goal.tables_in-tables-requires
-tables_in-tables-requires c = listed_whole _ _ (sym c.in_ok-recorder.ensures)
+pub tables_in-requires : goal.tables_in-requires
+tables_in-requires c = listed_whole _ _ (sym c.in_ok-read.ensures)
 
 pub sizes_of-requires : goal.sizes_of-requires
 sizes_of-requires c =
-    let recorded = sym c.in_ok-recorder.ensures in
-    (accepted_valid _ _ recorded, rw c.tables_in-tables.ensures (few_tasks _ _ recorded))
+    let recorded = sym c.in_ok-read.ensures in
+    (accepted_valid _ _ recorded, rw c.tables_in.ensures (few_tasks _ _ recorded))
 
 pub returns : goal.returns
-returns c = P.OfFile.read (sym c.in_ok-recorder.ensures) (rw c.tables_in-tables.ensures at c.sizes_of.ensures)
+returns c = P.OfFile.read (sym c.in_ok-read.ensures) (rw c.tables_in.ensures at c.sizes_of.ensures)

@@ -4,6 +4,3 @@ use Rattle.table_bytes.proofs.devices_in.Goals as goal
 
 pub devices_at-held-requires : goal.devices_at-held-requires
 devices_at-held-requires c = rw (c.min.ensures, c.count_at-count.ensures) (omega arith, c.requires.1)
-
-pub returns : goal.returns
-returns c = rw (c.devices_at-held.ensures, c.min.ensures, c.count_at-count.ensures)

@@ -3,9 +3,6 @@ use native.Mathlib.Omega.{arith}
 use Rattle.table_bytes.proofs.Sizes.{tables_long}
 use Rattle.table_bytes.proofs.tables_from.Goals as goal
 
-pub bounds-s-0 : goal.bounds-s-0
-bounds-s-0 c = omega (arith, tables_long c.args.s.now c.requires)
-
 pub devices_in-devices-requires : goal.devices_in-devices-requires
 devices_in-devices-requires c = let l = tables_long c.args.s.now c.requires in rw c.kind_named-kind.ensures (l.0, omega (arith, l.1))
 
@@ -20,10 +17,3 @@ jobs_from-requires c = (tables_long c.args.s.now c.requires).0
 
 pub jobs_in-jobs-requires : goal.jobs_in-jobs-requires
 jobs_in-jobs-requires c = rw c.jobs_from.ensures.0 ((tables_long c.args.s.now c.requires).0, omega (arith, c.requires.ends))
-
-pub pair_at-requires : goal.pair_at-requires
-pair_at-requires c = omega (arith, tables_long c.args.s.now c.requires)
-
-pub returns : goal.returns
-returns c =
-    rw (c.pair_at.ensures, c.jobs_in-jobs.ensures, c.jobs_from.ensures.0, c.tasks_in-tasks.ensures, c.tasks_from.ensures.0, c.devices_in-devices.ensures, c.kind_named-kind.ensures)

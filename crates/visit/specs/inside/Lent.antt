@@ -1,6 +1,5 @@
--- What the search lends and what its calls come to. The tally is thirty-five numbers: 0 the count, 1 the energy of the best (4294967295 where there is none), 2 to 17
--- the starts of the jobs that are placed, by job number, 18 to 33 those of the best, and 34 whether the visit ends at the first complete vertex (1).
-use Rattle.std.specs.Prelude.{◌≡◌, Bool, true, false, cond, List, ◌++◌, ◌⊎◌, ℕ, suc, ◌+◌, ◌-◌, ◌^◌, ◌≤◌, ◌<◌, eqb, get_or, set, length, drop, Result, Ok, Err}
+-- What the search lends and what its calls come to.
+use Rattle.std.specs.Prelude.{◌≡◌, Bool, true, false, cond, List, ◌++◌, ◌⊎◌, ℕ, suc, ◌+◌, ◌-◌, ◌^◌, ◌≤◌, ◌<◌, eqb, get_or, set, length, drop, replicate, Result, Ok, Err}
 use Rattle.std.proofs.Math.Option.{Option, none, some}
 use Rattle.base.specs.declared.reasons.Reason.{Reason}
 use Rattle.base.specs.declared.reasons.Reason.TheVariants.{NoRoom, NoSchedule, Budget}
@@ -14,42 +13,60 @@ use Rattle.extras.specs.inside.Tabled.{Tabled, cap_at}
 use Rattle.vertex.specs.inside.Shown.{Shows}
 use Rattle.recall.specs.inside.Entries.{Right}
 use Rattle.recall.specs.inside.Counts.{Counts}
+use Rattle.visit.specs.declared.tally.Tally.{Tally}
+use Rattle.visit.specs.declared.stages.Spent.{Spent}
 use Rattle.visit.specs.declared.Found.{Found}
 use Rattle.visit.specs.declared.Unfound.{Unfound}
 use Rattle.visit.specs.inside.Stops.{Open, visit_by, visited_by, entered}
 
 -- ---- the tally
 
-abbrev pub count_at : List ℕ → ℕ
-count_at l = get_or l 0 0
+-- The energy of the best is 4294967295 where there is none.
+abbrev pub count_at : Tally → ℕ
+count_at l = l.count
 
-abbrev pub energy_at : List ℕ → ℕ
-energy_at l = get_or l 1 0
+abbrev pub energy_at : Tally → ℕ
+energy_at l = l.energy
 
-abbrev pub start_at : List ℕ → ℕ → ℕ
-start_at l j = get_or l (2 + j) 0
+abbrev pub start_at : Tally → ℕ → ℕ
+start_at l j = get_or l.placed j 0
 
-abbrev pub best_at : List ℕ → ℕ → ℕ
-best_at l j = get_or l (18 + j) 0
+abbrev pub best_at : Tally → ℕ → ℕ
+best_at l j = get_or l.best j 0
 
-abbrev pub stop_at : List ℕ → ℕ
-stop_at l = get_or l 34 0
+-- 1 where the visit ends at the first complete vertex.
+abbrev pub stop_at : Tally → ℕ
+stop_at l = cond l.stop 1 0
+
+abbrev pub Long : Tally → Type 0
+Long l = length l.placed ≡ 16
+
+-- Nothing is counted, and there is no best.
+abbrev pub begun : Bool → Tally
+begun stop = record { count = 0; energy = 4294967295; placed = replicate 16 0; best = replicate 16 0; stop = stop }
+
+-- n vertices more; and job j starting at s.
+abbrev pub more_counted : ℕ → Tally → Tally
+more_counted n l = record { count = l.count + n; energy = l.energy; placed = l.placed; best = l.best; stop = l.stop }
+
+abbrev pub noted : ℕ → ℕ → Tally → Tally
+noted j s l = record { count = l.count; energy = l.energy; placed = set l.placed j s; best = l.best; stop = l.stop }
 
 -- The tally holds the best.
-unfoldable pub Bests : Recorder → List ℕ → Option (List ℕ) → Type 0
+unfoldable pub Bests : Recorder → Tally → Option (List ℕ) → Type 0
 Bests R l none = energy_at l ≡ 4294967295
 Bests R l (some s) =
     (energy_at l ≡ plan_energy R s) × (energy_at l < 4294967295) × (length s ≡ jobs R) × ((j : ℕ) → j < jobs R → best_at l j ≡ get_or s j 0) × Feasible R s
 
 -- The tally l holds what the visit has come to, within the budget.
-pub record Holds (R : Recorder) (budget : ℕ) (l : List ℕ) (st : Visited) : Type 0 where
+pub record Holds (R : Recorder) (budget : ℕ) (l : Tally) (st : Visited) : Type 0 where
   pub count : count_at l ≡ st.count
   pub best : Bests R l st.best
   pub within : st.count ≤ budget
 
 -- The tally l tells what the visit has come to at the vertex v, within the budget; it has not ended.
-pub record Tells (R : Recorder) (stop : Bool) (budget : ℕ) (l : List ℕ) (v : Vertex) (st : Visited) : Type 0 where
-  pub long : length l ≡ 35
+pub record Tells (R : Recorder) (stop : Bool) (budget : ℕ) (l : Tally) (v : Vertex) (st : Visited) : Type 0 where
+  pub long : Long l
   pub stops : stop_at l ≡ cond stop 1 0
   pub count : count_at l ≡ st.count
   pub best : Bests R l st.best
@@ -59,25 +76,25 @@ pub record Tells (R : Recorder) (stop : Bool) (budget : ℕ) (l : List ℕ) (v :
 
 -- A call answered whether the visit goes no further: the tally tells st; or st has counted more than the budget, and what the visit would stop at is not found; or
 -- it is found, and the tally holds st.
-pub data Came (R : Recorder) (stop : Bool) (budget : ℕ) (l : List ℕ) (v : Vertex) (st : Visited) : Bool → Type 0 where
+pub data Came (R : Recorder) (stop : Bool) (budget : ℕ) (l : Tally) (v : Vertex) (st : Visited) : Bool → Type 0 where
   done : Tells R stop budget l v st → Came R stop budget l v st false
   over : stop_at l ≡ cond stop 1 0 → budget < st.count → (stop ≡ true → energy_at l ≡ 4294967295) → Came R stop budget l v st true
   ended : stop_at l ≡ cond stop 1 0 → stop ≡ true → energy_at l < 4294967295 → Holds R budget l st → Came R stop budget l v st true
 
 -- Whether it was for the budget that a visit ended, by the tally l and whether it did.
-pub data Over (l : List ℕ) : Bool → Bool → Type 0 where
+pub data Over (l : Tally) : Bool → Bool → Type 0 where
   goes : Over l false false
   alone : (stop_at l ≡ 1 → ⊥) → Over l true true
   told : stop_at l ≡ 1 → (x : Bool) → x ≡ eqb (energy_at l) 4294967295 → Over l true x
 
--- The whole visit answered whether the budget is used up: the tally holds what it came to; or it counts more than the budget.
-pub data Ran (R : Recorder) (stop : Bool) (budget : ℕ) (l : List ℕ) : Bool → Type 0 where
-  whole : Holds R budget l (visited_by R stop) → Ran R stop budget l false
-  spent : budget < (visited_by R stop).count → Ran R stop budget l true
+-- The whole visit answered with a tally that holds what it came to; or it counts more than the budget.
+pub data Ran (R : Recorder) (stop : Bool) (budget : ℕ) : Result Tally Spent → Type 0 where
+  whole : {l : Tally} → Holds R budget l (visited_by R stop) → Ran R stop budget (Ok l)
+  spent : {e : Spent} → budget < (visited_by R stop).count → Ran R stop budget (Err e)
 
 -- n vertices more are counted, if the budget has them.
-pub data Added (budget n : ℕ) (l l' : List ℕ) : Bool → Type 0 where
-  fits : count_at l + n ≤ budget → l' ≡ set l 0 (count_at l + n) → Added budget n l l' false
+pub data Added (budget n : ℕ) (l l' : Tally) : Bool → Type 0 where
+  fits : count_at l + n ≤ budget → l' ≡ more_counted n l → Added budget n l l' false
   beyond : budget < count_at l + n → l' ≡ l → Added budget n l l' true
 
 -- ---- the memory
@@ -125,7 +142,7 @@ pub record Enters (R : Recorder) (l : List ℕ) (left f j s m : ℕ) (v : Vertex
   pub floor_is : floor R (child R v j s) ≡ f
 
 -- There are such a vertex and what the visit has come to there.
-pub record Some (R : Recorder) (budget : ℕ) (tally : List ℕ) (P : ℕ → Vertex → Type 0) : Type 0 where
+pub record Some (R : Recorder) (budget : ℕ) (tally : Tally) (P : ℕ → Vertex → Type 0) : Type 0 where
   pub stop : Bool
   pub left : ℕ
   pub vertex : Vertex
@@ -136,8 +153,8 @@ pub record Some (R : Recorder) (budget : ℕ) (tally : List ℕ) (P : ℕ → Ve
 -- ---- what the calls leave and answer
 
 -- A memory that is right, and a best of no more energy.
-abbrev pub Leaves : Recorder → List ℕ → List ℕ → List ℕ → List ℕ → Type 0
-Leaves R extras memory l l' = Lends R extras memory × ((length l' ≡ 35) × (energy_at l' ≤ energy_at l))
+abbrev pub Leaves : Recorder → List ℕ → List ℕ → Tally → Tally → Type 0
+Leaves R extras memory l l' = Lends R extras memory × ((Long l') × (energy_at l' ≤ energy_at l))
 
 -- The vertex stands at the time t.
 abbrev pub StandsAt : Recorder → List ℕ → ℕ → ℕ → ℕ → ℕ → Vertex → Type 0
@@ -145,7 +162,7 @@ StandsAt R v set from t m u = Stands R v set from m u × (u.time ≡ t)
 
 -- The call answered x, and left the tally l as l': from each vertex u that the numbers v show, and whatever the tally tells there, it came to what the visiting order
 -- does at that place.
-module _ (R : Recorder) (budget : ℕ) (v l l' : List ℕ) (x : Bool) where
+module _ (R : Recorder) (budget : ℕ) (v : List ℕ) (l l' : Tally) (x : Bool) where
   -- The child that places job j at s, and all below it; and the same child once it is entered.
   abbrev pub VisitCame : ℕ → ℕ → ℕ → ℕ → ℕ → ℕ → Type 0
   VisitCame set from cut f j s =

@@ -6,6 +6,7 @@ use Prim.Native.Nat.{ℕ}
 use lib.ListN.{replicate}
 use lib.Seq.{length-take-le}
 use Rattle.schedule.specs.Quantities.{jobs}
+use Rattle.planner.specs.Answers.{answered}
 use Rattle.planner.specs.Promises.{RowsOf}
 use Rattle.calls.proofs.Crossing.{own_starts, own_room}
 use Rattle.calls.proofs.paired.rows_bytes.Goals as goal
@@ -31,5 +32,5 @@ slice_bounds-rows_of-end c =
 pub returns : goal.returns
 returns c =
     let w = c.rows_of in
-    subst (λ (l : List ℕ). RowsOf l c.args.out.now c.args.r w.result w.new.out)
+    subst (λ (l : List ℕ). RowsOf l c.args.out.now c.args.r (answered w.result) w.new.out)
     (own_starts c.args.bytes.now zeros c.get_starts.new.starts (jobs c.args.r) (omega (arith, c.requires.0)) c.get_starts.ensures) w.ensures

@@ -1,10 +1,10 @@
 -- `calls::cramped` meets its contract.
-use Rattle.request.proofs.Accepted.{read_accepted, read_refused}
+use mathlib.Core.Path.{sym}
 use Rattle.calls.specs.inside.Cramped.{Cramped}
 use Rattle.calls.proofs.results.cramped.Goals as goal
 
-pub returns-then-request-ne0 : goal.returns-then-request-ne0
-returns-then-request-ne0 c = Cramped.refused (read_refused _ _ c.read-request.ensures c.if-request-ne0.true)
+pub returns-in-Err : goal.returns-in-Err
+returns-in-Err c = rw c.number.ensures (Cramped.refused (sym c.in-Err.ensures))
 
-pub returns : goal.returns
-returns c = Cramped.read (read_accepted _ _ c.read-request.ensures c.if-request-ne0.false)
+pub returns-in-Ok : goal.returns-in-Ok
+returns-in-Ok c = rw c.number-in-Ok.ensures (Cramped.read (sym c.in-Ok.ensures))

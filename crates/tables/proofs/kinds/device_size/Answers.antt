@@ -4,6 +4,3 @@ use Rattle.tables.proofs.kinds.device_size.Goals as goal
 
 pub returns-in-Second : goal.returns-in-Second
 returns-in-Second c = search rules
-
-pub returns-in-Third : goal.returns-in-Third
-returns-in-Third c = rw c.in-Third.is c.third_size.ensures

@@ -1,60 +1,57 @@
 -- The mark of the kind, the horizon field, then the three tables.
-use mathlib.Core.Path.{ap, ◌∙◌}
+use mathlib.Core.Path.{◌≡◌, ap, ◌∙◌}
 use mathlib.Core.List.{[]}
 use Prim.Native.Nat.{◌≤◌}
 use native.Mathlib.Omega.{arith}
 use Rattle.tables.specs.declared.File.{File}
+use Rattle.tables.specs.declared.Tables.{Tables}
 use Rattle.tables.specs.declared.TableName.TheVariants.{Devices, Tasks, Jobs}
 use Rattle.base.specs.Bytes.{pair_bytes}
 use Rattle.tables.specs.Layout.{marker, section_of, layout_of, bytes_of}
 use Rattle.tables.specs.inside.Held.{limited, held, appended}
-use Rattle.tables.proofs.Appending.{appended_count, appended_more, held_all}
+use Rattle.tables.proofs.Appending.{counted, appended_more, held_all}
 use Rattle.tables.proofs.Joining.{length_marker, devices_short, tasks_short, jobs_short, limited_fits}
 use Rattle.tables.proofs.laying.file_of.Goals as goal
 
-pub push_marker-marked-requires : goal.push_marker-marked-requires
+-- How many bytes there are at most after each part.
+none : (e : File) → e ≡ held [] → e.count ≡ 0
 unfolding held
-push_marker-marked-requires c = rw c.empty.ensures (omega arith)
+none e h = ap (λ (f : File). f.count) h
+
+module _ (t : Tables) where
+  marked : (e m : File) → e ≡ held [] → m ≡ appended e (marker t.kind) → m.count ≤ 2
+  marked e m h k = omega (arith, none _ h, counted _ _ _ k, length_marker t.kind)
+
+  headed : (m a : File) → m.count ≤ 2 → a ≡ appended m (pair_bytes t.horizon) → a.count ≤ 4
+  headed m a l k = omega (arith, counted _ _ _ k)
+
+  devices_laid : (a b : File) → a.count ≤ 4 → b ≡ appended a (section_of (limited t) Devices) → b.count ≤ 131
+  devices_laid a b l k = omega (arith, counted _ _ _ k, devices_short t)
+
+  tasks_laid : (b c : File) → b.count ≤ 131 → c ≡ appended b (section_of (limited t) Tasks) → c.count ≤ 177
+  tasks_laid b c l k = omega (arith, counted _ _ _ k, tasks_short t)
+
+pub push_marker-marked-requires : goal.push_marker-marked-requires
+push_marker-marked-requires c = omega (arith, none _ c.empty.ensures)
 
 pub push_pair-a-requires : goal.push_pair-a-requires
-unfolding held
-push_pair-a-requires c =
-    let marked : c.push_marker-marked.result.count ≤ 2 = let a = c.args.t in
-    omega (arith, ap (λ (f : File). f.count) c.push_marker-marked.ensures, appended_count c.empty.result (marker a.kind), ap (λ (f : File). f.count) c.empty.ensures, length_marker a.kind) in
-    omega (arith, marked)
+push_pair-a-requires c = omega (arith, marked c.args.t _ _ c.empty.ensures c.push_marker-marked.ensures)
 
 pub push_section-b-requires : goal.push_section-b-requires
-unfolding held
 push_section-b-requires c =
-    let marked : c.push_marker-marked.result.count ≤ 2 = let a = c.args.t in
-    omega (arith, ap (λ (f : File). f.count) c.push_marker-marked.ensures, appended_count c.empty.result (marker a.kind), ap (λ (f : File). f.count) c.empty.ensures, length_marker a.kind) in
-    let headed : c.push_pair-a.result.count ≤ 4 = let a = c.args.t in
-    omega (arith, marked, ap (λ (f : File). f.count) c.push_pair-a.ensures, appended_count c.push_marker-marked.result (pair_bytes a.horizon)) in
-    omega (arith, headed, devices_short c.args.t)
+    let t = c.args.t in
+    omega (arith, headed t _ _ (marked t _ _ c.empty.ensures c.push_marker-marked.ensures) c.push_pair-a.ensures, devices_short t)
 
 pub push_section-c-requires : goal.push_section-c-requires
-unfolding held
 push_section-c-requires c =
-    let marked : c.push_marker-marked.result.count ≤ 2 = let a = c.args.t in
-    omega (arith, ap (λ (f : File). f.count) c.push_marker-marked.ensures, appended_count c.empty.result (marker a.kind), ap (λ (f : File). f.count) c.empty.ensures, length_marker a.kind) in
-    let headed : c.push_pair-a.result.count ≤ 4 = let a = c.args.t in
-    omega (arith, marked, ap (λ (f : File). f.count) c.push_pair-a.ensures, appended_count c.push_marker-marked.result (pair_bytes a.horizon)) in
-    let after_devices : c.push_section-b.result.count ≤ 131 = let t = c.args.t in
-    omega (arith, headed, ap (λ (f : File). f.count) c.push_section-b.ensures, appended_count c.push_pair-a.result (section_of (limited t) Devices), devices_short t) in
-    omega (arith, after_devices, tasks_short c.args.t)
+    let t = c.args.t in
+    omega (arith, devices_laid t _ _ (headed t _ _ (marked t _ _ c.empty.ensures c.push_marker-marked.ensures) c.push_pair-a.ensures) c.push_section-b.ensures, tasks_short t)
 
 pub push_section-requires : goal.push_section-requires
-unfolding held
 push_section-requires c =
-    let marked : c.push_marker-marked.result.count ≤ 2 = let a = c.args.t in
-    omega (arith, ap (λ (f : File). f.count) c.push_marker-marked.ensures, appended_count c.empty.result (marker a.kind), ap (λ (f : File). f.count) c.empty.ensures, length_marker a.kind) in
-    let headed : c.push_pair-a.result.count ≤ 4 = let a = c.args.t in
-    omega (arith, marked, ap (λ (f : File). f.count) c.push_pair-a.ensures, appended_count c.push_marker-marked.result (pair_bytes a.horizon)) in
-    let after_devices : c.push_section-b.result.count ≤ 131 = let t = c.args.t in
-    omega (arith, headed, ap (λ (f : File). f.count) c.push_section-b.ensures, appended_count c.push_pair-a.result (section_of (limited t) Devices), devices_short t) in
-    let after_tasks : c.push_section-c.result.count ≤ 177 = let t = c.args.t in
-    omega (arith, after_devices, ap (λ (f : File). f.count) c.push_section-c.ensures, appended_count c.push_section-b.result (section_of (limited t) Tasks), tasks_short t) in
-    omega (arith, after_tasks, jobs_short c.args.t)
+    let t = c.args.t in
+    let before = devices_laid t _ _ (headed t _ _ (marked t _ _ c.empty.ensures c.push_marker-marked.ensures) c.push_pair-a.ensures) c.push_section-b.ensures in
+    omega (arith, tasks_laid t _ _ before c.push_section-c.ensures, jobs_short t)
 
 pub returns : goal.returns
 unfolding bytes_of layout_of limited

@@ -1,14 +1,12 @@
 -- `tables::laying::push_powers` meets its contract: each power after those before it.
-use mathlib.Core.Path.{◌≡◌, ap, ◌∙◌}
+use mathlib.Core.Path.{◌≡◌, ◌∙◌}
 use mathlib.Core.List.{List, ◌++◌}
 use Prim.Native.Nat.{ℕ, ◌+◌}
 use native.Mathlib.Omega.{arith}
 use lib.ListN.{length, length-append}
-use Rattle.tables.specs.declared.File.{File}
 use Rattle.tables.specs.declared.DeviceRecord.{DeviceRecord}
 use Rattle.tables.specs.Records.{power_bytes, powers_bytes}
-use Rattle.tables.specs.inside.Held.{appended}
-use Rattle.tables.proofs.Appending.{appended_count, appended_more}
+use Rattle.tables.proofs.Appending.{counted, appended_more}
 use Rattle.tables.proofs.laying.push_powers.Goals as goal
 
 -- Each has room where all have.
@@ -31,26 +29,20 @@ module _ (d : DeviceRecord) where
   long : length (powers_bytes d) ≡ length p₀ + length p₁ + length p₂ + length p₃
   long = omega (arith, length-append p₀ (p₁ ++ (p₂ ++ p₃)), length-append p₁ (p₂ ++ p₃), length-append p₂ p₃)
 
-  counted : (f g : File) (l : List ℕ) → g ≡ appended f l → g.count ≡ f.count + length l
-  counted f g l e = ap (λ (x : File). x.count) e ∙ appended_count f l
-
-pub push_power-a-requires : goal.push_power-a-requires
-push_power-a-requires c = omega (arith, long c.args.d, c.requires)
-
 pub push_power-b-requires : goal.push_power-b-requires
 push_power-b-requires c =
     let d = c.args.d in
-    omega (arith, long d, c.requires, counted d c.args.f _ (p₀ d) c.push_power-a.ensures)
+    omega (arith, long d, c.requires, counted _ _ _ c.push_power-a.ensures)
 
 pub push_power-c-requires : goal.push_power-c-requires
 push_power-c-requires c =
     let d = c.args.d in
-    omega (arith, long d, c.requires, counted d c.args.f _ (p₀ d) c.push_power-a.ensures, counted d _ _ (p₁ d) c.push_power-b.ensures)
+    omega (arith, long d, c.requires, counted _ _ _ c.push_power-a.ensures, counted _ _ _ c.push_power-b.ensures)
 
 pub push_power-requires : goal.push_power-requires
 push_power-requires c =
     let d = c.args.d in
-    omega (arith, long d, c.requires, counted d c.args.f _ (p₀ d) c.push_power-a.ensures, counted d _ _ (p₁ d) c.push_power-b.ensures, counted d _ _ (p₂ d) c.push_power-c.ensures)
+    omega (arith, long d, c.requires, counted _ _ _ c.push_power-a.ensures, counted _ _ _ c.push_power-b.ensures, counted _ _ _ c.push_power-c.ensures)
 
 pub returns : goal.returns
 returns c =

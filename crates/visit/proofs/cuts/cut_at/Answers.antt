@@ -13,5 +13,5 @@ returns-then-best-least c = inr (refl, λ t a b. omega (arith, c.if-best-least.t
 pub returns-else-best-least : goal.returns-else-best-least
 returns-else-best-least c = inl refl
 
-pub returns-else-best-floor : goal.returns-else-best-floor
-returns-else-best-floor c = inl refl
+pub returns-else-best-child : goal.returns-else-best-child
+returns-else-best-child c = inl refl

@@ -1,13 +1,14 @@
 use mathlib.Core.Path.{◌≡◌, refl, sym, ap, ◌∙◌, subst}
 use Prim.Native.Nat.{ℕ, suc, ◌+◌, ◌-◌, ◌≤◌, ◌<◌, ◌/◌, max}
 use native.Mathlib.Omega.{arith}
+use Rattle.std.specs.Prelude.{is_err}
 use Rattle.flat.specs.inside.Flat.{recorder_of}
 use Rattle.extras.specs.inside.Tabled.{cap_at}
 use Rattle.recall.specs.inside.Asks.{Asks}
 use Rattle.visit.proofs.Remembering.{added_comes, added_kept, seen_lends, asked_comes}
 use mathlib.Core.Bool.{Bool, false}
 use mathlib.Core.Logic.{inl, inr}
-use mathlib.Core.List.{List, ◌∷◌}
+use mathlib.Core.List.{◌∷◌}
 use native.Mathlib.Nat.{le_refl}
 use native.Mathlib.Numerals.{add-one}
 use lib.ListN.{length}
@@ -15,19 +16,20 @@ use Rattle.base.specs.Lists.{up_from}
 use Rattle.schedule.specs.Quantities.{jobs, release, deadline, run}
 use Rattle.schedule.specs.Visiting.{Vertex, Visited, counted, child, starts, earliest}
 use Rattle.schedule.specs.Visiting as order
+use Rattle.visit.specs.declared.tally.Tally.{Tally}
 use Rattle.visit.specs.inside.Stops.{visit_by}
 use Rattle.latest.specs.inside.Sets.{members}
 use Rattle.latest.proofs.Tabled.{power_next}
 use Rattle.vertex.proofs.Lasting.{bit_is}
 use Rattle.vertex.proofs.Showing.{jobs_shown, job_in_lem, load_shown, ticks_shown}
-use Rattle.visit.specs.inside.Lent.{count_at, energy_at, Tells, Stands, Starts, Tries}
+use Rattle.visit.specs.inside.Lent.{Long, count_at, energy_at, Tells, Stands, Starts, Tries}
 use Rattle.visit.proofs.Visits.{job_walk, choices_grow}
 use Rattle.visit.proofs.Telling.{counted_less, noted_less, offered_less}
 use Rattle.visit.proofs.Going.{came_done, start_steady, job_steady, Going, going_from, going_as, going_end, going_next, going_over, up_next, members_one, members_not, members_over, going_rest}
 use Rattle.visit.proofs.Entering.{Cuts, starts_of_lem, starts_known, starts_end, starts_ordered, cuts_less, cuts_at, from_small, load_room, tries_of, visit_over, tells_more, visit_drops, visit_enters, bit_room, size_room, enters_of, left_some, enters_small, enters_noted, enters_complete, stands_child, enters_came, starts_dropped}
 use Rattle.base.proofs.Numbers.{halved}
 use Rattle.visit.proofs.walk.+below_choices_enter_learn_tries_visit.Goals as goal
-use Rattle.visit.proofs.walk.+below_choices_enter_learn_tries_visit.Goals.{choices-then-rest-eq1+else-tries, choices-else-rest-eq1}
+use Rattle.visit.proofs.walk.+below_choices_enter_learn_tries_visit.Goals.{choices-then-rest-eq1+in_ok-tries, choices-else-rest-eq1}
 
 pub below-choices-requires : goal.below-choices-requires
 below-choices-requires t c =
@@ -35,9 +37,6 @@ below-choices-requires t c =
 
 pub below-returns-then-not-is_many : goal.below-returns-then-not-is_many
 below-returns-then-not-is_many t c = c.choices.ensures
-
-pub below-bounds-tally-1 : goal.below-bounds-tally-1
-below-bounds-tally-1 t c = omega (arith, c.requires.1.1.tells.long)
 
 pub below-slack_of-slack-requires : goal.below-slack_of-slack-requires
 below-slack_of-slack-requires t c = c.requires.1.0
@@ -50,7 +49,7 @@ below-ask-asked-requires t c =
 pub below-add_count-requires : goal.below-add_count-requires
 below-add_count-requires t c =
     let w = c.requires.1.1.tells in
-    (w.long, omega (arith, w.count, w.within))
+    omega (arith, w.count, w.within)
 
 pub below-returns-in-Some : goal.below-returns-in-Some
 below-returns-in-Some t c =
@@ -97,8 +96,8 @@ choices-tries-requires t c =
     let g = l.invariant.4 o.stop o.left o.vertex o.state o.holds.0 o.holds.1 o.tells in
     (omega arith, (l.invariant.5, (omega (arith, c.loop-j-test.true, c.job_count-n.ensures), (bit_is _ _ _ l.invariant.1 c.if-rest-eq1.true, (l.invariant.0, (c.dues_in-dues.ensures, record { stop = o.stop; left = o.left; vertex = o.vertex; state = g.state; holds = o.holds; tells = g.tells }))))))
 
-pub choices-returns-then-tries : goal.choices-returns-then-tries
-choices-returns-then-tries t c =
+pub choices-returns-in_err-tries : goal.choices-returns-in_err-tries
+choices-returns-in_err-tries t c =
     let R = recorder_of c.args.search.now.r.now in
     let l = c.loop-j in
     let e = c.tries in
@@ -108,7 +107,7 @@ choices-returns-then-tries t c =
       kept = (e.ensures.kept.0, (e.ensures.kept.1.0, omega (arith, e.ensures.kept.1.1, l.invariant.3)));
       came = λ stop m u st stands time tells.
           let g = first stop m u st stands time tells in
-          going_over R stop _ u (job_walk R stop m u) _ _ _ _ g _ _ (e.ensures.came stop m u g.state stands time g.tells) (job_steady R stop _ m u) c.if-tries.true;
+          rw c.from_residual.ensures.0 (going_over R stop _ u (job_walk R stop m u) _ _ _ _ g _ _ (e.ensures.came stop m u g.state stands time g.tells) (job_steady R stop _ m u) (ap is_err c.in_err-tries.was));
     }
 
 pub choices-overflow_mul-p : goal.choices-overflow_mul-p
@@ -123,25 +122,25 @@ choices-loop-j-preserved t c =
     let n = c.job_count-n.result in
     let test = c.loop-j-test.true in
     elim c.if-rest-eq1.branch [
-      | choices-then-rest-eq1+else-tries w ↦ (
+      | choices-then-rest-eq1+in_ok-tries w ↦ (
         rw (add-one l.j) (omega (arith, l.invariant.0)),
         rw l.invariant.1 (halved _ _),
-        ap length w.tally-is ∙ w.tries.ensures.kept.1.0,
+        ap (λ (x : Tally). length x.placed) w.tally-is ∙ w.tries.ensures.kept.1.0,
         omega (arith, ap energy_at w.tally-is, w.tries.ensures.kept.1.1, l.invariant.3),
         (λ stop m u st stands time tells.
             let g = going_as R stop c.args.search.now.budget u (job_walk R stop m u) l.tally _ _ _ (members_one l.j n l.rest test w.if-rest-eq1.true) (l.invariant.4 stop m u st stands time tells) in
-            subst (λ (x : List ℕ). Going R stop c.args.search.now.budget u (job_walk R stop m u) x (members (l.j + 1) (n - (l.j + 1)) (l.rest / 2)) (order.choices R (visit_by R stop m) u st)) (sym w.tally-is)
-            (going_next R stop c.args.search.now.budget u (job_walk R stop m u) l.tally _ _ _ g _ _ (w.tries.ensures.came stop m u g.state stands time g.tells) w.if-tries.false)),
+            subst (λ (x : Tally). Going R stop c.args.search.now.budget u (job_walk R stop m u) x (members (l.j + 1) (n - (l.j + 1)) (l.rest / 2)) (order.choices R (visit_by R stop m) u st)) (sym w.tally-is)
+            (going_next R stop c.args.search.now.budget u (job_walk R stop m u) l.tally _ _ _ g _ _ (w.tries.ensures.came stop m u g.state stands time g.tells) (ap is_err w.in_ok-tries.was))),
         rw w.memory-is w.tries.ensures.kept.0,
         omega (arith, ap length w.memory-is, l.invariant.6),
       )
       | choices-else-rest-eq1 w ↦ (
         rw (add-one l.j) (omega (arith, l.invariant.0)),
         rw l.invariant.1 (halved _ _),
-        ap length w.tally-is ∙ l.invariant.2,
+        ap (λ (x : Tally). length x.placed) w.tally-is ∙ l.invariant.2,
         omega (arith, ap energy_at w.tally-is, l.invariant.3),
         (λ stop m u st stands time tells.
-            subst (λ (x : List ℕ). Going R stop c.args.search.now.budget u (job_walk R stop m u) x (members (l.j + 1) (n - (l.j + 1)) (l.rest / 2)) (order.choices R (visit_by R stop m) u st)) (sym w.tally-is)
+            subst (λ (x : Tally). Going R stop c.args.search.now.budget u (job_walk R stop m u) x (members (l.j + 1) (n - (l.j + 1)) (l.rest / 2)) (order.choices R (visit_by R stop m) u st)) (sym w.tally-is)
             (going_as R stop c.args.search.now.budget u (job_walk R stop m u) l.tally _ _ _ (members_not l.j n l.rest test w.if-rest-eq1.false) (l.invariant.4 stop m u st stands time tells))),
         rw w.memory-is l.invariant.5,
         omega (arith, ap length w.memory-is, l.invariant.6),
@@ -161,7 +160,7 @@ pub enter-note-requires : goal.enter-note-requires
 enter-note-requires t c =
     let o = c.requires.1.1 in
     let x = c.requires.0.tabled in
-    (o.tells.long, (starts_known (recorder_of c.args.search.now.r.now) x.valid x.narrow _ _ _ _ o.holds.starts o.holds.shows.reached).1)
+    (starts_known (recorder_of c.args.search.now.r.now) x.valid x.narrow _ _ _ _ o.holds.starts o.holds.shows.reached).1
 
 pub enter-end_of-requires : goal.enter-end_of-requires
 enter-end_of-requires t c =
@@ -179,16 +178,9 @@ pub enter-offer-requires : goal.enter-offer-requires
 enter-offer-requires t c =
     (noted_less c.args.tally.now _ c.args.child.j.0 c.args.child.s c.requires.1.1.tells.long c.note.ensures).0
 
-pub enter-stops-requires : goal.enter-stops-requires
-enter-stops-requires t c =
-    let enter-offered : (length c.offer.new.tally ≡ 35) × (energy_at c.offer.new.tally ≤ energy_at c.args.tally.now) = let q = noted_less c.args.tally.now _ c.args.child.j.0 c.args.child.s c.requires.1.1.tells.long c.note.ensures in
-    let k = offered_less _ _ _ q.0 c.offer.ensures in
-    (k.0, omega (arith, k.1, q.1)) in
-    enter-offered.0
-
 pub enter-returns-then-left-eq0 : goal.enter-returns-then-left-eq0
 enter-returns-then-left-eq0 t c =
-    let enter-offered : (length c.offer.new.tally ≡ 35) × (energy_at c.offer.new.tally ≤ energy_at c.args.tally.now) = let q = noted_less c.args.tally.now _ c.args.child.j.0 c.args.child.s c.requires.1.1.tells.long c.note.ensures in
+    let enter-offered : (Long c.offer.new.tally) × (energy_at c.offer.new.tally ≤ energy_at c.args.tally.now) = let q = noted_less c.args.tally.now _ c.args.child.j.0 c.args.child.s c.requires.1.1.tells.long c.note.ensures in
     let k = offered_less _ _ _ q.0 c.offer.ensures in
     (k.0, omega (arith, k.1, q.1)) in
     let R = recorder_of c.args.search.now.r.now in
@@ -197,7 +189,7 @@ enter-returns-then-left-eq0 t c =
     let few = enters_small R x.valid x.narrow false 0 _ _ _ _ _ _ _ c.requires.1.1.holds in record {
       kept = (c.requires.0, enter-offered);
       came = λ stop m u st enters tells.
-          enters_complete R x.valid x.narrow _ _ _ _ _ _ _ _ _ enters c.if-left-eq0.true _ _ _ st (enters_noted R x.valid x.narrow _ _ _ _ _ _ _ _ _ enters _ st tells _ c.note.ensures) (ap (λ (y : ℕ). c.args.child.floor + y) e.ensures.0) (omega (arith, e.ensures.1, few)) c.offer.ensures _ c.stops.ensures;
+          enters_complete R x.valid x.narrow _ _ _ _ _ _ _ _ _ enters c.if-left-eq0.true _ _ _ st (enters_noted R x.valid x.narrow _ _ _ _ _ _ _ _ _ enters _ st tells _ c.note.ensures) (ap (λ (y : ℕ). c.args.child.floor + y) e.ensures.0) (omega (arith, e.ensures.1, few)) c.offer.ensures _ c.go_on.ensures;
     }
 
 pub enter-place-requires : goal.enter-place-requires
@@ -259,46 +251,34 @@ enter-returns t c =
           (enters_noted R x.valid x.narrow _ _ _ _ _ _ _ _ _ enters _ st tells _ c.note.ensures));
     }
 
-pub learn-bounds-tally-0 : goal.learn-bounds-tally-0
-learn-bounds-tally-0 t c = omega (arith, c.requires.1.1.1.tells.long)
-
-pub learn-bounds-tally-1 : goal.learn-bounds-tally-1
-learn-bounds-tally-1 t c = omega (arith, c.requires.1.1.1.tells.long)
-
-pub learn-choices-short-requires : goal.learn-choices-short-requires
-learn-choices-short-requires t c =
+pub learn-choices-ended-requires : goal.learn-choices-ended-requires
+learn-choices-ended-requires t c =
     (omega arith, (c.requires.0, c.requires.1.1.1))
-
-pub learn-bounds-tally-1-2 : goal.learn-bounds-tally-1-2
-learn-bounds-tally-1-2 t c = omega (arith, c.choices-short.ensures.kept.1.0)
-
-pub learn-bounds-tally-0-then-is_whole : goal.learn-bounds-tally-0-then-is_whole
-learn-bounds-tally-0-then-is_whole t c = omega (arith, c.choices-short.ensures.kept.1.0)
 
 pub learn-overflow_sub-tally : goal.learn-overflow_sub-tally
 learn-overflow_sub-tally t c =
-    let learn-tells : Tells (recorder_of c.args.search.now.r.now) c.requires.1.1.1.stop c.args.search.now.budget c.choices-short.new.tally c.requires.1.1.1.vertex (order.choices (recorder_of c.args.search.now.r.now) (visit_by (recorder_of c.args.search.now.r.now) c.requires.1.1.1.stop c.requires.1.1.1.left) c.requires.1.1.1.vertex c.requires.1.1.1.state) = let w = c.requires.1.1.1 in
-    came_done _ _ _ _ _ _ _ (c.choices-short.ensures.came w.stop w.left w.vertex w.state w.holds.0 w.holds.1 w.tells) (c.is_whole.ensures c.if-is_whole.true).0 in
+    let learn-tells : Tells (recorder_of c.args.search.now.r.now) c.requires.1.1.1.stop c.args.search.now.budget c.choices-ended.new.tally c.requires.1.1.1.vertex (order.choices (recorder_of c.args.search.now.r.now) (visit_by (recorder_of c.args.search.now.r.now) c.requires.1.1.1.stop c.requires.1.1.1.left) c.requires.1.1.1.vertex c.requires.1.1.1.state) = let w = c.requires.1.1.1 in
+    came_done _ _ _ _ _ _ _ (c.choices-ended.ensures.came w.stop w.left w.vertex w.state w.holds.0 w.holds.1 w.tells) (c.is_whole.ensures c.if-is_whole.true).0 in
     let w = c.requires.1.1.1 in
     omega (arith, w.tells.count, learn-tells.count, choices_grow (recorder_of c.args.search.now.r.now) w.stop w.left w.vertex w.state)
 
 pub learn-returns-then-is_whole : goal.learn-returns-then-is_whole
 learn-returns-then-is_whole t c =
-    let learn-tells : Tells (recorder_of c.args.search.now.r.now) c.requires.1.1.1.stop c.args.search.now.budget c.choices-short.new.tally c.requires.1.1.1.vertex (order.choices (recorder_of c.args.search.now.r.now) (visit_by (recorder_of c.args.search.now.r.now) c.requires.1.1.1.stop c.requires.1.1.1.left) c.requires.1.1.1.vertex c.requires.1.1.1.state) = let w = c.requires.1.1.1 in
-    came_done _ _ _ _ _ _ _ (c.choices-short.ensures.came w.stop w.left w.vertex w.state w.holds.0 w.holds.1 w.tells) (c.is_whole.ensures c.if-is_whole.true).0 in
+    let learn-tells : Tells (recorder_of c.args.search.now.r.now) c.requires.1.1.1.stop c.args.search.now.budget c.choices-ended.new.tally c.requires.1.1.1.vertex (order.choices (recorder_of c.args.search.now.r.now) (visit_by (recorder_of c.args.search.now.r.now) c.requires.1.1.1.stop c.requires.1.1.1.left) c.requires.1.1.1.vertex c.requires.1.1.1.state) = let w = c.requires.1.1.1 in
+    came_done _ _ _ _ _ _ _ (c.choices-ended.ensures.came w.stop w.left w.vertex w.state w.holds.0 w.holds.1 w.tells) (c.is_whole.ensures c.if-is_whole.true).0 in
     let R = recorder_of c.args.search.now.r.now in
     let w = c.requires.1.1.1 in record {
       kept = (
-        seen_lends R w.stop c.args.search.now.budget c.args.search.now.extras.now _ c.args.place.now.v.now c.choices-short.ensures.kept.0 c.args.place.now.set c.args.place.now.from c.args.place.now.time c.args.asked c.args.tally.now _
+        seen_lends R w.stop c.args.search.now.budget c.args.search.now.extras.now _ c.args.place.now.v.now c.choices-ended.ensures.kept.0 c.args.place.now.set c.args.place.now.from c.args.place.now.time c.args.asked c.args.tally.now _
             c.requires.1.1.0 c.requires.1.0 w.left w.vertex w.holds.0 w.holds.1 w.state w.tells learn-tells (c.is_whole.ensures c.if-is_whole.true).1 _ refl (omega (arith, learn-tells.count, c.keep.ensures.few)) _
             c.keep.ensures.written,
-        c.choices-short.ensures.kept.1,
+        c.choices-ended.ensures.kept.1,
       );
-      came = c.choices-short.ensures.came;
+      came = c.choices-ended.ensures.came;
     }
 
 pub learn-returns-else-is_whole : goal.learn-returns-else-is_whole
-learn-returns-else-is_whole t c = c.choices-short.ensures
+learn-returns-else-is_whole t c = c.choices-ended.ensures
 
 pub tries-first_cut-cut-requires : goal.tries-first_cut-cut-requires
 tries-first_cut-cut-requires t c =
@@ -348,9 +328,6 @@ tries-overflow_add-floor t c =
     let x = c.requires.0.tabled in
     omega (arith, c.lead_of.ensures.1, from_small (recorder_of c.args.search.now.r.now) x.valid x.narrow _ _ _ _ _ c.requires.1.1.1.1.1.holds.0)
 
-pub tries-bounds-tally-1 : goal.tries-bounds-tally-1
-tries-bounds-tally-1 t c = omega (arith, c.loop-s.invariant.1)
-
 pub tries-cut_at-cut-requires : goal.tries-cut_at-cut-requires
 tries-cut_at-cut-requires t c =
     let tries-from : c.max-s.result ≡ max c.args.place.now.time (release (recorder_of c.args.search.now.r.now) c.args.j.0) = c.max-s.ensures ∙ ap (max _) (c.from.ensures ∙ c.release_of.ensures) in
@@ -380,8 +357,8 @@ tries-visit-requires t c =
     let g = c.loop-s.invariant.5 o.stop o.left o.vertex o.state o.holds.0 o.holds.1 o.tells in
     (omega arith, (c.loop-s.invariant.7, (c.requires.1.1.1.0, record { stop = o.stop; left = o.left; vertex = o.vertex; state = g.state; holds = tries-tries o.left o.vertex o.holds.0 o.holds.1; tells = g.tells })))
 
-pub tries-returns-then-visit : goal.tries-returns-then-visit
-tries-returns-then-visit t c =
+pub tries-returns-in_err-visit : goal.tries-returns-in_err-visit
+tries-returns-in_err-visit t c =
     let tries-from : c.max-s.result ≡ max c.args.place.now.time (release (recorder_of c.args.search.now.r.now) c.args.j.0) = c.max-s.ensures ∙ ap (max _) (c.from.ensures ∙ c.release_of.ensures) in
     let tries-due : c.loop-s.s + run (recorder_of c.args.search.now.r.now) c.args.j.0 ≤ deadline (recorder_of c.args.search.now.r.now) c.args.j.0 = omega (arith, c.loop-s-test.true, c.loop-s.invariant.4, c.first_cut-cut.ensures) in
     let tries-starts : (m : ℕ) (u : Vertex) → Stands (recorder_of c.args.search.now.r.now) c.args.place.now.v.now c.args.place.now.set c.args.place.now.from m u → u.time ≡ c.args.place.now.time → Starts (recorder_of c.args.search.now.r.now) u c.args.j.0 c.loop-s.s = λ m u stands time. let x = c.requires.0.tabled in
@@ -402,7 +379,7 @@ tries-returns-then-visit t c =
       kept = (e.ensures.kept.0, (e.ensures.kept.1.0, omega (arith, e.ensures.kept.1.1, c.loop-s.invariant.2)));
       came = λ stop m u st stands time tells.
           let g = tries-first stop m u st stands time tells in
-          going_over R stop a.search.now.budget u (λ (x : ℕ). visit_by R stop m (child R u a.j.0 x)) c.loop-s.tally _ _ _ g _ _ (e.ensures.came stop m u g.state (tries-tries m u stands time) g.tells) (start_steady R stop _ m u a.j.0) c.if-visit.true;
+          rw c.from_residual.ensures.0 (going_over R stop a.search.now.budget u (λ (x : ℕ). visit_by R stop m (child R u a.j.0 x)) c.loop-s.tally _ _ _ g _ _ (e.ensures.came stop m u g.state (tries-tries m u stands time) g.tells) (start_steady R stop _ m u a.j.0) (ap is_err c.in_err-visit.was));
     }
 
 pub tries-overflow_add-s : goal.tries-overflow_add-s
@@ -446,7 +423,7 @@ tries-loop-s-preserved t c =
       q.1,
       (λ stop m u st stands time tells.
           let g = tries-first stop m u st stands time tells in
-          going_next R stop a.search.now.budget u (λ (x : ℕ). visit_by R stop m (child R u a.j.0 x)) c.loop-s.tally _ _ _ g _ _ (e.ensures.came stop m u g.state (tries-tries m u stands time) g.tells) c.if-visit.false),
+          going_next R stop a.search.now.budget u (λ (x : ℕ). visit_by R stop m (child R u a.j.0 x)) c.loop-s.tally _ _ _ g _ _ (e.ensures.came stop m u g.state (tries-tries m u stands time) g.tells) (ap is_err c.in_ok-visit.was)),
       omega (arith, tries-early),
       e.ensures.kept.0,
       omega arith,
@@ -456,7 +433,7 @@ pub tries-drops-requires : goal.tries-drops-requires
 tries-drops-requires t c =
     let o = c.requires.1.1.1.1.1 in
     let g = c.loop-s.invariant.5 o.stop o.left o.vertex o.state o.holds.0 o.holds.1 o.tells in
-    (omega (arith, c.requires.1.0, c.requires.0.tabled.valid.few_jobs), (c.loop-s.invariant.6, (c.loop-s.invariant.1, omega (arith, g.tells.count, g.tells.within))))
+    (omega (arith, c.requires.1.0, c.requires.0.tabled.valid.few_jobs), (c.loop-s.invariant.6, omega (arith, g.tells.count, g.tells.within)))
 
 pub tries-returns : goal.tries-returns
 tries-returns t c =
@@ -477,9 +454,6 @@ tries-returns t c =
           g.tells);
     }
 
-pub visit-bounds-tally-0 : goal.visit-bounds-tally-0
-visit-bounds-tally-0 t c = omega (arith, c.requires.1.1.tells.long)
-
 pub visit-returns-then-tally-search : goal.visit-returns-then-tally-search
 visit-returns-then-tally-search t c =
     let x = c.requires.0.tabled in
@@ -491,7 +465,7 @@ visit-returns-then-tally-search t c =
 pub visit-count_one-requires : goal.visit-count_one-requires
 visit-count_one-requires t c =
     let visit-less : count_at c.args.tally.now < c.args.search.now.budget = let o = c.requires.1.1 in omega (arith, o.tells.count, o.tells.within, c.if-tally-search.false) in
-    (c.requires.1.1.tells.long, omega (arith, visit-less))
+    omega (arith, visit-less)
 
 pub visit-returns-then-cut-child : goal.visit-returns-then-cut-child
 visit-returns-then-cut-child t c =
@@ -502,10 +476,6 @@ visit-returns-then-cut-child t c =
       kept = (c.requires.0, (q.0, omega (arith, q.1)));
       came = λ stop m u st tries tells. visit_drops (recorder_of c.args.search.now.r.now) x.valid x.narrow _ _ _ _ _ _ _ _ _ _ _ _ _ tries tells visit-less _ c.count_one.ensures (tries.dropped c.if-cut-child.true);
     }
-
-pub visit-bounds-tally-1 : goal.visit-bounds-tally-1
-visit-bounds-tally-1 t c =
-    omega (arith, (counted_less c.args.tally.now _ c.requires.1.1.tells.long c.count_one.ensures).0)
 
 pub visit-returns-then-tally-child : goal.visit-returns-then-tally-child
 visit-returns-then-tally-child t c =

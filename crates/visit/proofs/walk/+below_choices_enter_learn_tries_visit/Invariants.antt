@@ -9,7 +9,7 @@ use Rattle.schedule.specs.Visiting.{Vertex, Visited, child}
 use Rattle.schedule.specs.Visiting as order
 use Rattle.visit.specs.inside.Stops.{visit_by}
 use Rattle.latest.specs.inside.Sets.{members, size_of}
-use Rattle.visit.specs.inside.Lent.{energy_at, Lends, Tells, Stands}
+use Rattle.visit.specs.inside.Lent.{Long, energy_at, Lends, Tells, Stands}
 use Rattle.visit.proofs.Visits.{job_walk}
 use Rattle.visit.proofs.Going.{Going}
 use Rattle.visit.proofs.Entering.{Cuts}
@@ -35,13 +35,13 @@ abbrev pub decreases-visit : goal.decreases-visit
 decreases-visit l = 6 * size_of l.place.now.set
 
 abbrev pub invariant-choices-loop-j : goal.invariant-choices-loop-j
-invariant-choices-loop-j l = (l.p ≡ 2 ^ l.j) × (l.rest ≡ l.place.set / 2 ^ l.j) × (length l.tally ≡ 35) × (energy_at l.tally ≤ energy_at l.initial.tally)
+invariant-choices-loop-j l = (l.p ≡ 2 ^ l.j) × (l.rest ≡ l.place.set / 2 ^ l.j) × (Long l.tally) × (energy_at l.tally ≤ energy_at l.initial.tally)
     × ((stop : Bool) (m : ℕ) (u : Vertex) (st : Visited) → Stands (recorder_of l.search.r.now) l.place.v.now l.place.set l.place.from m u → u.time ≡ l.place.time → Tells (recorder_of l.search.r.now) stop l.search.budget l.initial.tally u st
     → Going (recorder_of l.search.r.now) stop l.search.budget u (job_walk (recorder_of l.search.r.now) stop m u) l.tally (members l.j (l.n - l.j) l.rest) (order.choices (recorder_of l.search.r.now) (visit_by (recorder_of l.search.r.now) stop m) u st))
     × Lends (recorder_of l.search.r.now) l.search.extras.now l.memory × (length l.memory ≡ length l.initial.memory)
 
 abbrev pub invariant-tries-loop-s : goal.invariant-tries-loop-s
-invariant-tries-loop-s l = (l.initial.s ≤ l.s) × (length l.tally ≡ 35) × (energy_at l.tally ≤ energy_at l.initial.tally) × Cuts (recorder_of l.search.r.now) l.place.v.now (energy_at l.tally) l.place.from l.j.0 l.initial.cut l.cut × (l.cut ≤ l.initial.cut)
+invariant-tries-loop-s l = (l.initial.s ≤ l.s) × (Long l.tally) × (energy_at l.tally ≤ energy_at l.initial.tally) × Cuts (recorder_of l.search.r.now) l.place.v.now (energy_at l.tally) l.place.from l.j.0 l.initial.cut l.cut × (l.cut ≤ l.initial.cut)
     × ((stop : Bool) (m : ℕ) (u : Vertex) (st : Visited) → Stands (recorder_of l.search.r.now) l.place.v.now l.place.set l.place.from m u → u.time ≡ l.place.time → Tells (recorder_of l.search.r.now) stop l.search.budget l.initial.tally u st
     → Going (recorder_of l.search.r.now) stop l.search.budget u (λ (x : ℕ). visit_by (recorder_of l.search.r.now) stop m (child (recorder_of l.search.r.now) u l.j.0 x)) l.tally (up_from l.s (suc (deadline (recorder_of l.search.r.now) l.j.0) - (l.s + run (recorder_of l.search.r.now) l.j.0))) (job_walk (recorder_of l.search.r.now) stop m u l.j.0 st))
     × (l.s ≤ 65536) × Lends (recorder_of l.search.r.now) l.search.extras.now l.memory × (length l.memory ≡ length l.initial.memory)

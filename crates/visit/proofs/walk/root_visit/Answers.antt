@@ -1,13 +1,13 @@
 -- `visit::walk::root_visit` meets its contract.
-use mathlib.Core.Path.{◌≡◌, refl, sym, ap, ◌∙◌}
+use mathlib.Core.Path.{refl, sym, ap, ◌∙◌}
 use Prim.Native.Nat.{ℕ, ◌+◌, ◌≤◌, ◌<◌}
 use native.Mathlib.Omega.{arith}
-use lib.ListN.{length}
 use Rattle.schedule.specs.Visiting.{root, counted}
 use Rattle.flat.specs.inside.Flat.{recorder_of}
 use Rattle.vertex.specs.inside.Shown.{load_at}
 use Rattle.vertex.proofs.Showing.{ordered_later, shown_ordered}
 use Rattle.visit.proofs.Rooted.{bare, root_tells, root_over, root_cut, root_aheads, root_complete, root_some, root_stands, root_one, root_came}
+use Rattle.visit.specs.inside.Lent.{Long}
 use Rattle.visit.proofs.Telling.{counted_less, offered_less}
 use Rattle.visit.proofs.walk.root_visit.Goals as goal
 
@@ -15,7 +15,7 @@ pub returns-then-budget-eq0 : goal.returns-then-budget-eq0
 returns-then-budget-eq0 c = (c.requires.1.0, λ stop e. root_over _ stop _ c.if-budget-eq0.true _ c.requires.1.1.1.0 e)
 
 pub count_one-requires : goal.count_one-requires
-count_one-requires c = (c.requires.1.0, omega (arith, c.requires.1.1.0))
+count_one-requires c = omega (arith, c.requires.1.1.0)
 
 pub root_of-v-requires : goal.root_of-v-requires
 root_of-v-requires c = c.requires.0.tabled.valid
@@ -46,14 +46,9 @@ pub offer-requires : goal.offer-requires
 offer-requires c =
     (counted_less c.args.tally.now _ c.requires.1.0 c.count_one.ensures).0
 
-pub stops-requires : goal.stops-requires
-stops-requires c =
-    let offered-long : length c.offer.new.tally ≡ 35 = (offered_less _ _ _ (counted_less c.args.tally.now _ c.requires.1.0 c.count_one.ensures).0 c.offer.ensures).0 in
-    offered-long
-
 pub returns-then-n-eq0 : goal.returns-then-n-eq0
 returns-then-n-eq0 c =
-    let offered-long : length c.offer.new.tally ≡ 35 = (offered_less _ _ _ (counted_less c.args.tally.now _ c.requires.1.0 c.count_one.ensures).0 c.offer.ensures).0 in
+    let offered-long : Long c.offer.new.tally = (offered_less _ _ _ (counted_less c.args.tally.now _ c.requires.1.0 c.count_one.ensures).0 c.offer.ensures).0 in
     let R = recorder_of c.args.r.now in
     let close = c.close_of in
     let f = c.root_floor-floor in (
@@ -62,7 +57,7 @@ returns-then-n-eq0 c =
           root_complete R stop c.args.budget c.requires.0.tabled.valid _ c.root_of-v.ensures (omega (arith, c.if-from-v.false, c.from.ensures ∙ c.horizon_of.ensures)) c.args.tally.now _
           (root_tells R stop c.args.budget c.args.tally.now c.requires.1.0 c.requires.1.1.0 c.requires.1.1.1.0 q) (omega (arith, c.if-budget-eq0.false)) c.count_one.ensures
           (sym c.job_count-n.ensures ∙ c.if-n-eq0.true) f.result _ f.ensures.0 (ap (λ (y : ℕ). f.result + y) close.ensures.0) (omega (arith, close.ensures.1, f.ensures.1)) _ c.offer.ensures
-          _ c.stops.ensures,
+          _ c.go_on.ensures,
     )
 
 pub all_jobs-requires : goal.all_jobs-requires
