@@ -15,7 +15,10 @@ use table_bytes::{is_tables, tables_from};
 fn opens_to(given: &[u8], res: usize) -> bool
     ensures { Decides result (AreTables given.now × Deviceless given.now × (11 ≤ res)) }
 {
-    RESULT <= res && is_tables(given) && given[0] == 1 && pair_at(given, 3) == 0
+    if res < RESULT || !is_tables(given) {
+        return false;
+    }
+    given[0] == 1 && pair_at(given, 3) == 0
 }
 
 pub fn door_build(parts: &[u8], wanted: &[u8], given: &[u8], out: &mut [u8], res: &mut [u8]) -> u8

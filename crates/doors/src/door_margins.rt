@@ -1,7 +1,8 @@
 // The door to the margins: four bytes each.
+ghost use Rattle.std.specs.Prelude.{◌≡◌};
 ghost use Rattle.planner.specs.Answers.{answered};
 ghost use Rattle.planner.specs.Promises.{OfFile};
-ghost use Rattle.doors.specs.Promises.{MarginsSpelled, MarginsDoor};
+ghost use Rattle.doors.specs.Promises.{complement, MarginsSpelled, MarginsDoor};
 
 use calls::tell;
 use doorway::{SHUT, hand_starts, is_open, put_fours};
@@ -14,7 +15,11 @@ fn margin_bytes(file: &[u8], starts: &[u16], out: &mut [u8]) -> Result<Figures, 
     let mut room = [0i32; 16];
     let places = (out.len() / 4).min(16);
     let figures = margins(file, starts, &mut room[..places])?;
-    let words = room.map(|margin| margin.cast_unsigned());
+    let words = room.map(
+        |margin: i32| -> u32
+            ensures { result ≡ complement margin }
+        { margin.cast_unsigned() },
+    );
     let jobs = starts.len().min(places);
     put_fours(&words[..jobs], out);
     Ok(figures)

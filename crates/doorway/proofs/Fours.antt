@@ -5,7 +5,7 @@ use Prim.Native.Nat.{ℕ, zero, suc, ◌+◌, ◌*◌, ◌/◌, ◌%◌, ◌≤�
 use native.Mathlib.Omega.{arith}
 use native.Mathlib.Numerals.{add-one}
 use lib.ListN.{length, get_or, take, drop}
-use lib.Seq.{take-append-le, length-take-le, get_or-take}
+use lib.Seq.{length-take-le, get_or-take}
 use borrow.Rule.Slice.PartMut.{put_mid}
 use Rattle.base.proofs.Filling.{Filled, filled_none, filled_part}
 use Rattle.tables.specs.Layout.{joined}
@@ -39,9 +39,9 @@ unfolding joined
 fours_same f g zero h = refl
 fours_same f g (suc n) h = rw (fours_same f g n (λ i l. h i (omega arith)), h n (omega arith))
 
--- Numbers that were filled into the front of a list, and their first n written to lent bytes.
-pub fours_front : (filled rest lent after : List ℕ) (n j : ℕ) → j ≡ n → n ≤ length filled
-    → after ≡ fours (λ i. get_or (take j (filled ++ rest)) i 0) (length (take j (filled ++ rest))) lent → after ≡ fours (λ i. get_or filled i 0) n lent
-fours_front filled rest lent after n j same h e =
-    e ∙ rw (same, take-append-le n filled rest h, length-take-le n filled h)
-    (ap (λ (m : List ℕ). m ++ drop (n * 4) lent) (fours_same (λ i. get_or (take n filled) i 0) (λ i. get_or filled i 0) n (λ i l. get_or-take n filled i 0 l)))
+-- The first n numbers of a list, which are a function's values, written to lent bytes.
+pub fours_front : (f : ℕ → ℕ) (all lent after : List ℕ) (n j : ℕ) → j ≡ n → n ≤ length all → ((i : ℕ) → i < n → get_or all i 0 ≡ f i)
+    → after ≡ fours (λ i. get_or (take j all) i 0) (length (take j all)) lent → after ≡ fours f n lent
+fours_front f all lent after n j same h each e =
+    e ∙ rw (same, length-take-le n all h)
+    (ap (λ (m : List ℕ). m ++ drop (n * 4) lent) (fours_same (λ i. get_or (take n all) i 0) f n (λ i l. get_or-take n all i 0 l ∙ each i l)))
