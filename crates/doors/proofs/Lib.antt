@@ -1,4 +1,3 @@
-pub mod Signs
 pub mod Places
 pub mod Rooms
 pub mod Mending
