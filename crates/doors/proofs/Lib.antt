@@ -1,4 +1,4 @@
-pub mod Signs
+pub mod Places
 pub mod Rooms
 pub mod Mending
 pub mod Tabled

@@ -1,11 +1,11 @@
 -- The tables of a file fit their lists, and their bytes are copied whole.
 use mathlib.Core.Path.{◌≡◌, refl, ap, ◌∙◌}
 use mathlib.Core.Bool.{Bool, true, false, cond}
-use mathlib.Core.List.{List, ◌++◌}
+use mathlib.Core.List.{List}
 use Prim.Native.Nat.{ℕ, ◌+◌, ◌≤◌}
 use native.Mathlib.Omega.{arith}
 use lib.Dec.{ltb}
-use lib.ListN.{length, take, drop}
+use lib.ListN.{length, take}
 use Rattle.base.specs.Bytes.{byte_at, pair_at}
 use Rattle.schedule.specs.declared.Recorder.{Recorder}
 use Rattle.tables.specs.declared.Kind.{Kind}
@@ -39,18 +39,16 @@ pub listed_few : (file : List ℕ) (r : Listing) → TablesGiven file r → r.an
 listed_few file r l z = few_of file r.answer r.tables l z
 
 -- What a file in its array holds.
-pub held_count : (made : File) (l : List ℕ) → made ≡ held l → made.count ≡ length l
-unfolding held
-held_count made l e = ap (λ (f : File). f.count) e
+module _ (l : List ℕ) (made : File) (e : (made ≡ held l) × (made.count ≤ 273)) where
+  pub made_count : made.count ≡ length l
+  unfolding held
+  made_count = ap (λ (f : File). f.count) e.0
 
-pub held_room : (made : File) (l : List ℕ) → made ≡ held l → length l ≤ 297 → made.count ≤ length made.bytes
-held_room made l e h = rw e (held_long l h)
+  pub made_room : made.count ≤ length made.bytes
+  made_room = rw e.0 (held_long l (omega (arith, e.1, made_count)))
 
-pub held_copied : (made : File) (l lent after : List ℕ) → made ≡ held l
-    → after ≡ take made.count made.bytes ++ drop (length (take made.count made.bytes)) lent → after ≡ l ++ drop (length l) lent
-held_copied made l lent after e c =
-    let front : take made.count made.bytes ≡ l = ap (λ (f : File). take f.count f.bytes) e ∙ held_front l in
-    c ∙ ap (λ (x : List ℕ). x ++ drop (length x) lent) front
+  pub made_taken : take made.count made.bytes ≡ l
+  made_taken = ap (λ (f : File). take f.count f.bytes) e.0 ∙ held_front l
 
 -- ---- what a kind tells
 

@@ -8,22 +8,17 @@ use base::pair_at;
 use calls::{RESULT, tell};
 use catalogue::build;
 use doorway::SHUT;
+use planner::told;
 use table_bytes::{is_tables, tables_from};
 
 // The tables that are given are of the first kind and have no devices: these are looked up.
 fn opens_to(given: &[u8], res: usize) -> bool
     ensures { Decides result (AreTables given.now × Deviceless given.now × (11 ≤ res)) }
 {
-    if res < RESULT {
+    if res < RESULT || !is_tables(given) {
         return false;
     }
-    if !is_tables(given) {
-        return false;
-    }
-    if given[0] != 1 {
-        return false;
-    }
-    pair_at(given, 3) == 0
+    given[0] == 1 && pair_at(given, 3) == 0
 }
 
 pub fn door_build(parts: &[u8], wanted: &[u8], given: &[u8], out: &mut [u8], res: &mut [u8]) -> u8
@@ -33,5 +28,6 @@ pub fn door_build(parts: &[u8], wanted: &[u8], given: &[u8], out: &mut [u8], res
         return SHUT;
     }
     let t = tables_from(given);
-    tell(build(parts, wanted, t.horizon, t.tasks, t.jobs, out), res)
+    let built = build(parts, wanted, t.horizon, t.tasks, t.jobs, out);
+    tell(told(built), res)
 }

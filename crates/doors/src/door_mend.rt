@@ -1,4 +1,5 @@
 // The door to mending: two bytes a number, in the given starts, the new ones and the moves.
+ghost use Rattle.planner.specs.Answers.{answered};
 ghost use Rattle.planner.specs.Promises.{OfFile};
 ghost use Rattle.mend.specs.Promises.{lending};
 ghost use Rattle.doors.specs.Promises.{MendSpelled, MendDoor};
@@ -6,24 +7,27 @@ ghost use Rattle.doors.specs.Promises.{MendSpelled, MendDoor};
 use calls::{put_starts, tell};
 use doorway::{SHUT, hand_starts, is_open};
 use mend::mend;
-use planner::Answer;
+use planner::{Figures, Refusal, told};
 
 // What is lent beyond the new starts and the moves stays as it was.
-fn mend_bytes(file: &[u8], given: &[u16], out: &mut [u8], moved: &mut [u8]) -> Answer
-    ensures { OfFile file.now (lending out.old moved.old) (MendSpelled given.now (lending out.old moved.old)) result (lending out.new moved.new) }
+fn mend_bytes(
+    file: &[u8],
+    given: &[u16],
+    out: &mut [u8],
+    moved: &mut [u8],
+) -> Result<Figures, Refusal>
+    ensures { OfFile file.now (lending out.old moved.old) (MendSpelled given.now (lending out.old moved.old)) (answered result) (lending out.new moved.new) }
 {
     let mut starts = [0u16; 16];
     let mut moves = [0u16; 48];
     let places = (out.len() / 2).min(16);
     let numbers = (moved.len() / 2).min(48);
-    let answer = mend(file, given, &mut starts[..places], &mut moves[..numbers]);
-    if answer.number == 0 {
-        let jobs = given.len().min(places);
-        put_starts(&starts[..jobs], out);
-        let listed = (answer.count as usize * 3).min(numbers);
-        put_starts(&moves[..listed], moved);
-    }
-    answer
+    let figures = mend(file, given, &mut starts[..places], &mut moves[..numbers])?;
+    let jobs = given.len().min(places);
+    put_starts(&starts[..jobs], out);
+    let listed = (figures.count as usize * 3).min(numbers);
+    put_starts(&moves[..listed], moved);
+    Ok(figures)
 }
 
 pub fn door_mend(file: &[u8], starts: &[u8], out: &mut [u8], moved: &mut [u8], res: &mut [u8]) -> u8
@@ -34,5 +38,5 @@ pub fn door_mend(file: &[u8], starts: &[u8], out: &mut [u8], moved: &mut [u8], r
     }
     let mut own = [0u16; 17];
     let n = hand_starts(starts, &mut own);
-    tell(mend_bytes(file, &own[..n], out, moved), res)
+    tell(told(mend_bytes(file, &own[..n], out, moved)), res)
 }

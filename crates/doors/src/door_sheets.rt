@@ -3,6 +3,7 @@ ghost use Rattle.doors.specs.Promises.{ImportDevicesDoor, ImportJobsDoor, Export
 
 use calls::{RESULT, tell};
 use doorway::{SHUT, hand_starts, is_open};
+use planner::told;
 use sheet_export::{export_devices, export_jobs, export_plan};
 use sheet_import::{import_devices, import_jobs};
 
@@ -12,7 +13,7 @@ pub fn door_import_devices(text: &[u8], out: &mut [u8], res: &mut [u8]) -> u8
     if res.len() < RESULT {
         return SHUT;
     }
-    tell(import_devices(text, out), res)
+    tell(told(import_devices(text, out)), res)
 }
 
 pub fn door_export_devices(catalogue: &[u8], out: &mut [u8], res: &mut [u8]) -> u8
@@ -21,7 +22,7 @@ pub fn door_export_devices(catalogue: &[u8], out: &mut [u8], res: &mut [u8]) -> 
     if res.len() < RESULT {
         return SHUT;
     }
-    tell(export_devices(catalogue, out), res)
+    tell(told(export_devices(catalogue, out)), res)
 }
 
 pub fn door_import_jobs(text: &[u8], out: &mut [u8], res: &mut [u8]) -> u8
@@ -30,7 +31,7 @@ pub fn door_import_jobs(text: &[u8], out: &mut [u8], res: &mut [u8]) -> u8
     if res.len() < RESULT {
         return SHUT;
     }
-    tell(import_jobs(text, out), res)
+    tell(told(import_jobs(text, out)), res)
 }
 
 pub fn door_export_jobs(records: &[u8], out: &mut [u8], res: &mut [u8]) -> u8
@@ -39,7 +40,7 @@ pub fn door_export_jobs(records: &[u8], out: &mut [u8], res: &mut [u8]) -> u8
     if res.len() < RESULT {
         return SHUT;
     }
-    tell(export_jobs(records, out), res)
+    tell(told(export_jobs(records, out)), res)
 }
 
 pub fn door_export_plan(file: &[u8], starts: &[u8], out: &mut [u8], res: &mut [u8]) -> u8
@@ -50,5 +51,5 @@ pub fn door_export_plan(file: &[u8], starts: &[u8], out: &mut [u8], res: &mut [u
     }
     let mut own = [0u16; 17];
     let n = hand_starts(starts, &mut own);
-    tell(export_plan(file, &own[..n], out), res)
+    tell(told(export_plan(file, &own[..n], out)), res)
 }

@@ -1,29 +1,30 @@
 // The door to the tables of a file.
+ghost use Rattle.planner.specs.Answers.{answered};
 ghost use Rattle.doors.specs.Promises.{TablesTold, TablesDoor};
 
-use base::copy;
+use base::Reason;
 use calls::{RESULT, tell};
 use doorway::SHUT;
-use planner::{Answer, refusal, success, tables_of};
+use planner::{Figures, Refusal, tables_of, told};
 use table_bytes::bytes_of;
 
 // 15 where the bytes do not fit; what is lent beyond them stays as it was.
-fn listing_bytes(file: &[u8], out: &mut [u8]) -> Answer
-    ensures { TablesTold file.now out.old result out.new }
+fn listing_bytes(file: &[u8], out: &mut [u8]) -> Result<Figures, Refusal>
+    ensures { TablesTold file.now out.old (answered result) out.new }
 {
-    let listing = tables_of(file);
-    if listing.answer.number != 0 {
-        return listing.answer;
-    }
-    let t = listing.tables;
-    let made = bytes_of(t);
+    let listing = tables_of(file)?;
+    let made = bytes_of(listing.tables);
     let n = made.count;
     if out.len() < n {
-        return refusal(15);
+        return Err(Refusal::from(Reason::NoRoom));
     }
     let bytes = made.bytes;
-    copy(&bytes[..n], out);
-    success(listing.answer.horizon, 0, n as u32)
+    out[..n].copy_from_slice(&bytes[..n]);
+    Ok(Figures {
+        horizon: listing.horizon,
+        energy: 0,
+        count: n as u32,
+    })
 }
 
 pub fn door_tables(file: &[u8], out: &mut [u8], res: &mut [u8]) -> u8
@@ -32,5 +33,5 @@ pub fn door_tables(file: &[u8], out: &mut [u8], res: &mut [u8]) -> u8
     if res.len() < RESULT {
         return SHUT;
     }
-    tell(listing_bytes(file, out), res)
+    tell(told(listing_bytes(file, out)), res)
 }

@@ -1,11 +1,11 @@
 -- Numbers of four bytes, written one after the other to lent bytes.
 use mathlib.Core.Path.{◌≡◌, refl, ap, ◌∙◌}
-use mathlib.Core.List.{List, ◌++◌}
-use Prim.Native.Nat.{ℕ, zero, suc, ◌+◌, ◌*◌, ◌≤◌, ◌<◌}
+use mathlib.Core.List.{List, [], ◌∷◌, ◌++◌}
+use Prim.Native.Nat.{ℕ, zero, suc, ◌+◌, ◌*◌, ◌/◌, ◌%◌, ◌≤◌, ◌<◌}
 use native.Mathlib.Omega.{arith}
 use native.Mathlib.Numerals.{add-one}
 use lib.ListN.{length, get_or, take, drop}
-use lib.Seq.{take-append-le, length-take-le, get_or-take}
+use lib.Seq.{length-take-le, get_or-take}
 use borrow.Rule.Slice.PartMut.{put_mid}
 use Rattle.base.proofs.Filling.{Filled, filled_none, filled_part}
 use Rattle.tables.specs.Layout.{joined}
@@ -25,16 +25,23 @@ fours_more f {l₀} {l} j k four w room m e =
     rw (add-one j, four)
     (filled_part (λ n. big n (f j)) (λ n. length_big n (f j)) w 4 (suc j * 4) (omega arith) (omega arith) m (e ∙ ap (λ (i : ℕ). big (length (take i (drop (j * 4) l))) (f j)) four))
 
+-- The four bytes of a number, as the code gives them.
+pub big_four : (x : ℕ) → x / 16777216 % 256 ∷ x / 65536 % 256 ∷ x / 256 % 256 ∷ x % 256 ∷ [] ≡ big 4 x
+unfolding big
+big_four x =
+    let two : x / 256 / 256 ≡ x / 65536 = omega arith in
+    let three : x / 256 / 256 / 256 ≡ x / 16777216 = omega arith in
+    rw (three, two) refl
+
 -- Values that are the same are written the same.
 pub fours_same : (f g : ℕ → ℕ) (n : ℕ) → ((i : ℕ) → i < n → f i ≡ g i) → joined (λ i. big 4 (f i)) n ≡ joined (λ i. big 4 (g i)) n
 unfolding joined
 fours_same f g zero h = refl
 fours_same f g (suc n) h = rw (fours_same f g n (λ i l. h i (omega arith)), h n (omega arith))
 
--- Numbers that were filled into the front of a list, and their first n written to lent bytes.
-pub fours_front : {A : Type 0} (f : A → ℕ) (z : A) (filled rest : List A) (lent after : List ℕ) (n j : ℕ) → j ≡ n → n ≤ length filled
-    → after ≡ fours (λ i. f (get_or (take j (filled ++ rest)) i z)) (length (take j (filled ++ rest))) lent → after ≡ fours (λ i. f (get_or filled i z)) n lent
-fours_front f z filled rest lent after n j same h e =
-    e ∙ rw (same, take-append-le n filled rest h, length-take-le n filled h)
-    (ap (λ (m : List ℕ). m ++ drop (n * 4) lent)
-    (fours_same (λ i. f (get_or (take n filled) i z)) (λ i. f (get_or filled i z)) n (λ i l. ap f (get_or-take n filled i z l))))
+-- The first n numbers of a list, which are a function's values, written to lent bytes.
+pub fours_front : (f : ℕ → ℕ) (all lent after : List ℕ) (n j : ℕ) → j ≡ n → n ≤ length all → ((i : ℕ) → i < n → get_or all i 0 ≡ f i)
+    → after ≡ fours (λ i. get_or (take j all) i 0) (length (take j all)) lent → after ≡ fours f n lent
+fours_front f all lent after n j same h each e =
+    e ∙ rw (same, length-take-le n all h)
+    (ap (λ (m : List ℕ). m ++ drop (n * 4) lent) (fours_same (λ i. get_or (take n all) i 0) f n (λ i l. get_or-take n all i 0 l ∙ each i l)))

@@ -27,9 +27,9 @@ use Rattle.doorway.specs.Doors.{Door, shut, answered, starts_of}
 use Rattle.doorway.specs.inside.Handing.{Handed, whole, many}
 
 -- An open door, by what is told.
-pub answered_as : {L Open : Type 0} (result : List ℕ) (lent : L) (Then : Answer → L → Type 0) {a : Answer} {after : L} {n : ℕ} {r : List ℕ}
-    → n ≡ a.number → r ≡ told a result → Open → Then a after → Door Open result lent Then n r after
-answered_as result lent Then m e o t = rw (m, e) (answered o t)
+pub answered_as : {L Open : Type 0} (result : List ℕ) (lent : L) (Then : Answer → L → Type 0) {a b : Answer} {after : L} {n : ℕ} {r : List ℕ}
+    → (n ≡ b.number) × (r ≡ told b result) → b ≡ a → Open → Then a after → Door Open result lent Then n r after
+answered_as result lent Then m e o t = rw (m.0, m.1, e) (answered o t)
 
 -- ---- no second outcome
 

@@ -32,8 +32,8 @@ write_starts-requires c = let r = room (goal.at.write_starts-requires c).After-s
 pub list_moves-count-requires : goal.list_moves-count-requires
 list_moves-count-requires c = let r = room (goal.at.list_moves-count-requires c).After-settle in omega (arith, c.if-given-n.false, c.requires)
 
-pub overflow_cast-count : goal.overflow_cast-count
-overflow_cast-count c =
+pub overflow_cast-result : goal.overflow_cast-result
+overflow_cast-result c =
     let g = c.args.given.now in
     let few = moves_few g c.in-Ok.new (length g) in
     rw c.list_moves-count.ensures.number (omega (arith, c.if-given-n.false, c.requires))

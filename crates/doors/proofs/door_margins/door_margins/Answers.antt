@@ -17,4 +17,4 @@ returns c =
     let s = c.args in
     let told = c.tell.ensures in
     let opens = c.is_open.ensures.0 c.if-not-is_open.false in
-    rw (told.0, told.1) (answered opens (margins_all s.file.now s.out.now c.hand_starts-n.ensures.1 c.margin_bytes.ensures))
+    rw (told.0, told.1, c.told.ensures) (answered opens (margins_all s.file.now s.out.now c.hand_starts-n.ensures.1 c.margin_bytes.ensures))

@@ -7,4 +7,4 @@ pub returns-then-res-lt-RESULT : goal.returns-then-res-lt-RESULT
 returns-then-res-lt-RESULT c = shut (λ r. omega (arith, r, c.if-res-lt-RESULT.true))
 
 pub returns : goal.returns
-returns c = let told = c.tell.ensures in rw (told.0, told.1) (answered c.if-res-lt-RESULT.false c.export_devices.ensures)
+returns c = let told = c.tell.ensures in rw (told.0, told.1, c.told.ensures) (answered c.if-res-lt-RESULT.false c.export_devices.ensures)

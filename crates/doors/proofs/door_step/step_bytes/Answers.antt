@@ -1,15 +1,17 @@
 -- `doors::door_step::step_bytes` meets its contract.
-use mathlib.Core.Path.{◌≡◌, sym, ◌∙◌}
-use mathlib.Core.List.{List}
-use Prim.Native.Nat.{ℕ, ◌/◌, min}
+use mathlib.Core.Path.{refl, sym}
+use mathlib.Core.List.{List, ◌++◌}
+use Prim.Native.Nat.{ℕ, ◌/◌}
 use native.Mathlib.Omega.{arith}
-use lib.ListN.{length, take, drop, replicate}
+use lib.ListN.{length, get_or, take, drop, replicate, length-append, get_or-append}
 use lib.Seq.{length-take-le}
-use Rattle.schedule.specs.Quantities.{Valid}
-use Rattle.request.proofs.Accepted.{read_accepted, read_refused, accepted_valid}
-use Rattle.planner.specs.Promises.{OfFile, Reads}
+use Rattle.std.proofs.lemmas.Result.{err_from_is_err_and}
+use Rattle.base.proofs.Numbered.{not_0}
+use Rattle.request.proofs.Accepted.{accepted_valid}
+use Rattle.planner.specs.Promises.{OfFile}
 use Rattle.calls.proofs.Crossing.{front_room}
 use Rattle.doorway.proofs.Fours.{fours_front}
+use Rattle.doors.proofs.Places.{own_lent, front_taken}
 use Rattle.doors.proofs.Stepping.{steps_room, steps_kept, steps_given}
 use Rattle.doors.proofs.door_step.step_bytes.Goals as goal
 
@@ -17,49 +19,49 @@ use Rattle.doors.proofs.door_step.step_bytes.Goals as goal
 abbrev zeros : List ℕ
 zeros = replicate 8 0
 
-pub returns-then-request-ne0 : goal.returns-then-request-ne0
-returns-then-request-ne0 c = rw c.refusal.ensures (OfFile.refused (read_refused _ _ c.read-request.ensures c.if-request-ne0.true))
+pub returns-in_err-recorder : goal.returns-in_err-recorder
+returns-in_err-recorder c =
+    let p = err_from_is_err_and c.from_residual.result c.from_residual.ensures.1 in
+    rw (p.1, p.2) (OfFile.refused (sym c.in_err-recorder.ensures))
 
 pub slice_bounds-steps_of-end : goal.slice_bounds-steps_of-end
-slice_bounds-steps_of-end c = sym (length-take-le _ _ (omega (arith, c.fewer-places.ensures)))
+slice_bounds-steps_of-end c = sym (length-take-le _ _ (omega (arith, c.min-places.ensures)))
 
-pub steps_of-answer-requires : goal.steps_of-answer-requires
-steps_of-answer-requires c =
-    let recorded : Reads c.args.file.now c.read-request.result.recorder = read_accepted _ _ c.read-request.ensures c.if-request-ne0.false in
-    let valid : Valid c.read-request.result.recorder = accepted_valid _ _ recorded in
-    valid
+pub steps_of-requires : goal.steps_of-requires
+steps_of-requires c = accepted_valid _ _ (sym c.in_ok-recorder.ensures)
 
-pub slice_bounds-room-end-then-answer-eq0 : goal.slice_bounds-room-end-then-answer-eq0
-slice_bounds-room-end-then-answer-eq0 c = front_room zeros c.steps_of-answer.new.energies c.fewer-places.result c.fewer-devices.result (omega (arith, c.fewer-places.ensures)) (omega (arith, c.fewer-devices.ensures)) c.steps_of-answer.auto.energies
-
-pub slice_bounds-put_energies-end : goal.slice_bounds-put_energies-end
-slice_bounds-put_energies-end c = sym (length-take-le _ _ (front_room zeros c.steps_of-answer.new.energies c.fewer-places.result c.fewer-devices.result (omega (arith, c.fewer-places.ensures)) (omega (arith, c.fewer-devices.ensures)) c.steps_of-answer.auto.energies))
-
-pub put_energies-requires : goal.put_energies-requires
-put_energies-requires c = rw (length-take-le _ _ (front_room zeros c.steps_of-answer.new.energies c.fewer-places.result c.fewer-devices.result (omega (arith, c.fewer-places.ensures)) (omega (arith, c.fewer-devices.ensures)) c.steps_of-answer.auto.energies)) (omega (arith, c.fewer-devices.ensures, c.fewer-places.ensures))
-
-pub returns-then-answer-eq0 : goal.returns-then-answer-eq0
-returns-then-answer-eq0 c =
-    let recorded : Reads c.args.file.now c.read-request.result.recorder = read_accepted _ _ c.read-request.ensures c.if-request-ne0.false in
-    let valid : Valid c.read-request.result.recorder = accepted_valid _ _ recorded in
-    let owned : length (take c.fewer-places.result zeros) ≡ min (length c.args.out.now / 4) 8 = length-take-le c.fewer-places.result zeros (omega (arith, c.fewer-places.ensures)) ∙ c.fewer-places.ensures in
+pub returns-in_err-figures : goal.returns-in_err-figures
+returns-in_err-figures c =
+    let p = err_from_is_err_and c.from_residual-in_err-figures.result c.from_residual-in_err-figures.ensures.1 in
     let s = c.args in
-    let p = c.fewer-places in
-    let a = c.steps_of-answer in
-    let z = c.if-answer-eq0.true in
-    let R = c.read-request.result.recorder in
-    let own = take p.result zeros in
-    let fits = owned in
-    let few = valid.few_devices in
-    let room = steps_room s.file.now s.starts.now s.out.now R few own fits z a.ensures in
-    rw (fours_front (λ x. x) 0 a.new.energies (drop p.result zeros) s.out.now _ R.devices.count c.fewer-devices.result (omega (arith, c.fewer-devices.ensures, room.0, fits, p.ensures)) room.1 c.put_energies.ensures)
-    (OfFile.read recorded (steps_given s.file.now s.starts.now s.out.now R few own fits z a.ensures))
+    let n = c.min-places in
+    let r = sym c.in_ok-recorder.ensures in
+    rw (p.1, p.2)
+    (OfFile.read r
+    (steps_kept s.file.now s.starts.now s.out.now c.in_ok-recorder.recorder (accepted_valid _ _ r).few_devices (take n.result zeros)
+    (own_lent zeros n.result (length s.out.now / 4) 8 n.ensures (omega arith)) (not_0 _) c.in_err-figures.ensures))
 
-pub returns-else-answer-eq0 : goal.returns-else-answer-eq0
-returns-else-answer-eq0 c =
-    let recorded : Reads c.args.file.now c.read-request.result.recorder = read_accepted _ _ c.read-request.ensures c.if-request-ne0.false in
-    let valid : Valid c.read-request.result.recorder = accepted_valid _ _ recorded in
-    let owned : length (take c.fewer-places.result zeros) ≡ min (length c.args.out.now / 4) 8 = length-take-le c.fewer-places.result zeros (omega (arith, c.fewer-places.ensures)) ∙ c.fewer-places.ensures in
+pub slice_bounds-room-end-2 : goal.slice_bounds-room-end-2
+slice_bounds-room-end-2 c = front_room zeros c.steps_of.new.energies c.min-places.result c.min-devices.result (omega (arith, c.min-places.ensures)) (omega (arith, c.min-devices.ensures)) c.steps_of.auto.energies
+
+pub slice_bounds-put_fours-end : goal.slice_bounds-put_fours-end
+slice_bounds-put_fours-end c = sym (front_taken zeros c.steps_of.new.energies c.min-places.result c.min-devices.result (omega (arith, c.min-places.ensures)) (omega (arith, c.min-devices.ensures)) c.steps_of.auto.energies)
+
+pub put_fours-requires : goal.put_fours-requires
+put_fours-requires c = rw (front_taken zeros c.steps_of.new.energies c.min-places.result c.min-devices.result (omega (arith, c.min-places.ensures)) (omega (arith, c.min-devices.ensures)) c.steps_of.auto.energies) (omega (arith, c.min-devices.ensures, c.min-places.ensures))
+
+pub returns : goal.returns
+returns c =
     let s = c.args in
-    OfFile.read recorded
-    (steps_kept s.file.now s.starts.now s.out.now c.read-request.result.recorder valid.few_devices (take c.fewer-places.result zeros) owned c.if-answer-eq0.false c.steps_of-answer.ensures)
+    let n = c.min-places in
+    let R = c.in_ok-recorder.recorder in
+    let r = sym c.in_ok-recorder.ensures in
+    let few = (accepted_valid _ _ r).few_devices in
+    let own = take n.result zeros in
+    let fits = own_lent zeros n.result (length s.out.now / 4) 8 n.ensures (omega arith) in
+    let found = c.in_ok-figures.ensures in
+    let room = steps_room s.file.now s.starts.now s.out.now R few own fits refl found in
+    let e = c.steps_of.new.energies in
+    rw (fours_front (λ k. get_or e k 0) (e ++ drop n.result zeros) s.out.now _ R.devices.count c.min-devices.result (omega (arith, c.min-devices.ensures, room.0, fits, n.ensures))
+    (omega (arith, room.1, length-append e (drop n.result zeros))) (λ k l. get_or-append e (drop n.result zeros) 0 k (omega (arith, l, room.1))) c.put_fours.ensures)
+    (OfFile.read r (steps_given s.file.now s.starts.now s.out.now R few own fits refl found))

@@ -1,44 +1,41 @@
 -- `doors::door_tables::listing_bytes` meets its contract.
-use mathlib.Core.Path.{sym}
+use mathlib.Core.Path.{refl, sym, ◌∙◌}
 use native.Mathlib.Omega.{arith}
 use lib.Seq.{length-take-le}
+use Rattle.std.proofs.lemmas.Result.{err_from_is_err_and}
+use Rattle.base.proofs.Numbered.{not_0}
 use Rattle.planner.specs.Promises.{stops, gives}
 use Rattle.planner.proofs.Refusing.{unless_equal, unless_enough}
-use Rattle.table_bytes.specs.TableBytes.{table_bytes}
 use Rattle.doors.specs.Promises.{told}
-use Rattle.doors.proofs.Tabled.{listed_few, held_count, held_room, held_copied}
+use Rattle.doors.proofs.Tabled.{listed_few, made_count, made_room, made_taken}
 use Rattle.doors.proofs.door_tables.listing_bytes.Goals as goal
 
-pub returns-then-listing-ne0 : goal.returns-then-listing-ne0
-returns-then-listing-ne0 c = told c.tables_of-listing.ensures (stops c.if-listing-ne0.true)
+pub returns-in_err-listing : goal.returns-in_err-listing
+returns-in_err-listing c =
+    let p = err_from_is_err_and c.from_residual.result c.from_residual.ensures.1 in
+    rw (p.1, p.2) (told c.in_err-listing.ensures (stops (not_0 _)))
 
 pub bytes_of-made-requires : goal.bytes_of-made-requires
-bytes_of-made-requires c = listed_few c.args.file.now c.tables_of-listing.result c.tables_of-listing.ensures c.if-listing-ne0.false
+bytes_of-made-requires c = listed_few c.args.file.now _ c.in_ok-listing.ensures refl
 
 pub returns-then-out-n : goal.returns-then-out-n
 returns-then-out-n c =
-    let m = c.bytes_of-made in
-    let l = c.tables_of-listing in
-    rw c.refusal.ensures
-    (told l.ensures (unless_equal c.if-listing-ne0.false (stops (omega (arith, c.if-out-n.true, held_count m.result (table_bytes l.result.tables) m.ensures.0)))))
+    rw c.from.ensures (told c.in_ok-listing.ensures (unless_equal refl (stops (omega (arith, c.if-out-n.true, made_count _ _ c.bytes_of-made.ensures)))))
+
+pub slice_bounds-copy_from_slice-end-3 : goal.slice_bounds-copy_from_slice-end-3
+slice_bounds-copy_from_slice-end-3 c = sym (length-take-le _ _ (made_room _ _ c.bytes_of-made.ensures))
 
 pub slice_bounds-bytes-end : goal.slice_bounds-bytes-end
-slice_bounds-bytes-end c = held_room c.bytes_of-made.result (table_bytes c.tables_of-listing.result.tables) c.bytes_of-made.ensures.0 (omega (arith, c.bytes_of-made.ensures.1, held_count c.bytes_of-made.result (table_bytes c.tables_of-listing.result.tables) c.bytes_of-made.ensures.0))
+slice_bounds-bytes-end c = made_room _ _ c.bytes_of-made.ensures
 
-pub slice_bounds-copy-end : goal.slice_bounds-copy-end
-slice_bounds-copy-end c = sym (length-take-le _ _ (held_room c.bytes_of-made.result (table_bytes c.tables_of-listing.result.tables) c.bytes_of-made.ensures.0 (omega (arith, c.bytes_of-made.ensures.1, held_count c.bytes_of-made.result (table_bytes c.tables_of-listing.result.tables) c.bytes_of-made.ensures.0))))
+pub copy_from_slice-requires : goal.copy_from_slice-requires
+copy_from_slice-requires c = length-take-le _ _ c.if-out-n.false ∙ sym (length-take-le _ _ (made_room _ _ c.bytes_of-made.ensures))
 
-pub copy-requires : goal.copy-requires
-copy-requires c = rw (length-take-le _ _ (held_room c.bytes_of-made.result (table_bytes c.tables_of-listing.result.tables) c.bytes_of-made.ensures.0 (omega (arith, c.bytes_of-made.ensures.1, held_count c.bytes_of-made.result (table_bytes c.tables_of-listing.result.tables) c.bytes_of-made.ensures.0)))) (omega (arith, c.if-out-n.false))
-
-pub overflow_cast-n : goal.overflow_cast-n
-overflow_cast-n c = omega (arith, c.bytes_of-made.ensures.1)
+pub overflow_cast-result : goal.overflow_cast-result
+overflow_cast-result c = omega (arith, c.bytes_of-made.ensures.1)
 
 pub returns : goal.returns
 returns c =
-    let m = c.bytes_of-made in
-    let l = c.tables_of-listing in
-    let t = table_bytes l.result.tables in
-    let count = held_count m.result t m.ensures.0 in
-    rw (c.success.ensures, held_copied m.result t c.args.out.now _ m.ensures.0 c.copy.ensures, count)
-    (told l.ensures (unless_equal c.if-listing-ne0.false (unless_enough (omega (arith, c.if-out-n.false, count)) gives)))
+    let m = c.bytes_of-made.ensures in
+    let made = c.copy_from_slice.ensures.after ∙ made_taken _ _ m in
+    rw (made, made_count _ _ m) (told c.in_ok-listing.ensures (unless_equal refl (unless_enough (omega (arith, c.if-out-n.false, made_count _ _ m)) gives)))

@@ -16,7 +16,6 @@ slice_bounds-verdict-end c = sym (length-take-le _ _ (omega (arith, c.hand_start
 pub returns : goal.returns
 returns c =
     let s = c.args in
-    let told = c.tell.ensures in
     let opens = c.is_open.ensures.0 c.if-not-is_open.false in
-    answered_as s.res.now tt (λ a u. Judged s.file.now (starts_of s.starts.now) a) told.0 told.1 opens
+    answered_as s.res.now tt (λ a u. Judged s.file.now (starts_of s.starts.now) a) c.tell.ensures c.told.ensures opens
     (judged_all s.file.now c.hand_starts-n.ensures.1 c.verdict.ensures)
