@@ -16,7 +16,7 @@ use Rattle.request.proofs.Accepted.{refused_number, number_as}
 use Rattle.request.proofs.Limiting.{accepted_whole}
 use Rattle.request.proofs.Marks.{first_plain, read_marked}
 use Rattle.planner.specs.declared.Answer.{Answer}
-use Rattle.std.specs.Prelude.{Result, Ok, Err}
+use Rattle.std.specs.Prelude.{Result, Ok}
 use Rattle.planner.specs.declared.FileTables.{FileTables}
 use Rattle.planner.specs.declared.answers.Refusal.{Refusal}
 use Rattle.planner.specs.Promises.{success, refusal, Unless, stops, passes, Gives, gives, Reads, OfFile, Checked, Written, TablesOf, listing_answer, listing_tables, TablesGiven}

@@ -14,7 +14,7 @@ use Rattle.tables.proofs.Appending.{held_front, held_long}
 use Rattle.tables.proofs.Back.{unmarked}
 use Rattle.tables.proofs.Joining.{limited_fits}
 use Rattle.std.proofs.lemmas.Result.{err_from_is_err_and}
-use Rattle.request.specs.Format.{Reading, read_as, accepted, refused}
+use Rattle.request.specs.Format.{read_as, accepted}
 use Rattle.request.proofs.Limiting.{read_limited, accepted_limited}
 use Rattle.planner.specs.Promises as P
 use Rattle.planner.proofs.Refusing.{unless_enough}
