@@ -26,7 +26,12 @@ fn lacks_room(jobs: usize, starts: usize, moved: usize) -> bool
 }
 
 // The start times of a recorder, mended.
-fn mend_recorder(r: Recorder, given: &[u16], starts: &mut [u16], moved: &mut [u16]) -> Result<Figures, Refusal>
+fn mend_recorder(
+    r: Recorder,
+    given: &[u16],
+    starts: &mut [u16],
+    moved: &mut [u16],
+) -> Result<Figures, Refusal>
     requires { Valid r }
     ensures { MendOf given.now (lending starts.old moved.old) r (answered result) (lending starts.new moved.new) }
 {
@@ -57,7 +62,12 @@ fn mend_recorder(r: Recorder, given: &[u16], starts: &mut [u16], moved: &mut [u1
 
 // Mends start times: writes the new starts by job number, and for each job that moved three numbers, its own, its given start and its new one; the count is
 // how many moved. Or 17, with the first job that comes out late.
-pub fn mend(file: &[u8], given: &[u16], starts: &mut [u16], moved: &mut [u16]) -> Result<Figures, Refusal>
+pub fn mend(
+    file: &[u8],
+    given: &[u16],
+    starts: &mut [u16],
+    moved: &mut [u16],
+) -> Result<Figures, Refusal>
     ensures { Mended file.now given.now (lending starts.old moved.old) (answered result) (lending starts.new moved.new) }
 {
     mend_recorder(read(file)?, given, starts, moved)

@@ -6,8 +6,8 @@ ghost use Rattle.planner.specs.Answers.{answered};
 ghost use Rattle.sheet.specs.Promises.{ExportedDevices, ExportedJobs};
 
 use crate::printing::{put_job_lines, put_part_lines};
-use catalogue::{is_repeated, is_unfit};
 use base::Reason;
+use catalogue::{is_repeated, is_unfit};
 use planner::{Figures, Refusal};
 use sheet::give;
 

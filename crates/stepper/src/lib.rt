@@ -18,7 +18,12 @@ mod fitness; // fitness.rt: refusals 25 and 24
 mod ordering; // ordering.rt: the jobs in running order, for one device
 
 // The devices of a file's recorder, stepped through the round.
-pub fn steps_of(file: &[u8], r: Recorder, starts: &[u16], energies: &mut [u32]) -> Result<Figures, Refusal>
+pub fn steps_of(
+    file: &[u8],
+    r: Recorder,
+    starts: &[u16],
+    energies: &mut [u32],
+) -> Result<Figures, Refusal>
     requires { Valid r }
     ensures { StepsOf file.now starts.now energies.old r (answered result) energies.new }
 {
