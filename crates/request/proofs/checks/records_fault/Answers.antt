@@ -1,17 +1,19 @@
 -- `request::checks::records_fault` meets its contract.
-use mathlib.Core.Path.{◌≡◌, refl, sym, ◌∙◌}
-use Prim.Native.Nat.{◌<◌, ◌≤◌, ◌+◌, ◌-◌}
+use mathlib.Core.Path.{◌≡◌, sym, ap, ◌∙◌}
+use Prim.Native.Nat.{ℕ, ◌<◌, ◌≤◌, ◌+◌, ◌-◌}
 use native.Mathlib.Omega.{arith}
 use Rattle.std.proofs.lemmas.Result.{err_from_is_err_and}
 use Rattle.base.proofs.Numbered.{not_0}
 use Rattle.base.proofs.Records.{first_none, first_stop, first_pass}
+use Rattle.request.specs.Format.{records_fault}
 use Rattle.request.proofs.Checked.{record_room}
 use Rattle.request.proofs.checks.records_fault.Goals as goal
 
 pub loop-init : goal.loop-init
 loop-init c =
-    let all : c.args.count - 0 ≡ c.args.count = omega arith in
-    rw all (c.requires, refl)
+    let a = c.args in
+    let all : a.count ≡ a.count - 0 = omega arith in
+    (c.requires, ap (λ (n : ℕ). records_fault a.s.now a.k n a.from) all)
 
 pub returns-in_err-record_fault : goal.returns-in_err-record_fault
 returns-in_err-record_fault c =
