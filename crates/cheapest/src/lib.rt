@@ -62,7 +62,7 @@ fn give(r: Recorder, s: &[u16], starts: &mut [u16]) -> Figures
     Figures {
         horizon: r.horizon,
         energy: plan_energy(r, s),
-        count: 0,
+        count: 0, // nothing is counted
     }
 }
 
