@@ -54,7 +54,7 @@ pub fn verdict_of(r: Recorder, starts: &[u16]) -> Result<Figures, Refusal>
     if starts.len() != r.jobs.count {
         return Err(Refusal::from(Reason::StartCount));
     }
-    judge(r, starts)?;
+    judge(r, starts)?; // or the first fault
     Ok(Figures {
         horizon: r.horizon,
         energy: plan_energy(r, starts),
