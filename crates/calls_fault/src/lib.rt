@@ -3,7 +3,7 @@
 #![tactic(auto)]
 
 ghost use Rattle.std.specs.Prelude.{◌≡◌, ◌++◌, ◌≤◌, length, drop};
-ghost use Rattle.calls_fault.specs.FaultCall.{parts_of, eighteen, FaultCalled, FaultDoor, OrderFaultDoor, DevicesFaultDoor, JobsFaultDoor};
+ghost use Rattle.calls_fault.specs.FaultCall.{code_in, record_in, eighteen, FaultCalled, FaultDoor, OrderFaultDoor, DevicesFaultDoor, JobsFaultDoor};
 ghost use Rattle.calls.specs.Bytes.{big};
 ghost use Rattle.catalogue.specs.Faults.{told as part_told};
 ghost use Rattle.faults.specs.Places.{judged};
@@ -11,7 +11,7 @@ ghost use Rattle.sheet_import.specs.LineFaults.{told as line_told};
 
 use calls::{cramped, put};
 use catalogue::{PartFault, order_fault};
-use faults::{PlaceFault, fault_of, fault_of_tables};
+use faults::{Place, PlaceFault, fault_of, fault_of_tables};
 use sheet_import::{LineFault, devices_fault, jobs_fault};
 use table_bytes::{is_tables, tables_from};
 
@@ -20,42 +20,46 @@ pub const PLACE: usize = 18;
 // What a place takes that is counted: a part of a catalogue, or a line of a sheet.
 pub const COUNTED: usize = 8;
 
-// What is told of a place: what it is, the number of its record, and its bytes; zeros where nothing is at fault.
-fn parts_of(fault: Result<(), PlaceFault>) -> [u64; 4]
-    ensures { result ≡ parts_of (judged fault) }
+// What a place is, and the number of its record: 0 and 0 where there is none.
+fn code_of(place: Option<Place>) -> u64
+    ensures { result ≡ code_in place }
 {
-    match fault {
-        Ok(()) => [0; 4],
-        Err(f) => [
-            f.place.code() as u64,
-            f.place.record() as u64,
-            f.from as u64,
-            f.to as u64,
-        ],
+    match place {
+        None => 0,
+        Some(place) => place.code() as u64,
     }
 }
 
-// The number that it is refused for, 0 for none.
-fn number_of(fault: Result<(), PlaceFault>) -> u8
-    ensures { result ≡ (judged fault).number }
+fn record_of(place: Option<Place>) -> u64
+    ensures { result ≡ record_in place }
 {
-    match fault {
-        Ok(()) => 0,
-        Err(f) => f.reason.number(),
+    match place {
+        None => 0,
+        Some(place) => place.record() as u64,
     }
 }
 
-// Puts a place into the buffer, and returns its number.
-pub fn tell_place(fault: Result<(), PlaceFault>, res: &mut [u8]) -> u8
+// Puts a place into the buffer, with its bytes, and returns the number that it is refused for.
+pub fn tell_place(number: u8, place: Option<Place>, from: usize, to: usize, res: &mut [u8]) -> u8
+    requires { 18 ≤ length res.old }
+    ensures { (result ≡ number) × (res.new ≡ eighteen (record { number = number; place = place; from = from; to = to }) ++ drop 18 res.old) }
+{
+    put(&mut res[..1], code_of(place));
+    put(&mut res[1..2], record_of(place));
+    put(&mut res[2..10], from as u64);
+    put(&mut res[10..18], to as u64);
+    number
+}
+
+// The same of a place at fault: zeros where nothing is.
+fn tell_fault(fault: Result<(), PlaceFault>, res: &mut [u8]) -> u8
     requires { 18 ≤ length res.old }
     ensures { (result ≡ (judged fault).number) × (res.new ≡ eighteen (judged fault) ++ drop 18 res.old) }
 {
-    let [code, record, from, to] = parts_of(fault);
-    put(&mut res[..1], code);
-    put(&mut res[1..2], record);
-    put(&mut res[2..10], from);
-    put(&mut res[10..18], to);
-    number_of(fault)
+    match fault {
+        Ok(()) => tell_place(0, None, 0, 0, res),
+        Err(at) => tell_place(at.reason.number(), Some(at.place), at.from, at.to, res),
+    }
 }
 
 // Where a file is refused: its first place at fault.
@@ -65,7 +69,7 @@ pub fn floe_fault(file: &[u8], res: &mut [u8]) -> u8
     if res.len() < PLACE {
         return cramped(file);
     }
-    tell_place(fault_of(file), res)
+    tell_fault(fault_of(file), res)
 }
 
 // Where tables are refused, in the file that they make. 255: they are no tables, or the result buffer has no room.
@@ -75,7 +79,7 @@ pub fn door_fault(tables: &[u8], res: &mut [u8]) -> u8
     if res.len() < PLACE || !is_tables(tables) {
         return 255;
     }
-    tell_place(fault_of_tables(tables_from(tables)), res)
+    tell_fault(fault_of_tables(tables_from(tables)), res)
 }
 
 // Puts a place that is counted into the buffer, and returns its number.

@@ -18,7 +18,7 @@ tables_from-requires c = c.is_tables.ensures.0 c.if-not-is_tables.false
 
 pub returns : goal.returns
 returns c =
-    let it = c.tell_place.ensures in
+    let it = c.tell_fault.ensures in
     let found = c.fault_of_tables in
     rw (it.0, it.1)
     (answered (c.is_tables.ensures.0 c.if-not-is_tables.false) c.if-res-lt-PLACE.false

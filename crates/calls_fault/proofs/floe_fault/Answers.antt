@@ -16,5 +16,5 @@ returns-then-res-lt-PLACE c = cramped_call _ _ c.if-res-lt-PLACE.true c.cramped.
 
 pub returns : goal.returns
 returns c =
-    let it = c.tell_place.ensures in
+    let it = c.tell_fault.ensures in
     rw (it.0, it.1) (told c.if-res-lt-PLACE.false c.fault_of.ensures)
