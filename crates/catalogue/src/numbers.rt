@@ -32,6 +32,9 @@ fn are_spaces(rest: &[u8]) -> bool
 pub fn is_formed(number: &[u8]) -> bool
     ensures { result ≡ well_formed number.now }
 {
+    if number.len() != 8 {
+        return false;
+    }
     let signs = signs_of(number);
-    number.len() == 8 && signs > 0 && are_spaces(&number[signs..])
+    signs > 0 && are_spaces(&number[signs..])
 }
