@@ -9,10 +9,12 @@ use crate::{State, Turn};
 fn by_byte(b: u8, ending: Turn, quoting: Turn, other: Turn) -> Turn
     ensures { result ≡ cond (eqb b comma) ending (cond (eqb b quote) quoting other) }
 {
-    match b {
-        b',' => ending,
-        b'"' => quoting,
-        _ => other,
+    if b == b',' {
+        ending
+    } else if b == b'"' {
+        quoting
+    } else {
+        other
     }
 }
 

@@ -8,7 +8,7 @@ fn is_break(s: &[u8], i: usize) -> bool
     requires { i < length s.now }
     ensures { result ≡ breaks_at s.now i }
 {
-    s[i..].starts_with(b"\r\n")
+    s[i] == b'\r' && s.get(i + 1) == Some(&b'\n')
 }
 
 // Where the first line ends: at the first CR LF, or at the end.
