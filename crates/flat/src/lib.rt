@@ -146,9 +146,9 @@ fn is_numbered(sleeps: Sleeps) -> bool
 
 // What the recorder has in the last row: the horizon, the counts, 1 for a round, and 1 where sleeps are numbered.
 #[tactic(auto, unfolding(crate::specs::inside::Flat::own_number))]
-fn own_number(r: Recorder, column: usize) -> u16
-    requires { Valid r }
-    ensures { result ≡ own_number r column }
+fn own_number(r: &Recorder, column: usize) -> u16
+    requires { Valid r.now }
+    ensures { result ≡ own_number r.now column }
 {
     match column {
         0 => r.horizon,
@@ -161,9 +161,9 @@ fn own_number(r: Recorder, column: usize) -> u16
 
 // The number that stands in a row and a column of the recorder laid flat.
 #[tactic(auto, unfolding(crate::specs::inside::Flat::number_of))]
-fn number_of(r: Recorder, row: usize, column: usize) -> u16
-    requires { Valid r × ((row < 20) × (column < 16)) }
-    ensures { result ≡ number_of r row column }
+fn number_of(r: &Recorder, row: usize, column: usize) -> u16
+    requires { Valid r.now × ((row < 20) × (column < 16)) }
+    ensures { result ≡ number_of r.now row column }
 {
     match row {
         0..11 => job_number(r.jobs.list[column], row),
@@ -179,7 +179,7 @@ pub fn flat_of(r: Recorder) -> Flat
 {
     let mut flat = [0u16; 320];
     for (i, number) in flat.iter_mut().enumerate() {
-        *number = number_of(r, i / 16, i % 16);
+        *number = number_of(&r, i / 16, i % 16);
     }
     flat
 }
