@@ -25,26 +25,25 @@ pub(crate) fn no_jobs() -> Jobs
     }
 }
 
-// The jobs with the last of them placed at its number.
-fn place(js: Jobs, number: JobNumber, j: Job) -> Jobs
+// The last of the jobs is placed at its number.
+fn place(js: &mut Jobs, number: JobNumber, j: Job)
     requires { number.0 < 16 }
-    ensures { result ≡ record { count = number.0 + 1; list = set js.list number.0 j } }
+    ensures { js.new ≡ record { count = number.0 + 1; list = set js.old.list number.0 j } }
 {
     let i = number.0;
-    let mut out = js;
-    out.list[i] = j;
-    out.count = i + 1;
-    out
+    js.list[i] = j;
+    js.count = i + 1;
 }
 
-// One job more: its number is the next.
-fn push(js: Jobs, j: Job) -> Jobs
-    ensures { result ≡ pushed js j }
+// One job more: its number is the next. The jobs are lent, since a struct that goes by value is copied at every call.
+fn push(js: &mut Jobs, j: Job)
+    ensures { js.new ≡ pushed js.old j }
 {
     if js.count < 16 {
-        place(js, JobNumber(js.count), j)
+        let number = JobNumber(js.count);
+        place(js, number, j);
     } else {
-        Jobs { count: 17, ..js }
+        js.count = 17;
     }
 }
 
@@ -61,29 +60,25 @@ fn job_of(k: TaskRecord, t: u32) -> Job
     }
 }
 
-// The jobs with what a task, of those whose records begin at a place, releases at t.
-fn release(s: &[u8], from: usize, task: TaskNumber, t: u32, js: Jobs) -> Jobs
+// To the jobs what a task, of those whose records begin at a place, releases at t.
+fn release(s: &[u8], from: usize, task: TaskNumber, t: u32, js: &mut Jobs)
     requires { (from + task.0 * 5 + 4 < length s.now) × (0 < pair_at s.now (from + task.0 * 5)) × (t + pair_at s.now (from + task.0 * 5) < 65536) }
-    ensures { result ≡ released_to js (task_at s.now (from + task.0 * 5)) t }
+    ensures { js.new ≡ released_to js.old (task_at s.now (from + task.0 * 5)) t }
 {
     let k = records::task_of(s, from, task);
     if t % k.period as u32 == 0 {
-        push(js, job_of(k, t))
-    } else {
-        js
+        push(js, job_of(k, t));
     }
 }
 
 // One tick's jobs, by task number, after those of the ticks before.
-fn tick(s: &[u8], tasks: usize, from: usize, t: u32, before: Jobs) -> Jobs
-    requires { SoundTasks s.now tasks from × (t < 4096) × (before ≡ packed (unfolded s.now tasks from t)) }
-    ensures { result ≡ packed (unfolded s.now tasks from (t + 1)) }
+fn tick(s: &[u8], tasks: usize, from: usize, t: u32, js: &mut Jobs)
+    requires { SoundTasks s.now tasks from × (t < 4096) × (js.old ≡ packed (unfolded s.now tasks from t)) }
+    ensures { js.new ≡ packed (unfolded s.now tasks from (t + 1)) }
 {
-    let mut js = before;
     for i in 0..tasks {
-        js = release(s, from, TaskNumber(i), t, js);
+        release(s, from, TaskNumber(i), t, js);
     }
-    js
 }
 
 // The jobs that the tasks release before h, tick by tick: so they come by release, and equal releases by task number.
@@ -93,7 +88,7 @@ pub(crate) fn unfold(s: &[u8], tasks: usize, from: usize, h: u32) -> Jobs
 {
     let mut js = no_jobs();
     for t in 0..h {
-        js = tick(s, tasks, from, t, js);
+        tick(s, tasks, from, t, &mut js);
     }
     js
 }
@@ -105,7 +100,7 @@ fn listed_jobs(s: &[u8], count: usize, from: usize) -> Jobs
 {
     let mut js = no_jobs();
     for j in 0..count {
-        js = push(js, records::listed_job(s, from, JobNumber(j)));
+        push(&mut js, records::listed_job(s, from, JobNumber(j)));
     }
     js
 }

@@ -8,4 +8,4 @@ unfolding up_to
 loop-j-init c = c.no_jobs-js.ensures
 
 pub loop-j-preserved : goal.loop-j-preserved
-loop-j-preserved c = rw (c.push-js.ensures, c.listed_job.ensures, c.loop-j.invariant, packed_push, up_to_more)
+loop-j-preserved c = rw (c.push.ensures, c.listed_job.ensures, c.loop-j.invariant, packed_push, up_to_more)

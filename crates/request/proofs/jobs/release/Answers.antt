@@ -16,13 +16,13 @@ unfolding released_to
 returns-then-t-k-eq0 c =
     let a = c.args in
     let k = c.task_of-k in
-    let here : c.push.result ≡ released_to a.js k.result a.t = rw (c.push.ensures, c.job_of.ensures, eq-eqb _ _ c.if-t-k-eq0.true) in
-    here ∙ ap (λ (x : TaskRecord). released_to a.js x a.t) k.ensures
+    let here : c.push.new.js ≡ released_to a.js.now k.result a.t = rw (c.push.ensures, c.job_of.ensures, eq-eqb _ _ c.if-t-k-eq0.true) in
+    here ∙ ap (λ (x : TaskRecord). released_to a.js.now x a.t) k.ensures
 
 pub returns-else-t-k-eq0 : goal.returns-else-t-k-eq0
 unfolding released_to
 returns-else-t-k-eq0 c =
     let a = c.args in
     let k = c.task_of-k in
-    let here : a.js ≡ released_to a.js k.result a.t = rw (ne_eqb _ _ c.if-t-k-eq0.false) in
-    here ∙ ap (λ (x : TaskRecord). released_to a.js x a.t) k.ensures
+    let here : a.js.now ≡ released_to a.js.now k.result a.t = rw (ne_eqb _ _ c.if-t-k-eq0.false) in
+    here ∙ ap (λ (x : TaskRecord). released_to a.js.now x a.t) k.ensures

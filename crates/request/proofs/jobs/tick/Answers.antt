@@ -9,8 +9,8 @@ pub loop-i-init : goal.loop-i-init
 unfolding released_at
 loop-i-init c = rw append-nil c.requires.2
 
-pub release-js-requires : goal.release-js-requires
-release-js-requires c =
+pub release-requires : goal.release-requires
+release-requires c =
     let ok = c.requires.0 in
     let p = ok.periods c.loop-i.i (omega arith) in
     (omega (arith, ok.there), p.0, omega arith)
@@ -19,7 +19,7 @@ pub loop-i-preserved : goal.loop-i-preserved
 loop-i-preserved c =
     let l = c.loop-i in
     let a = c.args in
-    rw (c.release-js.ensures, l.invariant) (tick_more a.s.now a.from a.t (unfolded a.s.now a.tasks a.from a.t) l.i)
+    rw (c.release.ensures, l.invariant) (tick_more a.s.now a.from a.t (unfolded a.s.now a.tasks a.from a.t) l.i)
 
 pub returns : goal.returns
 returns c =

@@ -6,5 +6,5 @@ pub loop-t-init : goal.loop-t-init
 unfolding unfolded
 loop-t-init c = c.no_jobs-js.ensures
 
-pub tick-js-requires : goal.tick-js-requires
-tick-js-requires c = (c.requires.0, omega arith, c.loop-t.invariant)
+pub tick-requires : goal.tick-requires
+tick-requires c = (c.requires.0, omega arith, c.loop-t.invariant)
