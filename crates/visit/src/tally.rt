@@ -9,7 +9,7 @@ pub struct Stopped;
 
 // The vertices counted, the energy of the best so far, the starts of the jobs that are placed and those of the best, by job number, and whether the visit ends at the
 // first complete vertex.
-#[derive(Drop)]
+#[derive(Clone, Copy)]
 pub struct Tally {
     pub count: u32,
     pub energy: u32,

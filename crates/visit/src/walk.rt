@@ -46,16 +46,16 @@ fn is_whole(ended: Result<(), Stopped>, best: u32, after: u32) -> bool
 // The child of a place that places job j at s, and all below it. From the start `cut` on it is dropped.
 #[cycle(below_choices_enter_learn_tries_visit)]
 fn visit(
-    search: &Search,
+    search: Search,
     memory: &mut [u64],
     tally: &mut Tally,
-    place: &Place,
+    place: Place,
     child: Child,
     cut: u32,
 ) -> Result<(), Stopped>
-    requires { Lends (recorder_of search.now.r.now) search.now.extras.now memory.old × ((child.p ≡ 2 ^ child.j.0) × Some (recorder_of search.now.r.now) search.now.budget tally.old (Tries (recorder_of search.now.r.now) place.now.v.now (energy_at tally.old) place.now.set place.now.from cut child.floor child.j.0 child.s)) }
-    ensures kept { Leaves (recorder_of search.now.r.now) search.now.extras.now memory.new tally.old tally.new }
-    ensures came { VisitCame (recorder_of search.now.r.now) search.now.budget place.now.v.now tally.old tally.new (is_err result) place.now.set place.now.from cut child.floor child.j.0 child.s }
+    requires { Lends (recorder_of search.r.now) search.extras.now memory.old × ((child.p ≡ 2 ^ child.j.0) × Some (recorder_of search.r.now) search.budget tally.old (Tries (recorder_of search.r.now) place.v.now (energy_at tally.old) place.set place.from cut child.floor child.j.0 child.s)) }
+    ensures kept { Leaves (recorder_of search.entry.r.now) search.entry.extras.now memory.new tally.old tally.new }
+    ensures came { VisitCame (recorder_of search.entry.r.now) search.entry.budget place.entry.v.now tally.old tally.new (is_err result) place.entry.set place.entry.from cut child.floor child.j.0 child.s }
 {
     if tally.count == search.budget {
         return Err(Stopped);
@@ -73,16 +73,16 @@ fn visit(
 // The same child, which is counted and which no cut drops: it is complete, or its children are examined. `left` is the set of the jobs that it leaves unplaced.
 #[cycle(below_choices_enter_learn_tries_visit)]
 fn enter(
-    search: &Search,
+    search: Search,
     memory: &mut [u64],
     tally: &mut Tally,
-    place: &Place,
+    place: Place,
     child: Child,
     left: usize,
 ) -> Result<(), Stopped>
-    requires { Lends (recorder_of search.now.r.now) search.now.extras.now memory.old × ((child.floor < energy_at tally.old) × Some (recorder_of search.now.r.now) search.now.budget tally.old (Enters (recorder_of search.now.r.now) place.now.v.now left child.floor child.j.0 child.s)) }
-    ensures kept { Leaves (recorder_of search.now.r.now) search.now.extras.now memory.new tally.old tally.new }
-    ensures came { EnterCame (recorder_of search.now.r.now) search.now.budget place.now.v.now tally.old tally.new (is_err result) left child.floor child.j.0 child.s }
+    requires { Lends (recorder_of search.r.now) search.extras.now memory.old × ((child.floor < energy_at tally.old) × Some (recorder_of search.r.now) search.budget tally.old (Enters (recorder_of search.r.now) place.v.now left child.floor child.j.0 child.s)) }
+    ensures kept { Leaves (recorder_of search.entry.r.now) search.entry.extras.now memory.new tally.old tally.new }
+    ensures came { EnterCame (recorder_of search.entry.r.now) search.entry.budget place.entry.v.now tally.old tally.new (is_err result) left child.floor child.j.0 child.s }
 {
     let j = child.j.0;
     let s = child.s;
@@ -101,20 +101,15 @@ fn enter(
         from: child.floor,
         time,
     };
-    below(search, memory, tally, &below_it)
+    below(search, memory, tally, below_it)
 }
 
 // The children of a vertex that is not complete: what is remembered of them, or each of them examined.
 #[cycle(below_choices_enter_learn_tries_visit)]
-fn below(
-    search: &Search,
-    memory: &mut [u64],
-    tally: &mut Tally,
-    place: &Place,
-) -> Result<(), Stopped>
-    requires { Lends (recorder_of search.now.r.now) search.now.extras.now memory.old × ((place.now.from < energy_at tally.old) × Some (recorder_of search.now.r.now) search.now.budget tally.old (StandsAt (recorder_of search.now.r.now) place.now.v.now place.now.set place.now.from place.now.time)) }
-    ensures kept { Leaves (recorder_of search.now.r.now) search.now.extras.now memory.new tally.old tally.new }
-    ensures came { ChoicesCame (recorder_of search.now.r.now) search.now.budget place.now.v.now tally.old tally.new (is_err result) place.now.set place.now.from place.now.time }
+fn below(search: Search, memory: &mut [u64], tally: &mut Tally, place: Place) -> Result<(), Stopped>
+    requires { Lends (recorder_of search.r.now) search.extras.now memory.old × ((place.from < energy_at tally.old) × Some (recorder_of search.r.now) search.budget tally.old (StandsAt (recorder_of search.r.now) place.v.now place.set place.from place.time)) }
+    ensures kept { Leaves (recorder_of search.entry.r.now) search.entry.extras.now memory.new tally.old tally.new }
+    ensures came { ChoicesCame (recorder_of search.entry.r.now) search.entry.budget place.entry.v.now tally.old tally.new (is_err result) place.entry.set place.entry.from place.entry.time }
 {
     if !is_many(place.set, memory.len()) {
         return choices(search, memory, tally, place);
@@ -138,15 +133,15 @@ fn below(
 // Each of them examined, and remembered where they leave the best as it was.
 #[cycle(below_choices_enter_learn_tries_visit)]
 fn learn(
-    search: &Search,
+    search: Search,
     memory: &mut [u64],
     tally: &mut Tally,
-    place: &Place,
+    place: Place,
     asked: Asked,
 ) -> Result<(), Stopped>
-    requires { Lends (recorder_of search.now.r.now) search.now.extras.now memory.old × ((place.now.from < energy_at tally.old) × (Asks (recorder_of search.now.r.now) (cap_at search.now.extras.now) place.now.v.now place.now.set place.now.time (slack_by (energy_at tally.old) place.now.from) asked × Some (recorder_of search.now.r.now) search.now.budget tally.old (StandsAt (recorder_of search.now.r.now) place.now.v.now place.now.set place.now.from place.now.time))) }
-    ensures kept { Leaves (recorder_of search.now.r.now) search.now.extras.now memory.new tally.old tally.new }
-    ensures came { ChoicesCame (recorder_of search.now.r.now) search.now.budget place.now.v.now tally.old tally.new (is_err result) place.now.set place.now.from place.now.time }
+    requires { Lends (recorder_of search.r.now) search.extras.now memory.old × ((place.from < energy_at tally.old) × (Asks (recorder_of search.r.now) (cap_at search.extras.now) place.v.now place.set place.time (slack_by (energy_at tally.old) place.from) asked × Some (recorder_of search.r.now) search.budget tally.old (StandsAt (recorder_of search.r.now) place.v.now place.set place.from place.time))) }
+    ensures kept { Leaves (recorder_of search.entry.r.now) search.entry.extras.now memory.new tally.old tally.new }
+    ensures came { ChoicesCame (recorder_of search.entry.r.now) search.entry.budget place.entry.v.now tally.old tally.new (is_err result) place.entry.set place.entry.from place.entry.time }
 {
     let before = tally.count;
     let best = tally.energy;
@@ -160,14 +155,14 @@ fn learn(
 // Each unplaced job in turn.
 #[cycle(below_choices_enter_learn_tries_visit)]
 fn choices(
-    search: &Search,
+    search: Search,
     memory: &mut [u64],
     tally: &mut Tally,
-    place: &Place,
+    place: Place,
 ) -> Result<(), Stopped>
-    requires { Lends (recorder_of search.now.r.now) search.now.extras.now memory.old × Some (recorder_of search.now.r.now) search.now.budget tally.old (StandsAt (recorder_of search.now.r.now) place.now.v.now place.now.set place.now.from place.now.time) }
-    ensures kept { Leaves (recorder_of search.now.r.now) search.now.extras.now memory.new tally.old tally.new }
-    ensures came { ChoicesCame (recorder_of search.now.r.now) search.now.budget place.now.v.now tally.old tally.new (is_err result) place.now.set place.now.from place.now.time }
+    requires { Lends (recorder_of search.r.now) search.extras.now memory.old × Some (recorder_of search.r.now) search.budget tally.old (StandsAt (recorder_of search.r.now) place.v.now place.set place.from place.time) }
+    ensures kept { Leaves (recorder_of search.entry.r.now) search.entry.extras.now memory.new tally.old tally.new }
+    ensures came { ChoicesCame (recorder_of search.entry.r.now) search.entry.budget place.entry.v.now tally.old tally.new (is_err result) place.entry.set place.entry.from place.entry.time }
 {
     let n = job_count(search.r);
     let dues = dues_in(search.r, search.extras, place.set);
@@ -186,17 +181,17 @@ fn choices(
 // Each start of the unplaced job j in turn.
 #[cycle(below_choices_enter_learn_tries_visit)]
 fn tries(
-    search: &Search,
+    search: Search,
     memory: &mut [u64],
     tally: &mut Tally,
-    place: &Place,
+    place: Place,
     dues: Dues,
     j: JobNumber,
     p: usize,
 ) -> Result<(), Stopped>
-    requires { Lends (recorder_of search.now.r.now) search.now.extras.now memory.old × ((j.0 < jobs (recorder_of search.now.r.now)) × ((has place.now.set j.0 ≡ true) × ((p ≡ 2 ^ j.0) × (TwoLeast (recorder_of search.now.r.now) place.now.set (jobs (recorder_of search.now.r.now)) dues × Some (recorder_of search.now.r.now) search.now.budget tally.old (StandsAt (recorder_of search.now.r.now) place.now.v.now place.now.set place.now.from place.now.time))))) }
-    ensures kept { Leaves (recorder_of search.now.r.now) search.now.extras.now memory.new tally.old tally.new }
-    ensures came { StartsCame (recorder_of search.now.r.now) search.now.budget place.now.v.now tally.old tally.new (is_err result) place.now.set place.now.from place.now.time j.0 }
+    requires { Lends (recorder_of search.r.now) search.extras.now memory.old × ((j.0 < jobs (recorder_of search.r.now)) × ((has place.set j.0 ≡ true) × ((p ≡ 2 ^ j.0) × (TwoLeast (recorder_of search.r.now) place.set (jobs (recorder_of search.r.now)) dues × Some (recorder_of search.r.now) search.budget tally.old (StandsAt (recorder_of search.r.now) place.v.now place.set place.from place.time))))) }
+    ensures kept { Leaves (recorder_of search.entry.r.now) search.entry.extras.now memory.new tally.old tally.new }
+    ensures came { StartsCame (recorder_of search.entry.r.now) search.entry.budget place.entry.v.now tally.old tally.new (is_err result) place.entry.set place.entry.from place.entry.time j.0 }
 {
     let mut cut = first_cut(search, place, dues, j);
     let mut s = place.time.max(u32::from(release_of(search.r, j.0)));
@@ -243,5 +238,5 @@ pub fn root_visit(
         from: floor,
         time: 0,
     };
-    choices(&search, memory, tally, &root)
+    choices(search, memory, tally, root)
 }

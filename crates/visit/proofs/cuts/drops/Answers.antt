@@ -13,5 +13,5 @@ returns c =
     let a = c.args in
     let run_is = c.from-c.ensures ∙ c.run_of.ensures in
     let due-is = c.from-d.ensures ∙ c.deadline_of.ensures in
-    let same : c.saturating_sub.result ≡ suc (deadline (recorder_of a.search.now.r.now) a.j.0) - (a.start + run (recorder_of a.search.now.r.now) a.j.0) = omega (arith, c.saturating_sub.ensures, run_is, due-is) in
-    subst (λ (n : ℕ). Added a.search.now.budget n a.tally.now c.add_count.new.tally (is_err c.add_count.result)) same c.add_count.ensures
+    let same : c.saturating_sub.result ≡ suc (deadline (recorder_of a.search.r.now) a.j.0) - (a.start + run (recorder_of a.search.r.now) a.j.0) = omega (arith, c.saturating_sub.ensures, run_is, due-is) in
+    subst (λ (n : ℕ). Added a.search.budget n a.tally.now c.add_count.new.tally (is_err c.add_count.result)) same c.add_count.ensures

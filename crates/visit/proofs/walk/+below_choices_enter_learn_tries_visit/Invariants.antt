@@ -17,22 +17,22 @@ use Rattle.visit.proofs.walk.+below_choices_enter_learn_tries_visit.Given as goa
 
 -- What falls is the number of unplaced jobs: how many the set has, and `left` for an entered child.
 abbrev pub decreases-below : goal.decreases-below
-decreases-below l = 6 * size_of l.place.now.set + 4
+decreases-below l = 6 * size_of l.place.set + 4
 
 abbrev pub decreases-choices : goal.decreases-choices
-decreases-choices l = 6 * size_of l.place.now.set + 2
+decreases-choices l = 6 * size_of l.place.set + 2
 
 abbrev pub decreases-enter : goal.decreases-enter
 decreases-enter l = 6 * size_of l.left + 5
 
 abbrev pub decreases-learn : goal.decreases-learn
-decreases-learn l = 6 * size_of l.place.now.set + 3
+decreases-learn l = 6 * size_of l.place.set + 3
 
 abbrev pub decreases-tries : goal.decreases-tries
-decreases-tries l = 6 * size_of l.place.now.set + 1
+decreases-tries l = 6 * size_of l.place.set + 1
 
 abbrev pub decreases-visit : goal.decreases-visit
-decreases-visit l = 6 * size_of l.place.now.set
+decreases-visit l = 6 * size_of l.place.set
 
 abbrev pub invariant-choices-loop-j : goal.invariant-choices-loop-j
 invariant-choices-loop-j l = (l.p ≡ 2 ^ l.j) × (l.rest ≡ l.place.set / 2 ^ l.j) × (Long l.tally) × (energy_at l.tally ≤ energy_at l.initial.tally)
