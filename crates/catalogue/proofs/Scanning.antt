@@ -1,6 +1,6 @@
 -- What the tests of a part number find in its bytes.
 use mathlib.Core.Path.{◌≡◌, refl, sym, ◌∙◌}
-use mathlib.Core.Bool.{Bool, true, false}
+use mathlib.Core.Bool.{Bool, true, false, true≢false}
 use mathlib.Core.List.{List, [], ◌∷◌, ◌++◌}
 use Prim.Native.Nat.{ℕ, zero, suc, ◌+◌, ◌-◌, ◌<◌, ◌≤◌}
 use native.Mathlib.Numerals.{add-one}
@@ -22,6 +22,19 @@ same_pointwise [] [] = refl
 same_pointwise [] (y ∷ t) = refl
 same_pointwise (x ∷ s) [] = refl
 same_pointwise (x ∷ s) (y ∷ t) = rw (same_pointwise s t)
+
+same_turned : (s t : List ℕ) → same s t ≡ same t s
+same_turned [] [] = refl
+same_turned [] (y ∷ t) = refl
+same_turned (x ∷ s) [] = refl
+same_turned (x ∷ s) (y ∷ t) = rw (eqb_turned x y, same_turned s t)
+  where
+    eqb_turned : (x y : ℕ) → eqb x y ≡ eqb y x
+    eqb_turned x y = test_cases (λ b. b ≡ eqb y x) (eqb x y) (λ e. sym (eq-eqb y x (sym (eqb-true x y e)))) (λ e. sym (ne_eqb y x (λ f. true≢false (sym (eq-eqb x y (sym f)) ∙ e))))
+
+-- A number that begins with another as long is that one.
+pub same_start : (n p : List ℕ) → length n ≡ length p → pointwise eqb p (take (length p) n) ≡ same n p
+same_start n p e = rw (← e, take_all (length n) n (omega arith)) (same_pointwise p n ∙ same_turned p n)
 
 -- ---- the signs at the front
 

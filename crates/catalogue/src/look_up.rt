@@ -16,7 +16,7 @@ fn find(catalogue: &[u8], number: &[u8]) -> Option<usize>
 {
     for k in 0..catalogue.len() / 15 {
         let at = 15 * k;
-        if number == &catalogue[at..at + 8] {
+        if number.len() == 8 && number.starts_with(&catalogue[at..at + 8]) {
             return Some(k);
         }
     }
