@@ -1,6 +1,6 @@
 -- The four parts of a place put one after the other, each into the bytes as the one before it left them.
 use mathlib.Core.Path.{◌≡◌}
-use mathlib.Core.List.{List, ◌++◌}
+use mathlib.Core.List.{List, [], ◌∷◌, ◌++◌}
 use Prim.Native.Nat.{ℕ, ◌≤◌}
 use native.Mathlib.Omega.{arith}
 use lib.ListN.{length, take, drop, get_or}
@@ -9,7 +9,10 @@ use Rattle.base.proofs.Filling.{filled_first, filled_part}
 use Rattle.faults.specs.Places.{Judged}
 use Rattle.calls.specs.Bytes.{big}
 use Rattle.calls.proofs.Digits.{length_big}
-use Rattle.calls_fault.specs.FaultCall.{parts_of, eighteen}
+use Rattle.calls_fault.specs.FaultCall.{code_in, record_in, eighteen}
+
+abbrev parts_of : Judged → List ℕ
+parts_of f = code_in f.place ∷ record_in f.place ∷ f.from ∷ f.to ∷ []
 
 pub place_told :
     (f : Judged) (l m₁ m₂ m₃ m₄ ps : List ℕ) → 18 ≤ length l → ps ≡ parts_of f

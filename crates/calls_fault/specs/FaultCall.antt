@@ -1,6 +1,6 @@
 -- What a C program gets from `floe_fault` (rule 125): the number that the file is refused with, and in the result buffer the place; and from the doors to the same of
 -- tables, of orders and of sheets. proofs/Only: each has one outcome for every input.
-use Rattle.std.specs.Prelude.{List, [], ◌∷◌, ◌++◌, Option, Some, None, ℕ, ◌≤◌, ◌<◌, length, drop}
+use Rattle.std.specs.Prelude.{List, ◌++◌, Option, Some, None, ℕ, ◌≤◌, ◌<◌, length, drop}
 use Rattle.schedule.specs.declared.Recorder.{Recorder}
 use Rattle.planner.specs.Promises.{Refused, Reads}
 use Rattle.faults.specs.declared.Place.{Place}
@@ -18,9 +18,6 @@ code_in (Some p) = code_of p
 abbrev pub record_in : Option Place → ℕ
 record_in None = 0
 record_in (Some p) = record_of p
-
-abbrev pub parts_of : Judged → List ℕ
-parts_of f = code_in f.place ∷ record_in f.place ∷ f.from ∷ f.to ∷ []
 
 -- The eighteen bytes of a place: what it is (1), the number of its record (1), its first byte (8), the byte after its last (8).
 abbrev pub eighteen : Judged → List ℕ

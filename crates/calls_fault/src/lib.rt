@@ -21,7 +21,7 @@ pub const PLACE: usize = 18;
 pub const COUNTED: usize = 8;
 
 // What a place is, and the number of its record: 0 and 0 where there is none.
-fn code_of(place: Option<Place>) -> u64
+fn code_in(place: Option<Place>) -> u64
     ensures { result ≡ code_in place }
 {
     match place {
@@ -30,7 +30,7 @@ fn code_of(place: Option<Place>) -> u64
     }
 }
 
-fn record_of(place: Option<Place>) -> u64
+fn record_in(place: Option<Place>) -> u64
     ensures { result ≡ record_in place }
 {
     match place {
@@ -44,8 +44,8 @@ pub fn tell_place(number: u8, place: Option<Place>, from: usize, to: usize, res:
     requires { 18 ≤ length res.old }
     ensures { (result ≡ number) × (res.new ≡ eighteen (record { number = number; place = place; from = from; to = to }) ++ drop 18 res.old) }
 {
-    put(&mut res[..1], code_of(place));
-    put(&mut res[1..2], record_of(place));
+    put(&mut res[..1], code_in(place));
+    put(&mut res[1..2], record_in(place));
     put(&mut res[2..10], from as u64);
     put(&mut res[10..18], to as u64);
     number

@@ -13,8 +13,8 @@ slice_bounds-put-end-2 c = sym (length-take-le 1 c.args.res.now (omega arith))
 pub returns : goal.returns
 returns c =
     let told : Judged = record { number = c.args.number; place = c.args.place; from = c.args.from; to = c.args.to } in
-    let parts = c.code_of.result ∷ c.record_of.result ∷ c.args.from ∷ c.args.to ∷ [] in (
+    let parts = c.code_in.result ∷ c.record_in.result ∷ c.args.from ∷ c.args.to ∷ [] in (
       refl,
       place_told told c.args.res.now _ _ _ _ parts c.requires
-          (rw (c.code_of.ensures, c.record_of.ensures) refl) c.put.ensures c.put-2.ensures c.put-3.ensures c.put-4.ensures,
+          (rw (c.code_in.ensures, c.record_in.ensures) refl) c.put.ensures c.put-2.ensures c.put-3.ensures c.put-4.ensures,
     )
