@@ -9,14 +9,15 @@ use planner::{Figures, Refusal, told};
 use possible::first_schedule;
 use request::read;
 
-// The start times go to the first bytes; what is lent beyond one start a job stays as it was.
+// The start times go to the first bytes; what is lent beyond one start a job stays as it was. (The recorder is looked at where reading left it: moved out of there, it
+// would take its room on the stack twice more, and the search needs the rest.)
 fn possible_bytes(file: &[u8], budget: u32, starts: &mut [u8]) -> Result<Figures, Refusal>
     ensures { OfFile file.now starts.old (PossibleSpelled budget starts.old) (answered result) starts.new }
 {
-    let recorder = read(file)?;
+    let recorder = &read(file)?;
     let mut own = [0u16; 16];
     let places = (starts.len() / 2).min(16);
-    let figures = first_schedule(recorder, budget, &mut own[..places])?;
+    let figures = first_schedule(*recorder, budget, &mut own[..places])?;
     let jobs = recorder.jobs.count.min(places);
     put_starts(&own[..jobs], starts);
     Ok(figures)

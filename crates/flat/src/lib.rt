@@ -173,13 +173,22 @@ fn number_of(r: &Recorder, row: usize, column: usize) -> u16
     }
 }
 
+// Lays a recorder flat in the room that is lent. (A caller that takes it as a result has room for it twice.)
+pub fn lay_flat(r: Recorder, flat: &mut Flat)
+    requires { Valid r }
+    ensures { recorder_of flat.new ≡ r }
+{
+    for (i, number) in flat.iter_mut().enumerate() {
+        *number = number_of(&r, i / 16, i % 16);
+    }
+}
+
+// The recorder laid flat.
 pub fn flat_of(r: Recorder) -> Flat
     requires { Valid r }
     ensures { recorder_of result ≡ r }
 {
     let mut flat = [0u16; 320];
-    for (i, number) in flat.iter_mut().enumerate() {
-        *number = number_of(&r, i / 16, i % 16);
-    }
+    lay_flat(r, &mut flat);
     flat
 }

@@ -32,33 +32,31 @@ pub lends_clear : (R : Recorder) (ex memory : List ℕ) → Tabled R ex → ((i 
 lends_clear R ex memory tabled clear =
     record { tabled = tabled; right = right_clear (Counts R (cap_at ex)) memory (counts_none R tabled.valid (cap_at ex) no_key) clear }
 
-module _ (R : Recorder) (stop : Bool) where
+module _ (R : Recorder) (stop : Bool) (l : Tally) where
   -- The budget by another name.
-  pub ran_as : (budget budget' : ℕ) → budget ≡ budget' → (r : Result Tally Spent) → Ran R stop budget r → Ran R stop budget' r
-  ran_as budget budget' e r h = subst (λ (n : ℕ). Ran R stop n r) e h
+  pub ran_as : (budget budget' : ℕ) → budget ≡ budget' → (r : Result (Unit {0}) Spent) → Ran R stop budget l r → Ran R stop budget' l r
+  ran_as budget budget' e r h = subst (λ (n : ℕ). Ran R stop n l r) e h
 
   -- A larger budget changes nothing where the smaller one suffices.
-  pub ran_larger : (few budget : ℕ) → few ≤ budget → (r : Result Tally Spent) → Ran R stop few r → is_ok r ≡ true → Ran R stop budget r
-  ran_larger few budget less (Ok l) (whole h) e = whole (record { count = h.count; best = h.best; within = omega (arith, h.within, less) })
+  pub ran_larger : (few budget : ℕ) → few ≤ budget → (r : Result (Unit {0}) Spent) → Ran R stop few l r → is_ok r ≡ true → Ran R stop budget l r
+  ran_larger few budget less (Ok u) (whole h) e = whole (record { count = h.count; best = h.best; within = omega (arith, h.within, less) })
   ran_larger few budget less (Err x) (spent q) e = absurd (true≢false (sym e))
 
   -- The lent memory is kept, but where a few vertices do not suffice and the budget has more.
 
-  pub kept_beyond : (few budget : ℕ) → few ≡ 256 → 256 < budget → (r : Result Tally Spent) → Ran R stop few r → is_ok r ≡ false → (memory after : List ℕ)
+  pub kept_beyond : (few budget : ℕ) → few ≡ 256 → 256 < budget → (r : Result (Unit {0}) Spent) → Ran R stop few l r → is_ok r ≡ false → (memory after : List ℕ)
       → KeptWithin (min budget (visited_by R stop).count) memory after
-  kept_beyond few budget e more (Ok l) (whole h) q memory after k = absurd (true≢false q)
+  kept_beyond few budget e more (Ok u) (whole h) q memory after k = absurd (true≢false q)
   kept_beyond few budget e more (Err x) (spent s) q memory after k = absurd (k (omega (arith, s, e, more)))
 
-  -- By the count that is told: the budget where it is used up, else that of the visit.
-  module _ (budget : ℕ) (memory after : List ℕ) (k : KeptWithin (min budget (visited_by R stop).count) memory after) where
-    pub kept_over : KeptWithin budget memory after
-    kept_over few = k (λ m. few (omega (arith, m)))
+-- By the count that is told: the budget where it is used up, else that of the visit.
+module _ (R : Recorder) (stop : Bool) (budget : ℕ) (memory after : List ℕ) (k : KeptWithin (min budget (visited_by R stop).count) memory after) where
+  pub kept_over : KeptWithin budget memory after
+  kept_over few = k (λ m. few (omega (arith, m)))
 
-    pub kept_counted : (l : Tally) (r : Result Tally Spent) → Ran R stop budget r → r ≡ Ok l → KeptWithin l.count memory after
-    kept_counted l r h e few = go (subst (Ran R stop budget) e h)
-      where
-        go : Ran R stop budget (Ok l) → after ≡ memory
-        go (whole h) = k (λ m. few (omega (arith, m, h.count)))
+  pub kept_counted : (l : Tally) (r : Result (Unit {0}) Spent) → Ran R stop budget l r → is_ok r ≡ true → KeptWithin l.count memory after
+  kept_counted l (Ok u) (whole h) e few = k (λ m. few (omega (arith, m, h.count)))
+  kept_counted l (Err x) (spent q) e few = absurd (true≢false (sym e))
 
 -- ---- the answer
 
@@ -84,15 +82,15 @@ module _ (R : Recorder) (stop : Bool) (budget : ℕ) (l : Tally) (h : Holds R bu
         go e c after p q r = rw (p, q, r) (found room h.within k.best)
 
 module _ (R : Recorder) (stop : Bool) (budget : ℕ) (F : Recorder) (e : F ≡ R) where
-  pub ran_holds : (l : Tally) (r : Result Tally Spent) → Ran F stop budget r → r ≡ Ok l → Holds R budget l (visited_by R stop)
-  ran_holds l r c is = go (subst (Ran F stop budget) is c)
-    where
-      go : Ran F stop budget (Ok l) → Holds R budget l (visited_by R stop)
-      go (whole h) = subst (λ (x : Recorder). Holds x budget l (visited_by x stop)) e h
+  pub ran_holds : (l : Tally) (r : Result (Unit {0}) Spent) → Ran F stop budget l r → is_ok r ≡ true → Holds R budget l (visited_by R stop)
+  ran_holds l (Ok u) (whole h) q = subst (λ (x : Recorder). Holds x budget l (visited_by x stop)) e h
+  ran_holds l (Err x) (spent s) q = absurd (true≢false (sym q))
 
-  pub finds_over : (r : Result Tally Spent) → Ran F stop budget r → is_ok r ≡ false → (lent : List ℕ) → jobs R ≤ length lent → Finds R (visited_by R stop) budget lent (refusal Budget budget) lent
-  finds_over (Ok l) (whole h) q lent room = absurd (true≢false q)
-  finds_over (Err x) (spent h) q lent room = beyond room (subst (λ (x : Recorder). budget < (visited_by x stop).count) e h)
+  pub finds_over :
+      (l : Tally) (r : Result (Unit {0}) Spent) → Ran F stop budget l r → is_ok r ≡ false → (lent : List ℕ) → jobs R ≤ length lent
+      → Finds R (visited_by R stop) budget lent (refusal Budget budget) lent
+  finds_over l (Ok u) (whole h) q lent room = absurd (true≢false q)
+  finds_over l (Err x) (spent h) q lent room = beyond room (subst (λ (x : Recorder). budget < (visited_by x stop).count) e h)
 
 -- Where the visit does not stop, it is the search's own.
 pub finds_whole : (R : Recorder) (budget : ℕ) (lent : List ℕ) (f : Result Found Unfound) (l : List ℕ) → Finds R (visited_by R false) budget lent f l → Finds R (visited R) budget lent f l

@@ -10,9 +10,9 @@ ghost use Rattle.visit.specs.inside.Stops.{visited_by};
 ghost use Rattle.visit.specs.inside.Lent.{best_at, count_in, Finds, KeptWithin};
 
 use crate::stages::laid_visit;
-use crate::tally::{NONE, Tally};
+use crate::tally::{NONE, Tally, begin};
 use base::Reason;
-use flat::flat_of;
+use flat::lay_flat;
 use schedule::Recorder;
 
 mod cuts; // cuts.rt: from which start on all children are dropped
@@ -68,8 +68,10 @@ fn found_by(
             count: 0,
         });
     }
-    let flat = flat_of(r);
-    let Ok(tally) = laid_visit(&flat, extras, memory, own, stop, budget) else {
+    let mut flat = [0u16; 320];
+    lay_flat(r, &mut flat);
+    let mut tally = begin(stop);
+    let Ok(()) = laid_visit(&flat, extras, memory, own, &mut tally, stop, budget) else {
         return Err(Unfound {
             reason: Reason::Budget,
             count: budget,

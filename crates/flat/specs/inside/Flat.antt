@@ -61,7 +61,7 @@ own_number R i =
     cond (eqb i 0) R.horizon (cond (eqb i 1) R.jobs.count (cond (eqb i 2) R.devices.count
     (cond (eqb i 3) (cond R.round 1 0) (cond (numbered R.sleeps) 1 0))))
 
--- What flat_of writes in a row and a column.
+-- What lay_flat writes in a row and a column.
 unfoldable pub number_of : Recorder → ℕ → ℕ → ℕ
 number_of R i k =
     cond (ltb i 11) (job_number (job R k) i)

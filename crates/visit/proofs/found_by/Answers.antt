@@ -19,14 +19,14 @@ returns-then-out-n c = record {
 
 pub laid_visit-requires : goal.laid_visit-requires
 laid_visit-requires c =
-    let e = sym c.flat_of-flat.ensures in
+    let e = sym c.lay_flat.ensures in
     (subst Valid e c.requires.0, subst (λ (x : Recorder). Room x c.args.extras.now) e c.requires.1)
 
 pub returns-in_default : goal.returns-in_default
 returns-in_default c =
     let room : let a = c.args in jobs a.r ≤ length a.out.now = omega (arith, c.if-out-n.false) in
     record {
-      finds = finds_over _ _ _ _ c.flat_of-flat.ensures _ c.laid_visit.ensures.ran (ap is_ok c.in_default.is) _ room;
+      finds = finds_over _ _ _ _ c.lay_flat.ensures _ _ c.laid_visit.ensures.ran (ap is_ok c.in_default.is) _ room;
       within = kept_over _ _ _ _ _ c.laid_visit.ensures.within;
     }
 
@@ -34,19 +34,19 @@ pub returns-then-tally : goal.returns-then-tally
 returns-then-tally c =
     let room : let a = c.args in jobs a.r ≤ length a.out.now = omega (arith, c.if-out-n.false) in
     record {
-      finds = finds_none _ _ _ _ (ran_holds _ _ _ _ c.flat_of-flat.ensures _ _ c.laid_visit.ensures.ran c.in-Ok.is) _ room c.if-tally.true;
-      within = kept_counted _ _ _ _ _ c.laid_visit.ensures.within _ _ c.laid_visit.ensures.ran c.in-Ok.is;
+      finds = finds_none _ _ _ _ (ran_holds _ _ _ _ c.lay_flat.ensures _ _ c.laid_visit.ensures.ran (ap is_ok c.in-Ok.is)) _ room c.if-tally.true;
+      within = kept_counted _ _ _ _ _ c.laid_visit.ensures.within _ _ c.laid_visit.ensures.ran (ap is_ok c.in-Ok.is);
     }
 
 pub write_starts-requires : goal.write_starts-requires
 write_starts-requires c =
     let room : let a = c.args in jobs a.r ≤ length a.out.now = omega (arith, c.if-out-n.false) in
-    (c.requires.0.few_jobs, (room, finds_fit _ _ _ _ (ran_holds _ _ _ _ c.flat_of-flat.ensures _ _ c.laid_visit.ensures.ran c.in-Ok.is) c.requires.0 c.if-tally.false))
+    (c.requires.0.few_jobs, (room, finds_fit _ _ _ _ (ran_holds _ _ _ _ c.lay_flat.ensures _ _ c.laid_visit.ensures.ran (ap is_ok c.in-Ok.is)) c.requires.0 c.if-tally.false))
 
 pub returns : goal.returns
 returns c =
     let room : let a = c.args in jobs a.r ≤ length a.out.now = omega (arith, c.if-out-n.false) in
     record {
-      finds = finds_found _ _ _ _ (ran_holds _ _ _ _ c.flat_of-flat.ensures _ _ c.laid_visit.ensures.ran c.in-Ok.is) _ room c.if-tally.false _ c.write_starts.ensures;
-      within = kept_counted _ _ _ _ _ c.laid_visit.ensures.within _ _ c.laid_visit.ensures.ran c.in-Ok.is;
+      finds = finds_found _ _ _ _ (ran_holds _ _ _ _ c.lay_flat.ensures _ _ c.laid_visit.ensures.ran (ap is_ok c.in-Ok.is)) _ room c.if-tally.false _ c.write_starts.ensures;
+      within = kept_counted _ _ _ _ _ c.laid_visit.ensures.within _ _ c.laid_visit.ensures.ran (ap is_ok c.in-Ok.is);
     }

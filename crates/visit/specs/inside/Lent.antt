@@ -87,10 +87,10 @@ pub data Over (l : Tally) : Bool → Bool → Type 0 where
   alone : (stop_at l ≡ 1 → ⊥) → Over l true true
   told : stop_at l ≡ 1 → (x : Bool) → x ≡ eqb (energy_at l) 4294967295 → Over l true x
 
--- The whole visit answered with a tally that holds what it came to; or it counts more than the budget.
-pub data Ran (R : Recorder) (stop : Bool) (budget : ℕ) : Result Tally Spent → Type 0 where
-  whole : {l : Tally} → Holds R budget l (visited_by R stop) → Ran R stop budget (Ok l)
-  spent : {e : Spent} → budget < (visited_by R stop).count → Ran R stop budget (Err e)
+-- The whole visit left a tally that holds what it came to; or it counts more than the budget.
+pub data Ran (R : Recorder) (stop : Bool) (budget : ℕ) (l : Tally) : Result (Unit {0}) Spent → Type 0 where
+  whole : {u : Unit {0}} → Holds R budget l (visited_by R stop) → Ran R stop budget l (Ok u)
+  spent : {e : Spent} → budget < (visited_by R stop).count → Ran R stop budget l (Err e)
 
 -- n vertices more are counted, if the budget has them.
 pub data Added (budget n : ℕ) (l l' : Tally) : Bool → Type 0 where

@@ -7,7 +7,6 @@ use lib.ListN.{length, take, drop, replicate}
 use lib.Seq.{length-take-le}
 use Rattle.std.proofs.lemmas.Result.{err_from_is_err_and}
 use Rattle.base.proofs.Numbered.{not_0}
-use Rattle.schedule.specs.Quantities.{jobs}
 use Rattle.request.proofs.Accepted.{accepted_valid}
 use Rattle.planner.specs.Promises.{OfFile}
 use Rattle.calls.proofs.Crossing.{front_room}
@@ -39,7 +38,7 @@ returns-in_err-figures c =
     let r = sym c.in_ok-recorder.ensures in
     rw (p.1, p.2)
     (OfFile.read r
-    (possible_kept s.budget s.starts.now c.in_ok-recorder.recorder (accepted_valid _ _ r).few_jobs (take n.result zeros)
+    (possible_kept s.budget s.starts.now _ (accepted_valid _ _ r).few_jobs (take n.result zeros)
     (own_lent zeros n.result (length s.starts.now / 2) 16 n.ensures (omega arith)) (not_0 _) c.in_err-figures.ensures))
 
 pub slice_bounds-own-end-2 : goal.slice_bounds-own-end-2
@@ -55,12 +54,11 @@ pub returns : goal.returns
 returns c =
     let s = c.args in
     let n = c.min-places in
-    let R = c.in_ok-recorder.recorder in
     let r = sym c.in_ok-recorder.ensures in
     let few = (accepted_valid _ _ r).few_jobs in
     let own = take n.result zeros in
     let fits = own_lent zeros n.result (length s.starts.now / 2) 16 n.ensures (omega arith) in
     let found = c.in_ok-figures.ensures in
-    let room = possible_room s.budget s.starts.now R few own fits refl found in
-    rw (twos_front c.first_schedule.new.starts (drop n.result zeros) s.starts.now _ (jobs R) c.min-jobs.result (omega (arith, c.min-jobs.ensures, room.0, fits, n.ensures)) room.1 c.put_starts.ensures)
-    (OfFile.read r (possible_given s.budget s.starts.now R few own fits refl found))
+    let room = possible_room s.budget s.starts.now _ few own fits refl found in
+    rw (twos_front c.first_schedule.new.starts (drop n.result zeros) s.starts.now _ _ c.min-jobs.result (omega (arith, c.min-jobs.ensures, room.0, fits, n.ensures)) room.1 c.put_starts.ensures)
+    (OfFile.read r (possible_given s.budget s.starts.now _ few own fits refl found))

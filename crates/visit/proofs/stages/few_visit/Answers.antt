@@ -7,4 +7,4 @@ pub whole_visit-requires : goal.whole_visit-requires
 whole_visit-requires c = lends_clear _ _ _ c.requires (zeros 1)
 
 pub returns : goal.returns
-returns c = ran_as _ _ _ _ c.min.ensures _ c.whole_visit.ensures
+returns c = ran_as _ _ _ _ _ c.min.ensures _ c.whole_visit.ensures
