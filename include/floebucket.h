@@ -23,8 +23,9 @@
  * at once, as long as no buffer that is written to is lent to two calls.
  *
  * Stack that a call needs in all, measured as the least with which a thread that makes it still ends (x86-64; it changes a little with the request): floe_search
- * 248 KiB, floe_search_in 152 KiB, floe_least 308 KiB, floe_first 140 KiB, door_possible 112 KiB, the others at most the 16 KiB that every thread has. With 420
- * KiB floe_least has enough for every request: its tables take 257 KiB, and at most 281 calls of 0.5 KiB stand on each other. */
+ * 248 KiB, floe_search_in 152 KiB, floe_first 140 KiB, door_possible 112 KiB, floe_least 308 KiB with the examples and up to 332 with other recorders of 16 jobs,
+ * the rest at most the 16 KiB that every thread has. With 420 KiB floe_least has enough for every request: its tables take 257 KiB, and at most 281 calls of 0.5
+ * KiB stand on each other. */
 #ifndef FLOEBUCKET_H
 #define FLOEBUCKET_H
 
