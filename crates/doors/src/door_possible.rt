@@ -10,7 +10,7 @@ use possible::first_schedule;
 use request::read;
 
 // The start times go to the first bytes; what is lent beyond one start a job stays as it was. (The recorder is looked at where reading left it: moved out of there, it
-// would take its room on the stack twice more, and the search needs the rest.)
+// would be on the stack again, below the whole search.)
 fn possible_bytes(file: &[u8], budget: u32, starts: &mut [u8]) -> Result<Figures, Refusal>
     ensures { OfFile file.now starts.old (PossibleSpelled budget starts.old) (answered result) starts.new }
 {
